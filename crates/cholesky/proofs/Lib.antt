@@ -1,0 +1,2 @@
+-- Laws of the factorisation and of the solves.
+pub mod Turns

@@ -1,0 +1,24 @@
+use Prim.Native.Nat.{_+_}
+use native.Mathlib.Omega.{arith}
+use borrow.Author.Needs.{needs}
+use Rattle.cholesky.specs.Factor.{reduced}
+use Rattle.cholesky.proofs.reduced.Statement.{statement}
+use Rattle.cholesky.proofs.reduced.Tie as tie
+
+get-requires : tie.Need-get-requires
+get-requires c κs = c .before .pre .0 _ (omega arith)
+
+flip-requires : tie.Need-flip-requires
+flip-requires c κs = search needs
+
+deduct-requires : tie.Need-deduct-requires
+deduct-requires c κs =
+    let start = c .before .before .before in
+    (omega arith, (λ k h. start .pre .0 _ (omega arith), λ k h. rw (c .flip .ensures) (omega (arith, start .pre .1 (0 + k) (omega arith)))))
+
+returns : tie.Need-returns
+unfolding reduced
+returns c = rw (c .deduct .ensures, c .before .flip .ensures, c .before .before .get .ensures)
+
+pub reduced-spec : {M : Type 1} → statement M
+reduced-spec = tie.close (tie.spec get-requires flip-requires deduct-requires returns)

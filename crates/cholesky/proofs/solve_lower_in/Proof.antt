@@ -1,0 +1,64 @@
+use Prim.Native.Nat.{ℕ, _≤_, _<_, _-_, _+_}
+use mathlib.Core.Path.{_≡_, refl, ap, _∙_}
+use native.Mathlib.Omega.{arith}
+use native.Mathlib.Numerals.{add-one}
+use borrow.Author.Needs.{needs}
+use lib.ListN.{length}
+use Rattle.cholesky.specs.Solve.{solveLowerIn}
+use Rattle.matrix.specs.Stores.{steps}
+use Rattle.matrix.proofs.Turns.{within}
+use Rattle.cholesky.proofs.solve_lower_in.Statement.{statement}
+use Rattle.cholesky.proofs.solve_lower_in.Tie as tie
+
+abbrev Inv-loop : tie.InvT-loop
+Inv-loop x₀ lv n xv c i₀ x i = (i ≤ n) × (length x ≡ length x₀) × (x ≡ solveLowerIn lv xv c x₀ i)
+
+abbrev μ-loop : tie.MeasureT-loop
+μ-loop x₀ lv n xv c i₀ x i = n - i
+
+loop-holds : tie.Need-loop-holds Inv-loop μ-loop
+unfolding solveLowerIn steps
+loop-holds c = (omega arith, refl, refl)
+
+solved-row-requires : tie.Need-solved-row-requires Inv-loop μ-loop
+solved-row-requires c κs =
+    let start = c .before .before .before .before in
+    let long = c .before .before .loop .inv .1 in
+    let low = c .before .loop-test .taken in (
+      (omega arith, within long (start .pre .1 _ low), within long (start .pre .0 _ _ low low)),
+      (λ k h. within long (start .pre .0 _ _ low (omega arith)), λ k h. within long (start .pre .1 _ (omega arith))),
+    )
+
+put-requires : tie.Need-put-requires Inv-loop μ-loop
+put-requires c κs = within (c .before .before .before .before .loop .inv .1) (c .before .before .before .before .before .before .pre .1 _ (c .before .before .before .loop-test .taken))
+
+add-i : tie.Need-add-i Inv-loop μ-loop
+add-i c = omega arith
+
+loop-less : tie.Need-loop-less Inv-loop μ-loop
+loop-less c = omega arith
+
+loop-again : tie.Need-loop-again Inv-loop μ-loop
+unfolding solveLowerIn steps
+loop-again c = (omega arith, omega (arith, c .before .before .put .kept .0), rw add-one (cc))
+
+same-length : tie.Need-same-length Inv-loop μ-loop
+same-length c = search needs
+
+returns : tie.Need-returns Inv-loop μ-loop
+returns c = let e : c .before .loop .i ≡ c .before .before .before .args .n = omega arith in cc
+
+pub solve-lower-in-spec : {M : Type 1} → statement M
+solve-lower-in-spec =
+    tie.close
+    (tie.spec
+    Inv-loop
+    μ-loop
+    loop-holds
+    solved-row-requires
+    put-requires
+    add-i
+    loop-less
+    loop-again
+    same-length
+    returns)

@@ -1,0 +1,6 @@
+-- Laws that several proofs cite.
+pub mod Turns
+pub mod Entries
+pub mod Agreement
+pub mod Dense
+pub mod Numbers

@@ -1,0 +1,54 @@
+use Prim.Native.Nat.{_-_, _≤_}
+use mathlib.Core.Path.{_≡_, refl}
+use native.Mathlib.Omega.{arith}
+use native.Mathlib.Numerals.{add-one}
+use borrow.Author.Needs.{needs}
+use lib.ListN.{length}
+use Rattle.matrix.specs.Stores.{steps}
+use Rattle.matrix.specs.Triangles.{filledDiagonal}
+use Rattle.matrix.proofs.Turns.{within}
+use Rattle.matrix.proofs.fill_diagonal.Statement.{statement}
+use Rattle.matrix.proofs.fill_diagonal.Tie as tie
+
+abbrev Inv-loop : tie.InvT-loop
+Inv-loop c₀ v n x d₀ c d = (d ≤ n) × (length c ≡ length c₀) × (c ≡ filledDiagonal v x c₀ d)
+
+abbrev μ-loop : tie.MeasureT-loop
+μ-loop c₀ v n x d₀ c d = n - d
+
+loop-holds : tie.Need-loop-holds Inv-loop μ-loop
+unfolding filledDiagonal steps
+loop-holds c = (omega arith, refl, refl)
+
+put-requires : tie.Need-put-requires Inv-loop μ-loop
+put-requires c κs = within (c .before .before .loop .inv .1) (c .before .before .before .before .pre _ (c .before .loop-test .taken))
+
+add-d : tie.Need-add-d Inv-loop μ-loop
+add-d c = omega arith
+
+loop-less : tie.Need-loop-less Inv-loop μ-loop
+loop-less c = omega arith
+
+loop-again : tie.Need-loop-again Inv-loop μ-loop
+unfolding filledDiagonal steps
+loop-again c = (omega arith, omega (arith, c .before .before .put .kept .0), rw add-one (cc))
+
+same-length : tie.Need-same-length Inv-loop μ-loop
+same-length c = search needs
+
+returns : tie.Need-returns Inv-loop μ-loop
+returns c = let e : c .before .loop .d ≡ c .before .before .before .args .n = omega arith in cc
+
+pub fill-diagonal-spec : {M : Type 1} → statement M
+fill-diagonal-spec =
+    tie.close
+    (tie.spec
+    Inv-loop
+    μ-loop
+    loop-holds
+    put-requires
+    add-d
+    loop-less
+    loop-again
+    same-length
+    returns)

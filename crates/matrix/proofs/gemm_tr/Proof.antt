@@ -1,0 +1,20 @@
+-- `matrix::gemm_tr` meets its contract: it is `gemm` of the transposed view. Assumes nothing.
+use native.Mathlib.Omega.{arith}
+use borrow.Author.Needs.{needs}
+use Rattle.matrix.proofs.gemm_tr.Statement.{statement}
+use Rattle.matrix.proofs.gemm_tr.Tie as tie
+
+flip-requires : tie.Need-flip-requires
+flip-requires c κs = search needs
+
+gemm-requires : tie.Need-gemm-requires
+gemm-requires c κs = (c .before .before .before .before .before .pre .0, (λ i j hi hj. rw (c .flip .ensures) (omega (arith, c .before .before .before .before .before .pre .1 .0 j i hj hi)), c .before .before .before .before .before .pre .1 .1))
+
+same-length : tie.Need-same-length
+same-length c = search needs
+
+returns : tie.Need-returns
+returns c = rw (c .before .before .gemm .ensures, c .before .before .before .flip .ensures)
+
+pub gemm-tr-spec : {M : Type 1} → statement M
+gemm-tr-spec = tie.close (tie.spec flip-requires gemm-requires same-length returns)
