@@ -1,2 +1,6 @@
 -- Laws of the factorisation and of the solves.
 pub mod Turns
+pub mod Equations
+pub mod LowerOnly
+pub mod OneList
+pub mod Identity

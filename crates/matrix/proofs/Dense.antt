@@ -57,7 +57,8 @@ quadform-is c cv d w wv a av y work t r h et er =
 
 -- ---- a dense matrix that is written whole does not depend on what stood there
 
-whole-at : (m n k : ℕ) → k < m * n → (0 < m) × (k % m < m) × (k / m < n) × (place (columns m) (k % m) (k / m) ≡ k)
+-- the row and the column of a place
+pub whole-at : (m n k : ℕ) → k < m * n → (0 < m) × (k % m < m) × (k / m < n) × (place (columns m) (k % m) (k / m) ≡ k)
 whole-at zero n k h = absurd (omega arith)
 whole-at (suc m) n k h =
     let d : k / suc m * suc m + k % suc m ≡ k = div-add-mod' k (suc m) in
