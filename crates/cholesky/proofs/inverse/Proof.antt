@@ -1,3 +1,4 @@
+-- `cholesky::inverse` meets its contract. The loop's invariant: the slice is the definition's after the columns passed. Assumes nothing.
 use Prim.Native.Nat.{ℕ, _≤_, _<_, _-_, _+_}
 use mathlib.Core.Path.{_≡_, refl, ap, _∙_}
 use native.Mathlib.Omega.{arith}

@@ -1,3 +1,4 @@
+-- `cholesky::reduced` meets its contract: it is one `deduct` along two rows. Assumes nothing.
 use Prim.Native.Nat.{_+_}
 use native.Mathlib.Omega.{arith}
 use borrow.Author.Needs.{needs}

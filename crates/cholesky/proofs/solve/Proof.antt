@@ -1,3 +1,4 @@
+-- `cholesky::solve` meets its contract: the lower solve, then the upper one at the transposed view. Assumes nothing.
 use native.Mathlib.Omega.{arith}
 use Rattle.cholesky.specs.Solve.{solved}
 use Rattle.matrix.proofs.Turns.{within}

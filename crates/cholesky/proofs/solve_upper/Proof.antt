@@ -1,3 +1,4 @@
+-- `cholesky::solve_upper` meets its contract. The loop's invariant: the slice is the definition's after the rows passed, from the last one up. Assumes nothing.
 use Prim.Native.Nat.{ℕ, _≤_, _<_, _-_, _+_}
 use mathlib.Core.Path.{_≡_, refl, ap, _∙_}
 use native.Mathlib.Omega.{arith}

@@ -1,3 +1,4 @@
+-- `cholesky::solved_row` meets its contract: it is one `deduct` and a division. Assumes nothing.
 use Prim.Native.Nat.{ℕ, _≤_, _<_, _-_, _+_}
 use mathlib.Core.Path.{_≡_, refl, ap, _∙_}
 use native.Mathlib.Omega.{arith}

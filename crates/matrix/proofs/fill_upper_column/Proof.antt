@@ -1,3 +1,4 @@
+-- `matrix::fill_upper_column` meets its contract. The loop's invariant: the slice is the definition's after the rows passed. Assumes nothing.
 use Prim.Native.Nat.{_-_, _≤_}
 use mathlib.Core.Path.{_≡_, refl}
 use native.Mathlib.Omega.{arith}

@@ -1,30 +1,23 @@
+-- `matrix::updated` meets its contract, case by case. Assumes nothing.
 use borrow.Author.Needs.{needs}
 use Rattle.matrix.proofs.updated.Statement.{statement}
 use Rattle.matrix.proofs.updated.Tie as tie
-use Rattle.matrix.proofs.updated.Reads as reads
-use Rattle.matrix.proofs.updated.Lts as lts
 
--- src/lib.rt:74:22
 enum-told : tie.Need-enum-told
 enum-told c = search needs
 
--- src/lib.rt:75:23
 enum-told-2 : tie.Need-enum-told-2
 enum-told-2 c = search needs
 
--- src/lib.rt:76:22
 enum-told-3 : tie.Need-enum-told-3
 enum-told-3 c = search needs
 
--- src/lib.rt:70:1
 returns : tie.Need-returns
 returns c = cc
 
--- src/lib.rt:70:1
 returns-2 : tie.Need-returns-2
 returns-2 c = cc
 
--- src/lib.rt:70:1
 returns-3 : tie.Need-returns-3
 returns-3 c = search needs
 

@@ -1,3 +1,4 @@
+-- `vectors::factorisation` lends slices that hold the matrices it names. Assumes nothing.
 use native.Mathlib.Nat.{mul-le-mul}
 use Rattle.matrix.proofs.Dense.{dense}
 use native.Mathlib.Omega.{arith}

@@ -1,3 +1,4 @@
+-- `vectors::factorisations` ends, since every record has a word of its own. Assumes nothing.
 use Prim.Native.Nat.{_≤_, _-_}
 use native.Mathlib.Nat.{mul-le-mul}
 use native.Mathlib.Omega.{arith}

@@ -1,3 +1,4 @@
+-- `vectors::float` makes a float of no NaN pattern. Assumes nothing.
 use Prim.Native.Nat.{_*_, _%_, _^_}
 use mathlib.Core.Path.{sym, subst}
 use mathlib.Core.Bool.{Bool, not}

@@ -1,3 +1,4 @@
+-- `vectors::numbers` stays in bounds and ends. Assumes nothing.
 use Prim.Native.Nat.{_≤_, _-_}
 use mathlib.Core.Path.{_≡_, refl}
 use lib.ListN.{length, length-set}

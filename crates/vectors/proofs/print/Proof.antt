@@ -1,3 +1,4 @@
+-- `vectors::print` takes the bits of no NaN. Assumes nothing.
 use Rattle.root.proofs.Values.{no-nan}
 use borrow.Author.Needs.{needs}
 use Rattle.vectors.proofs.print.Statement.{statement}

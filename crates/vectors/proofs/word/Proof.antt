@@ -1,3 +1,4 @@
+-- `vectors::word` stays in bounds and ends. Assumes nothing.
 use Prim.Native.Nat.{_≤_, _+_, _-_}
 use lib.ListN.{length}
 use native.Mathlib.Omega.{arith}
