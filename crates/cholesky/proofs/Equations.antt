@@ -9,8 +9,7 @@ use lib.ListN.{set, getD, length, length-set}
 use lib.Seq.{getD-set-same, getD-set-other}
 use lib.Ieee.{Float, nan, binary64, mul, div}
 use Rattle.matrix.specs.Views.{place, entry, Inside, Apart, flip}
-use Rattle.matrix.specs.Sums.{terms, deduct, deductOf}
-use Rattle.matrix.specs.Stores.{steps}
+use Rattle.matrix.specs.Sums.{terms, deductOf}
 use Rattle.cholesky.specs.Factor.{pivotOf, Left, whole, stuck, below, rooted, column, factor, reduced}
 use Rattle.matrix.specs.declared.View.{View}
 use Rattle.root.specs.declared.answer.Root.{Root}

@@ -3,7 +3,7 @@ use Prim.Native.Nat.{ℕ, zero, suc, _+_, _-_, _*_, _/_, _%_, _≤_, _<_}
 use mathlib.Core.Path.{_≡_, refl, ap, ap₂, _∙_, sym}
 use mathlib.Core.Bool.{Bool, true, false, cond}
 use mathlib.Core.List.{List, [], _∷_}
-use mathlib.Core.Logic.{_⊎_, inl, inr, ⊎-elim}
+use mathlib.Core.Logic.{_⊎_, inl, inr}
 use native.Mathlib.Decide.{ℕ-discrete}
 use native.Mathlib.Omega.{arith}
 use lib.Dec.{eqb}
@@ -13,15 +13,15 @@ use lib.Ieee.{Float, nan, binary64, sub, mul, div}
 use borrow.Author.Tests.{eq-eqb, ne-eqb}
 use Rattle.root.specs.Root.{rootOf}
 use Rattle.root.specs.declared.answer.Root.the-variants.{Number}
-use Rattle.matrix.specs.Views.{place, entry, Inside, Apart, flip, columns}
+use Rattle.matrix.specs.Views.{place, entry, flip, columns}
 use Rattle.matrix.specs.Sums.{plus-zero, one, terms, deduct, deductOf}
 use Rattle.matrix.specs.Stores.{steps, sweep, block, blockColumn}
 use Rattle.matrix.specs.Triangles.{identityOf}
 use Rattle.matrix.specs.Finite.{isFinite, allFinite}
 use Rattle.matrix.specs.declared.View.{View}
-use Rattle.matrix.proofs.Entries.{steps-length, steps-at, apart, block-length, block-at}
+use Rattle.matrix.proofs.Entries.{steps-at, apart, block-length, block-at}
 use Rattle.matrix.proofs.Dense.{dense, whole-at, fills}
-use Rattle.cholesky.specs.Factor.{pivotOf, Left, whole, below, rooted, column, factor, reduced}
+use Rattle.cholesky.specs.Factor.{pivotOf, whole, below, rooted, column, factor, reduced}
 use Rattle.cholesky.specs.Solve.{solvedRow, solveLower, solveUpper, solved, unitColumn, inverted}
 
 -- ---- arithmetic on 0.0 and 1.0 is exact
@@ -67,7 +67,7 @@ idle at f s (suc n) h = rw (idle at f s n (λ k l. h k (omega arith)), h n (omeg
 
 -- ---- a list that holds an identity at a view
 
-unit : ℕ → ℕ → Float
+pub unit : ℕ → ℕ → Float
 unit i j = cond (eqb i j) one plus-zero
 
 unit-bit : (i j : ℕ) → Bit (unit i j)
@@ -78,15 +78,15 @@ unit-bit i j = go (eqb i j)
     go true = inr refl
     go false = inl refl
 
-unit-same : (i : ℕ) → unit i i ≡ one
+pub unit-same : (i : ℕ) → unit i i ≡ one
 unfolding unit
 unit-same i = rw (eq-eqb i i refl)
 
-unit-other : (i j : ℕ) → (i ≡ j → ⊥) → unit i j ≡ plus-zero
+pub unit-other : (i j : ℕ) → (i ≡ j → ⊥) → unit i j ≡ plus-zero
 unfolding unit
 unit-other i j h = rw (ne-eqb i j h)
 
-pub Identity : View → ℕ → List Float → Type 0
+unfoldable pub Identity : View → ℕ → List Float → Type 0
 Identity v n s = (i j : ℕ) → i < n → j < n → entry s v i j ≡ unit i j
 
 module _ (v : View) (n : ℕ) (s : List Float) (I : Identity v n s) where
@@ -133,7 +133,7 @@ unit-turned i j = go (ℕ-discrete i j)
     go (yes e) = rw e
     go (no h) = unit-other i j h ∙ sym (unit-other j i (λ e. h (sym e)))
 
-turned : (v : View) (n : ℕ) (s : List Float) → Identity v n s → Identity (flip v) n s
+pub turned : (v : View) (n : ℕ) (s : List Float) → Identity v n s → Identity (flip v) n s
 unfolding Identity
 turned v n s I i j hi hj = flipped v n s I i j hi hj ∙ unit-turned j i
 

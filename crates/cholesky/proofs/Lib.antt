@@ -4,3 +4,4 @@ pub mod Equations
 pub mod LowerOnly
 pub mod OneList
 pub mod Identity
+pub mod FiniteSolve

@@ -10,7 +10,7 @@ use lib.Ieee.{Float, nan, binary64, mul, div}
 use Rattle.root.specs.declared.answer.Root.{Root}
 use Rattle.root.specs.declared.answer.Root.the-variants.{Number, Refused}
 use Rattle.matrix.specs.Views.{place, entry, Inside, flip}
-use Rattle.matrix.specs.Sums.{terms, deduct, deductOf}
+use Rattle.matrix.specs.Sums.{terms, deductOf}
 use Rattle.matrix.specs.Stores.{steps}
 use Rattle.matrix.specs.declared.View.{View}
 use Rattle.matrix.proofs.Agreement.{deduct-same}

@@ -1,12 +1,11 @@
 -- A solve in one list is the solve with a factor of its own, where the factor and the column are apart. Assumes nothing.
 use Prim.Native.Nat.{ℕ, zero, suc, _+_, _≤_, _<_}
-use mathlib.Core.Path.{_≡_, refl, ap, ap₂, _∙_}
+use mathlib.Core.Path.{_≡_, refl, ap, ap₂}
 use mathlib.Core.List.{List}
 use native.Mathlib.Omega.{arith}
-use lib.ListN.{set}
 use lib.Ieee.{Float, binary64, mul, div}
 use Rattle.matrix.specs.Views.{place, entry}
-use Rattle.matrix.specs.Sums.{terms, deduct, deductOf}
+use Rattle.matrix.specs.Sums.{terms, deductOf}
 use Rattle.matrix.specs.Stores.{steps}
 use Rattle.cholesky.specs.Solve.{solvedRow, solveLower, solveLowerIn}
 use Rattle.matrix.specs.declared.View.{View}
@@ -29,10 +28,10 @@ row-frame l m lv i x xv c h =
     (λ k p. ap (λ (y : Float). mul binary64 y (entry x xv (0 + k) c)) (h (0 + k) (omega arith))))
     (h i (omega arith))
 
-pub forward-apart : (lv xv : View) (c : ℕ) (x : List Float) (n : ℕ) → ((i k j : ℕ) → i < n → k ≤ i → j < n → place xv j c ≡ place lv i k → ⊥)
+pub solve-apart : (lv xv : View) (c : ℕ) (x : List Float) (n : ℕ) → ((i k j : ℕ) → i < n → k ≤ i → j < n → place xv j c ≡ place lv i k → ⊥)
     → solveLowerIn lv xv c x n ≡ solveLower x lv xv c x n
 unfolding solveLowerIn solveLower
-forward-apart lv xv c x n h =
+solve-apart lv xv c x n h =
     steps-frame (λ i. place xv i c) (λ i t. solvedRow t lv i t xv c 0 i) (λ i t. solvedRow x lv i t xv c 0 i) x n
     (λ i p. row-frame (steps (λ i. place xv i c) (λ i t. solvedRow x lv i t xv c 0 i) x i) x lv i _ xv c
     (λ k q. steps-other (λ i. place xv i c) (λ i t. solvedRow x lv i t xv c 0 i) x (place lv i k) i (λ j r. h i k j p q (omega arith))))

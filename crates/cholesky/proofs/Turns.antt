@@ -12,7 +12,7 @@ use Rattle.root.specs.declared.answer.Root.the-variants.{Number, Refused}
 use Rattle.matrix.specs.Views.{place, entry}
 use Rattle.matrix.specs.Stores.{steps}
 use Rattle.matrix.specs.declared.View.{View}
-use Rattle.cholesky.specs.Factor.{pivotOf, Left, whole, stuck, below, rooted, column, factor, reduced, answerOf, listOf}
+use Rattle.cholesky.specs.Factor.{pivotOf, whole, stuck, below, rooted, column, factor, reduced, answerOf, listOf}
 use Rattle.cholesky.specs.declared.Factored.{Factored}
 use Rattle.cholesky.specs.declared.Factored.the-variants.{Done, Stopped}
 

@@ -5,7 +5,6 @@
 use cholesky::Factored;
 use matrix::View;
 use root::answer::Root;
-ghost use mathlib.Core.Path.{_≡_};
 ghost use Prim.Native.Nat.{_≤_, _<_, _*_};
 ghost use lib.ListN.{length};
 

@@ -7,8 +7,8 @@ use borrow.Author.Needs.{needs}
 use mathlib.Core.Logic.{⊎-elim}
 use lib.ListN.{length}
 use Rattle.matrix.specs.Views.{place}
-use Rattle.cholesky.specs.Factor.{Left, whole, stuck, column, factor, rooted}
-use Rattle.cholesky.specs.declared.Factored.the-variants.{Done, Stopped}
+use Rattle.cholesky.specs.Factor.{whole, column, factor}
+use Rattle.cholesky.specs.declared.Factored.the-variants.{Done}
 use Rattle.cholesky.proofs.Turns.{first-turn, next-turn, no-turn, column-done, all-done}
 use Rattle.cholesky.proofs.cholesky.Statement.{statement}
 use Rattle.cholesky.proofs.cholesky.Tie as tie

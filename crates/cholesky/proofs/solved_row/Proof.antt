@@ -1,10 +1,6 @@
 -- `cholesky::solved_row` meets its contract: it is one `deduct` and a division. Assumes nothing.
-use Prim.Native.Nat.{ℕ, _≤_, _<_, _-_, _+_}
-use mathlib.Core.Path.{_≡_, refl, ap, _∙_}
-use native.Mathlib.Omega.{arith}
-use native.Mathlib.Numerals.{add-one}
+use Prim.Native.Nat.{_-_}
 use borrow.Author.Needs.{needs}
-use lib.ListN.{length}
 use Rattle.cholesky.specs.Solve.{solvedRow}
 use Rattle.cholesky.proofs.solved_row.Statement.{statement}
 use Rattle.cholesky.proofs.solved_row.Tie as tie

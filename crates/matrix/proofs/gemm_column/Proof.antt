@@ -4,7 +4,7 @@ use mathlib.Core.Path.{_≡_, refl}
 use native.Mathlib.Omega.{arith}
 use native.Mathlib.Numerals.{add-one}
 use borrow.Author.Needs.{needs}
-use lib.ListN.{length, length-set}
+use lib.ListN.{length}
 use Rattle.matrix.specs.Views.{place}
 use Rattle.matrix.specs.Products.{productEntry}
 use Rattle.matrix.specs.Stores.{blockColumn, steps}
