@@ -1,0 +1,20 @@
+-- Laws of masks and arrays, from single digits up to the whole plan.
+pub mod Digits
+pub mod Sets
+pub mod Prefixes
+pub mod Walking
+pub mod WalkTurns
+pub mod Membership
+pub mod Sending
+pub mod Stepping
+pub mod Begins
+pub mod Unions
+pub mod Listings
+pub mod Stack
+pub mod Alive
+pub mod Uncovered
+pub mod Gathering
+pub mod Gatherable
+pub mod KeyByKey
+pub mod FactorMasks
+pub mod Rising

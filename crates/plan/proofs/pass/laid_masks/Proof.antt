@@ -1,0 +1,82 @@
+-- Before each turn the first i masks are laid, and the rest are zeros.
+-- Assumes nothing.
+use borrow.Author.Needs.{needs}
+use mathlib.Core.Path.{_≡_, refl, sym, ap, _∙_}
+use mathlib.Core.List.{List, _++_}
+use Prim.Native.Nat.{ℕ, suc, _+_, _<_, _≤_, _-_}
+use lib.ListN.{length, getD, set, take, replicate}
+use lib.Seq.{take-all, take-suc, set-at, append-snoc, length-take-le}
+use native.Mathlib.Numerals.{add-one}
+use native.Mathlib.Omega.{arith}
+use Rattle.plan.specs.Pass.{laid}
+use Rattle.plan.proofs.pass.laid_masks.Statement.{statement}
+use Rattle.plan.proofs.pass.laid_masks.Tie as tie
+
+-- the first i of the keys, and 0 in the other places
+abbrev part : List ℕ → ℕ → List ℕ
+part keys i = take i keys ++ replicate (96 - i) 0
+
+turn : (keys : List ℕ) (i : ℕ) → i < length keys → i < 96 → set (part keys i) i (getD keys i 0) ≡ part keys (i + 1)
+turn keys i h l =
+    let e : 96 - i ≡ suc (96 - (i + 1)) = omega arith in
+    ap (λ (m : ℕ). set (take i keys ++ replicate m 0) i (getD keys i 0)) e
+    ∙ set-at (take i keys) 0 (replicate (96 - (i + 1)) 0) (getD keys i 0) i (length-take-le i keys (omega arith))
+    ∙ sym (append-snoc (take i keys) (getD keys i 0) (replicate (96 - (i + 1)) 0))
+    ∙ ap (λ (t : List ℕ). t ++ replicate (96 - (i + 1)) 0) (sym (take-suc keys i 0 h) ∙ ap (λ (m : ℕ). take m keys) (sym (add-one i)))
+
+abbrev Inv-loop : tie.InvT-loop
+Inv-loop keys r₀ i₀ r i = (i ≤ 64) × (r ≡ part keys i) × (length keys ≡ 64)
+
+abbrev μ-loop : tie.MeasureT-loop
+μ-loop keys r₀ i₀ r i = 64 - i
+
+loop-holds : tie.Need-loop-holds Inv-loop μ-loop
+loop-holds c = (search needs, refl, search needs)
+
+mul-r : tie.Need-mul-r Inv-loop μ-loop
+mul-r c = record { fits = omega arith }
+
+array-read-r : tie.Need-array-read-r Inv-loop μ-loop
+array-read-r c = omega arith
+
+mul-r-2 : tie.Need-mul-r-2 Inv-loop μ-loop
+mul-r-2 c = record { fits = omega arith }
+
+array-write-r : tie.Need-array-write-r Inv-loop μ-loop
+array-write-r c = omega arith
+
+add-i : tie.Need-add-i Inv-loop μ-loop
+add-i c = record { fits = omega arith }
+
+loop-less : tie.Need-loop-less Inv-loop μ-loop
+loop-less c = omega arith
+
+loop-again : tie.Need-loop-again Inv-loop μ-loop
+loop-again c =
+    let loop = c .before .loop in
+    let args = c .before .before .args in
+    (omega arith, ap (λ (l : List ℕ). set l (loop .i) (getD (args .t1) (loop .i) 0)) (loop .inv .1) ∙ turn (args .t1) (loop .i) (omega arith) (omega arith), loop .inv .2)
+
+returns : tie.Need-returns Inv-loop μ-loop
+unfolding laid
+returns c =
+    let loop = c .before .loop in
+    let args = c .before .before .args in
+    let e : loop .i ≡ 64 = omega arith in
+    loop .inv .1 ∙ ap (part (args .t1)) e ∙ ap (λ (l : List ℕ). l ++ replicate 32 0) (take-all 64 (args .t1) (omega arith))
+
+pub laid-masks-spec : {M : Type 1} → statement M
+laid-masks-spec =
+    tie.close
+    (tie.spec
+    Inv-loop
+    μ-loop
+    loop-holds
+    mul-r
+    array-read-r
+    mul-r-2
+    array-write-r
+    add-i
+    loop-less
+    loop-again
+    returns)

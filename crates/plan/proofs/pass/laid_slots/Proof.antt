@@ -1,0 +1,70 @@
+-- Before each turn the first i places are those of the live originals.
+-- Assumes nothing.
+use borrow.Author.Needs.{needs}
+use mathlib.Core.Path.{_≡_, refl, sym, ap, subst, _∙_}
+use mathlib.Core.List.{List, [], _∷_, _++_}
+use Prim.Native.Nat.{ℕ, _+_, _<_, _≤_, _-_}
+use lib.ListN.{length, getD, set, take, length-set}
+use lib.Seq.{take-suc, take-suc-set}
+use native.Mathlib.Numerals.{add-one}
+use native.Mathlib.Omega.{arith}
+use Rattle.plan.proofs.pass.laid_slots.Statement.{statement}
+use Rattle.plan.proofs.pass.laid_slots.Tie as tie
+
+turn : (r live : List ℕ) (i : ℕ) → i < length r → i < length live → take i r ≡ take i live → take (i + 1) (set r i (getD live i 0)) ≡ take (i + 1) live
+turn r live i h l e =
+    ap (λ (m : ℕ). take m (set r i (getD live i 0))) (add-one i) ∙ take-suc-set r i (getD live i 0) h ∙ ap (λ (t : List ℕ). t ++ (getD live i 0 ∷ [])) e
+    ∙ sym (take-suc live i 0 l) ∙ ap (λ (m : ℕ). take m live) (sym (add-one i))
+
+abbrev Inv-loop : tie.InvT-loop
+Inv-loop count live r₀ i₀ r i = (i ≤ count) × (length r ≡ 96) × (take i r ≡ take i live) × (length live ≡ 64)
+
+abbrev μ-loop : tie.MeasureT-loop
+μ-loop count live r₀ i₀ r i = count - i
+
+loop-holds : tie.Need-loop-holds Inv-loop μ-loop
+loop-holds c = (search needs, refl, refl, search needs)
+
+array-read-r : tie.Need-array-read-r Inv-loop μ-loop
+array-read-r c = omega arith
+
+array-write-r : tie.Need-array-write-r Inv-loop μ-loop
+array-write-r c = omega arith
+
+add-i : tie.Need-add-i Inv-loop μ-loop
+add-i c = record { fits = omega arith }
+
+loop-less : tie.Need-loop-less Inv-loop μ-loop
+loop-less c = omega arith
+
+loop-again : tie.Need-loop-again Inv-loop μ-loop
+loop-again c =
+    let loop = c .before .loop in
+    let args = c .before .before .args in (
+      omega arith,
+      length-set (loop .r) (loop .i) (getD (args .t1) (loop .i) 0) ∙ loop .inv .1,
+      turn (loop .r) (args .t1) (loop .i) (omega arith) (omega arith)
+          (loop .inv .2),
+      loop .inv .3,
+    )
+
+returns : tie.Need-returns Inv-loop μ-loop
+returns c =
+    let loop = c .before .loop in
+    let args = c .before .before .args in
+    let e : loop .i ≡ args .count = omega arith in
+    record { long = loop .inv .1; first = subst (λ (n : ℕ). take n (loop .r) ≡ take n (args .t1)) e (loop .inv .2) }
+
+pub laid-slots-spec : {M : Type 1} → statement M
+laid-slots-spec =
+    tie.close
+    (tie.spec
+    Inv-loop
+    μ-loop
+    loop-holds
+    array-read-r
+    array-write-r
+    add-i
+    loop-less
+    loop-again
+    returns)

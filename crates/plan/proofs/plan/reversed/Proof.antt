@@ -1,0 +1,70 @@
+-- Before each turn the first i places are the last i of the order, reversed (`KeyByKey`).
+-- Assumes nothing.
+use borrow.Author.Needs.{needs}
+use mathlib.Core.Path.{_≡_, refl, _∙_}
+use Prim.Native.Nat.{_≤_, _-_}
+use lib.ListN.{length, getD, length-set, replicate}
+use native.Mathlib.Omega.{arith}
+use Rattle.plan.proofs.KeyByKey.{Back, back-none, back-more, back-done}
+use Rattle.plan.proofs.plan.reversed.Statement.{statement}
+use Rattle.plan.proofs.plan.reversed.Tie as tie
+
+abbrev Inv-loop : tie.InvT-loop
+Inv-loop n order r₀ i₀ r i = (i ≤ n) × (length r ≡ 32) × (length order ≡ 32) × Back order n r i
+
+abbrev μ-loop : tie.MeasureT-loop
+μ-loop n order r₀ i₀ r i = n - i
+
+loop-holds : tie.Need-loop-holds Inv-loop μ-loop
+loop-holds c = (omega arith, refl, search needs, back-none (c .args .t1) (replicate 32 0) (c .args .n))
+
+sub-r : tie.Need-sub-r Inv-loop μ-loop
+sub-r c = omega arith
+
+sub-r-2 : tie.Need-sub-r-2 Inv-loop μ-loop
+sub-r-2 c = omega arith
+
+array-read-r : tie.Need-array-read-r Inv-loop μ-loop
+array-read-r c = omega arith
+
+array-write-r : tie.Need-array-write-r Inv-loop μ-loop
+array-write-r c = omega arith
+
+add-i : tie.Need-add-i Inv-loop μ-loop
+add-i c = record { fits = omega arith }
+
+loop-less : tie.Need-loop-less Inv-loop μ-loop
+loop-less c = omega arith
+
+loop-again : tie.Need-loop-again Inv-loop μ-loop
+loop-again c =
+    let loop = c .before .loop in
+    let args = c .before .before .args in (
+      omega arith,
+      length-set (loop .r) (loop .i) (getD (args .t1) (args .n - 1 - loop .i) 0) ∙ loop .inv .1,
+      loop .inv .2,
+      back-more (args .t1) (loop .r) (args .n)
+          (loop .i) (omega arith) (c .loop-test .taken) (omega arith) (loop .inv .3),
+    )
+
+returns : tie.Need-returns Inv-loop μ-loop
+returns c =
+    let args = c .before .before .args in
+    let loop = c .before .loop in
+    back-done (args .t1) (loop .r) (args .n) (loop .i) (omega arith) (loop .inv .3)
+
+pub reversed-spec : {M : Type 1} → statement M
+reversed-spec =
+    tie.close
+    (tie.spec
+    Inv-loop
+    μ-loop
+    loop-holds
+    sub-r
+    sub-r-2
+    array-read-r
+    array-write-r
+    add-i
+    loop-less
+    loop-again
+    returns)

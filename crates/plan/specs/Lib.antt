@@ -1,0 +1,6 @@
+-- What the arrays of the code mean, in the terms of the crate `schedule`.
+pub mod Mask
+pub mod Pass
+pub mod Gather
+pub mod Plan
+pub mod Factors

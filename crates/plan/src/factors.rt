@@ -1,0 +1,51 @@
+// From a table of the factors' keys to key sets.
+use crate::masks::single;
+ghost use mathlib.Core.Path.{_≡_};
+ghost use Prim.Native.Nat.{_≤_};
+ghost use Rattle.plan.specs.Mask.{Set};
+ghost use Rattle.plan.specs.Factors as spec;
+
+// The keys that a factor touches: the first `touched` of keys.
+pub struct FactorKeys {
+    pub touched: u8,
+    pub keys: [u8; 8],
+}
+
+// A byte as an index.
+fn wide(x: u8) -> usize
+    ensures { λ r. ⌜ r ≡ x ⌝ }
+{
+    x as usize
+}
+
+// The keys of one factor as a set.
+pub fn mask_of(f: FactorKeys) -> u32
+    requires { ⌜ spec.Fits f ⌝ }
+    ensures { λ r. ⌜ Set (spec.keysOf f) r ⌝ }
+{
+    let n = wide(f.touched);
+    let mut r = 0u32;
+    let mut i = 0;
+    while i < n {
+        let k = wide(f.keys[i]);
+        r |= single(k);
+        i += 1;
+    }
+    r
+}
+
+// The sets of all factors: of the first `count` their keys, of the others none.
+pub fn masks_of(factors: [FactorKeys; 64], count: usize) -> [u32; 64]
+    requires { ⌜ count ≤ 64 ⌝ }
+    requires { ⌜ spec.AllFit factors count ⌝ }
+    ensures { λ r. ⌜ spec.Masked factors count r ⌝ }
+{
+    let mut r = [0u32; 64];
+    let mut i = 0;
+    while i < count {
+        let f = factors[i];
+        r[i] = mask_of(f);
+        i += 1;
+    }
+    r
+}

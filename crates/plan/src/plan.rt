@@ -1,0 +1,122 @@
+// The plan of a graph: both passes along an order of the keys, and what each key gathers.
+use crate::factors::FactorKeys;
+use crate::factors::masks_of;
+use crate::gather::Gathered;
+use crate::gather::gather;
+use crate::pass::Pass;
+use crate::pass::full_pass;
+ghost use mathlib.Core.Path.{_≡_};
+ghost use mathlib.Core.List.{reverse};
+ghost use Prim.Native.Nat.{_≤_};
+ghost use lib.ListN.{take};
+ghost use Rattle.schedule.specs.Count.{from};
+ghost use Rattle.plan.specs.Plan as spec;
+
+// The messages of both passes, and at[k] what the key k gathers.
+pub struct Plan {
+    pub forward: Pass,
+    pub backward: Pass,
+    pub at: [Gathered; 32],
+}
+
+// The order of the backward pass.
+fn reversed(order: [u8; 32], n: usize) -> [u8; 32]
+    requires { ⌜ n ≤ 32 ⌝ }
+    ensures { λ r. ⌜ take n r ≡ reverse (take n order) ⌝ }
+{
+    let mut r = [0u8; 32];
+    let mut i = 0;
+    while i < n {
+        r[i] = order[n - 1 - i];
+        i += 1;
+    }
+    r
+}
+
+// The place of a key in the order, which is its step in the forward pass.
+fn place(order: [u8; 32], n: usize, k: usize) -> usize
+    requires { ⌜ n ≤ 32 ⌝ }
+    ensures { λ r. ⌜ r ≡ spec.place k (take n order) ⌝ }
+{
+    let mut i = 0;
+    while i < n {
+        let x = order[i] as usize;
+        if x == k {
+            return i;
+        }
+        i += 1;
+    }
+    i
+}
+
+// The plan for n keys along an order, over the first `count` of the live originals, from the key sets of the originals. What is
+// required says only that keys are below n, that no live original stands twice, and that the order is one of the n keys.
+pub fn make_plan(keys: [u32; 64], live: [u8; 64], count: usize, order: [u8; 32], n: usize) -> Plan
+    requires { ⌜ spec.Sound keys live count order n ⌝ }
+    ensures { λ r. ⌜ spec.Plans keys (take count live) (take n order) n r ⌝ }
+    ensures { λ r. ⌜ spec.Bounded n r ⌝ }
+{
+    let fw = full_pass(keys, live, count, order, n);
+    let back = reversed(order, n);
+    let bw = full_pass(keys, live, count, back, n);
+    let none = [0u8; 64];
+    let blank = Gathered {
+        forward: 0,
+        backward: 0,
+        items: none,
+        covered: 0,
+        count: 0,
+        last: 0,
+    };
+    let mut at = [blank; 32];
+    let mut k = 0;
+    while k < n {
+        let r = place(order, n, k);
+        let s = n - 1 - r;
+        at[k] = gather(fw, bw, keys, live, count, r, s, k);
+        k += 1;
+    }
+    Plan {
+        forward: fw,
+        backward: bw,
+        at: at,
+    }
+}
+
+// All keys, rising: the order where none is named.
+fn rising_keys() -> [u8; 32]
+    ensures { λ r. ⌜ r ≡ from 0 32 ⌝ }
+{
+    let mut r = [0u8; 32];
+    let mut i = 0;
+    while i < 32 {
+        r[i] = i as u8;
+        i += 1;
+    }
+    r
+}
+
+// All originals, rising: the first `count` of them are live where none is superseded.
+fn rising_originals() -> [u8; 64]
+    ensures { λ r. ⌜ r ≡ from 0 64 ⌝ }
+{
+    let mut r = [0u8; 64];
+    let mut i = 0;
+    while i < 64 {
+        r[i] = i as u8;
+        i += 1;
+    }
+    r
+}
+
+// The plan of the first `count` factors over n keys, with keys and originals rising: the plan of document 01.
+pub fn rising_plan(factors: [FactorKeys; 64], count: usize, n: usize) -> Plan
+    requires { ⌜ spec.Registered factors count n ⌝ }
+    ensures { λ r. ⌜ spec.planOf n r ≡ spec.risingPlan factors count n ⌝ }
+    ensures { λ r. ⌜ spec.Bounded n r ⌝ }
+{
+    let keys = masks_of(factors, count);
+    let live = rising_originals();
+    let order = rising_keys();
+    make_plan(keys, live, count, order, n)
+}

@@ -1,0 +1,2 @@
+-- Laws of laying text.
+pub mod Laying

@@ -1,0 +1,2 @@
+-- What laying text into a buffer does.
+pub mod Text

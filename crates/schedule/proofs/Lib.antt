@@ -1,0 +1,9 @@
+-- Laws of the schedule, from counts up to demand 3.
+pub mod Counts
+pub mod Sums
+pub mod Walks
+pub mod Steps
+pub mod Trees
+pub mod Runs
+pub mod Sides
+pub mod Demand3
