@@ -1,0 +1,9 @@
+-- Laws that several proofs cite.
+pub mod Counting
+pub mod Laying
+pub mod Blocks
+pub mod Weighing
+pub mod Storing
+pub mod Fitting
+pub mod Witness
+pub mod KeyOrder

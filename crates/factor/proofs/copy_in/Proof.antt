@@ -1,0 +1,68 @@
+-- `factor::copy_in` meets its contract. The loop's invariant: the numbers passed are pasted. Assumes nothing.
+use Prim.Native.Nat.{_+_, _-_, _≤_}
+use mathlib.Core.Path.{_≡_, refl}
+use native.Mathlib.Omega.{arith}
+use borrow.Author.Needs.{needs, scaled-fits}
+use lib.ListN.{length, length-set}
+use lib.Seq.{paste, paste-zero}
+use denote.Ref.{now}
+use Rattle.factor.proofs.Laying.{copy-done, copy-more}
+use Rattle.factor.proofs.copy_in.Statement.{statement}
+use Rattle.factor.proofs.copy_in.Tie as tie
+
+abbrev Inv-loop : tie.InvT-loop
+Inv-loop dst₀ at src j₀ j-end dst j = (j-end ≡ length src) × (j ≤ j-end) × (dst ≡ paste dst₀ at src j) × (length dst ≡ length dst₀)
+
+abbrev μ-loop : tie.MeasureT-loop
+μ-loop dst₀ at src j₀ j-end dst j = j-end - j
+
+loop-holds : tie.Need-loop-holds Inv-loop μ-loop
+loop-holds c = (refl, search needs, paste-zero (c .args .dst .now) (c .args .at) (c .args .src .now), refl)
+
+mul-dst : tie.Need-mul-dst Inv-loop μ-loop
+mul-dst c = search needs
+
+shared-slice-read-dst : tie.Need-shared-slice-read-dst Inv-loop μ-loop
+shared-slice-read-dst c = search needs
+
+add-dst : tie.Need-add-dst Inv-loop μ-loop
+add-dst c = search needs
+
+mul-dst-2 : tie.Need-mul-dst-2 Inv-loop μ-loop
+mul-dst-2 c = scaled-fits (c .before .before .before .args .at + c .before .before .loop .j) (length (c .before .before .before .args .dst .now)) 8 (omega arith) (c .before .before .before .good .0 .1)
+
+slice-write-dst : tie.Need-slice-write-dst Inv-loop μ-loop
+slice-write-dst c = search needs
+
+add-j : tie.Need-add-j Inv-loop μ-loop
+add-j c = search needs
+
+loop-less : tie.Need-loop-less Inv-loop μ-loop
+loop-less c = search needs
+
+loop-again : tie.Need-loop-again Inv-loop μ-loop
+loop-again c = (c .before .before .loop .inv .0, omega arith, copy-more (c .before .before .before .args .dst .now) (c .before .before .loop .dst) (c .before .before .before .args .at) (c .before .before .before .args .src .now) (c .before .before .loop .j) _ (c .before .before .loop .inv .2) (omega arith) (omega arith), simp length-set (c .before .before .loop .inv .3))
+
+same-length : tie.Need-same-length Inv-loop μ-loop
+same-length c = c .before .loop .inv .3
+
+returns : tie.Need-returns Inv-loop μ-loop
+returns c = copy-done (c .before .before .args .dst .now) (c .before .loop .dst) (c .before .before .args .at) (c .before .before .args .src .now) (c .before .loop .j) (c .before .loop .inv .2) (omega arith)
+
+pub copy-in-spec : {M : Type 1} → statement M
+copy-in-spec =
+    tie.close
+    (tie.spec
+    Inv-loop
+    μ-loop
+    loop-holds
+    mul-dst
+    shared-slice-read-dst
+    add-dst
+    mul-dst-2
+    slice-write-dst
+    add-j
+    loop-less
+    loop-again
+    same-length
+    returns)

@@ -1,0 +1,51 @@
+-- `factor::given_finite` meets its contract, by its ways out. Assumes nothing.
+use mathlib.Core.Bool.{and-true, false, true}
+use mathlib.Core.List.{List}
+use mathlib.Core.Path.{_∙_, _≡_}
+use borrow.Author.Needs.{needs}
+use borrow.Author.Tests.{not-false, not-true}
+use lib.Ieee.{Float}
+use denote.Ref.{now}
+use Rattle.factor.proofs.Counting.{tells}
+use Rattle.factor.specs.Counting.{every}
+use Rattle.factor.specs.Factor.{givenFinite}
+use Rattle.matrix.specs.Finite.{allFinite}
+use Rattle.factor.proofs.given_finite.Statement.{statement}
+use Rattle.factor.proofs.given_finite.Tie as tie
+
+-- the ways out, over plain values
+module _ (a mean variance : List Float) where
+  not-a : allFinite a ≡ false → false ≡ givenFinite a mean variance
+  unfolding givenFinite every
+  not-a p = rw p
+
+  not-mean : allFinite a ≡ true → allFinite mean ≡ false → false ≡ givenFinite a mean variance
+  unfolding givenFinite every
+  not-mean p q = rw (p, q)
+
+  left : allFinite a ≡ true → allFinite mean ≡ true → allFinite variance ≡ givenFinite a mean variance
+  unfolding givenFinite every
+  left p q = simp (p, q, and-true)
+
+finite-requires : tie.Need-finite-requires
+finite-requires c κs = search needs
+
+returns : tie.Need-returns
+returns c = not-a (c .before .before .before .before .before .args .a .now) (c .before .before .before .before .before .args .mean .now) (c .before .before .before .before .before .args .variance .now) (tells (c .before .finite .ensures) (not-true _ (c .if1 .taken)))
+
+finite-requires-2 : tie.Need-finite-requires-2
+finite-requires-2 c κs = search needs
+
+returns-2 : tie.Need-returns-2
+returns-2 c = not-mean (c .before .before .before .before .before .before .before .args .a .now) (c .before .before .before .before .before .before .before .args .mean .now) (c .before .before .before .before .before .before .before .args .variance .now) (tells (c .before .before .before .finite .ensures) (not-false _ (c .before .before .if1 .left))) (tells (c .before .finite2 .ensures) (not-true _ (c .if2 .taken)))
+
+finite-requires-3 : tie.Need-finite-requires-3
+finite-requires-3 c κs = search needs
+
+returns-3 : tie.Need-returns-3
+returns-3 c = c .finite3 .ensures ∙ left (c .before .before .before .before .before .before .before .before .args .a .now) (c .before .before .before .before .before .before .before .before .args .mean .now) (c .before .before .before .before .before .before .before .before .args .variance .now) (tells (c .before .before .before .before .finite .ensures) (not-false _ (c .before .before .before .if1 .left))) (tells (c .before .before .finite2 .ensures) (not-false _ (c .before .if2 .left)))
+
+pub given-finite-spec : {M : Type 1} → statement M
+given-finite-spec =
+    tie.close
+    (tie.spec finite-requires returns finite-requires-2 returns-2 finite-requires-3 returns-3)

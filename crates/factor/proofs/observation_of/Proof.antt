@@ -1,0 +1,88 @@
+-- `factor::observation_of` meets its contract. The loop's invariant: the keys passed stand in the first places, and the others hold 0. Assumes nothing.
+use Prim.Native.Nat.{_+_, _-_, _<_, _≤_, suc, ℕ}
+use mathlib.Core.Bool.{false}
+use mathlib.Core.List.{List, _++_}
+use mathlib.Core.Path.{_∙_, _≡_, ap, refl, sym}
+use native.Mathlib.Numerals.{add-one}
+use native.Mathlib.Omega.{arith}
+use borrow.Author.Needs.{needs}
+use borrow.Author.Tests.{ltb-true}
+use lib.Dec.{ltb}
+use lib.ListN.{getD, length, replicate, set, take}
+use lib.Seq.{append-snoc, length-take-le, set-at, take-length, take-suc}
+use denote.Ref.{now}
+use Rattle.factor.proofs.Counting.{all-at}
+use Rattle.factor.specs.Limits.{max-keys, max-variables}
+use Rattle.factor.proofs.observation_of.Statement.{statement}
+use Rattle.factor.proofs.observation_of.Tie as tie
+
+abbrev Inv-loop : tie.InvT-loop
+Inv-loop keys rows packed₀ place₀ place-end packed place = (place ≤ place-end) × (place-end ≡ length keys) × (packed ≡ take place keys ++ replicate (max-keys - place) 0)
+
+abbrev μ-loop : tie.MeasureT-loop
+μ-loop keys rows packed₀ place₀ place-end packed place = place-end - place
+
+-- a key more in the first places
+pack-more : (keys packed : List ℕ) (j n : ℕ) → j < length keys → j < n → packed ≡ take j keys ++ replicate (n - j) 0 → set packed j (getD keys j 0) ≡ take (j + 1) keys ++ replicate (n - (j + 1)) 0
+pack-more keys packed j n l m e =
+    let d : n - j ≡ suc (n - (j + 1)) = omega arith in
+    let t : length (take j keys) ≡ j = length-take-le j keys (omega arith) in
+    ap (λ (s : List ℕ). set s j (getD keys j 0)) (e ∙ ap (λ (k : ℕ). take j keys ++ replicate k 0) d)
+    ∙ set-at (take j keys) 0 (replicate (n - (j + 1)) 0) (getD keys j 0) j t
+    ∙ sym (append-snoc (take j keys) (getD keys j 0) (replicate (n - (j + 1)) 0))
+    ∙ ap (λ (s : List ℕ). s ++ replicate (n - (j + 1)) 0) (sym (take-suc keys j 0 l) ∙ ap (λ (k : ℕ). take k keys) (sym (add-one j)))
+
+-- after the last key
+pack-done : (keys packed : List ℕ) (j n : ℕ) → j ≡ length keys → packed ≡ take j keys ++ replicate (n - j) 0 → packed ≡ keys ++ replicate (n - length keys) 0
+pack-done keys packed j n l e = e ∙ ap (λ (k : ℕ). take k keys ++ replicate (n - k) 0) l ∙ ap (λ (s : List ℕ). s ++ replicate (n - length keys) 0) (take-length keys)
+
+loop-holds : tie.Need-loop-holds Inv-loop μ-loop
+loop-holds c = (search needs, refl, refl)
+
+mul-packed : tie.Need-mul-packed Inv-loop μ-loop
+mul-packed c = search needs
+
+shared-slice-read-packed : tie.Need-shared-slice-read-packed Inv-loop μ-loop
+shared-slice-read-packed c = search needs
+
+cast-packed : tie.Need-cast-packed Inv-loop μ-loop
+cast-packed c = let b : getD (c .before .before .before .args .keys .now) (c .before .before .loop .place) 0 < max-variables = ltb-true _ _ (all-at (λ j. ltb (getD (c .before .before .before .args .keys .now) j 0) max-variables) (length (c .before .before .before .args .keys .now)) (c .before .before .loop .place) (c .before .before .before .pre .2) (omega arith)) in search needs
+
+array-write-packed : tie.Need-array-write-packed Inv-loop μ-loop
+array-write-packed c = search needs
+
+add-place : tie.Need-add-place Inv-loop μ-loop
+add-place c = search needs
+
+loop-less : tie.Need-loop-less Inv-loop μ-loop
+loop-less c = search needs
+
+loop-again : tie.Need-loop-again Inv-loop μ-loop
+loop-again c = (omega arith, c .before .before .loop .inv .1, pack-more (c .before .before .before .args .keys .now) (c .before .before .loop .packed) (c .before .before .loop .place) max-keys (omega arith) (omega arith) (c .before .before .loop .inv .2))
+
+cast-t14 : tie.Need-cast-t14 Inv-loop μ-loop
+cast-t14 c = search needs
+
+cast-t15 : tie.Need-cast-t15 Inv-loop μ-loop
+cast-t15 c = search needs
+
+returns : tie.Need-returns Inv-loop μ-loop
+returns c = ap (λ (k : List ℕ). record { prior = false; touched = length (c .before .before .args .keys .now); rows = c .before .before .args .rows; keys = k }) (pack-done (c .before .before .args .keys .now) (c .before .loop .packed) (c .before .loop .place) max-keys (omega (arith, c .before .loop .inv .1)) (c .before .loop .inv .2))
+
+pub observation-of-spec : {M : Type 1} → statement M
+observation-of-spec =
+    tie.close
+    (tie.spec
+    Inv-loop
+    μ-loop
+    loop-holds
+    mul-packed
+    shared-slice-read-packed
+    cast-packed
+    array-write-packed
+    add-place
+    loop-less
+    loop-again
+    cast-t14
+    cast-t15
+    returns)

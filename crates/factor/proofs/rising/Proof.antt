@@ -1,0 +1,55 @@
+-- `factor::rising` meets its contract. The loop's invariant: each place passed is above the one before it. Assumes nothing.
+use Prim.Native.Nat.{_-_, _≤_}
+use mathlib.Core.Bool.{true}
+use mathlib.Core.Path.{_≡_, refl, sym}
+use native.Mathlib.Omega.{arith}
+use borrow.Author.Needs.{needs}
+use borrow.Author.Tests.{not-false, not-true}
+use lib.ListN.{length}
+use denote.Ref.{now}
+use Rattle.factor.proofs.Counting.{all-fail, all-more, all-none, tells}
+use Rattle.factor.specs.Counting.{all}
+use Rattle.factor.specs.Factor.{above}
+use Rattle.factor.proofs.rising.Statement.{statement}
+use Rattle.factor.proofs.rising.Tie as tie
+
+abbrev Inv-loop : tie.InvT-loop
+Inv-loop keys place₀ place-end place = (place-end ≡ length keys) × (place ≤ place-end) × (all (λ j. above keys j) place ≡ true)
+
+abbrev μ-loop : tie.MeasureT-loop
+μ-loop keys place₀ place-end place = place-end - place
+
+loop-holds : tie.Need-loop-holds Inv-loop μ-loop
+loop-holds c = (refl, search needs, all-none _)
+
+above-requires : tie.Need-above-requires Inv-loop μ-loop
+above-requires c κs = search needs
+
+returns : tie.Need-returns Inv-loop μ-loop
+returns c = sym (all-fail (λ j. above (c .before .before .before .before .before .args .keys .now) j) _ (c .before .before .before .loop .place) (omega arith) (tells (c .before .above .ensures) (not-true _ (c .if1 .taken))))
+
+add-place : tie.Need-add-place Inv-loop μ-loop
+add-place c = search needs
+
+loop-less : tie.Need-loop-less Inv-loop μ-loop
+loop-less c = search needs
+
+loop-again : tie.Need-loop-again Inv-loop μ-loop
+loop-again c = (c .before .before .before .loop .inv .0, omega arith, all-more _ _ (c .before .before .before .loop .inv .2) (tells (c .before .above .ensures) (not-false _ (c .if1 .left))))
+
+returns-2 : tie.Need-returns-2 Inv-loop μ-loop
+returns-2 c = let e : c .before .loop .place ≡ length (c .before .before .before .args .keys .now) = omega arith in sym (rw e at (c .before .loop .inv .2))
+
+pub rising-spec : {M : Type 1} → statement M
+rising-spec =
+    tie.close
+    (tie.spec
+    Inv-loop
+    μ-loop
+    loop-holds
+    above-requires
+    returns
+    add-place
+    loop-less
+    loop-again
+    returns-2)

@@ -1,0 +1,80 @@
+-- `factor::store_factor` meets its contract: its arrays have room for a factor of the most rows, and begin as zeros. Assumes nothing.
+use Prim.Native.Nat.{_*_, _≤_, ℕ}
+use mathlib.Core.List.{List}
+use mathlib.Core.Path.{_≡_}
+use native.Mathlib.Nat.{mul-le-mul}
+use native.Mathlib.Omega.{arith}
+use borrow.Author.Needs.{needs}
+use lib.Ieee.{Float, ofBits}
+use lib.ListN.{length-replicate, replicate}
+use Rattle.factor.proofs.Laying.{front-replicate}
+use Rattle.factor.specs.Limits.{max-rows}
+use Rattle.factor.specs.Weighing.{Lent}
+use Rattle.matrix.specs.Sums.{plus-zero}
+use Rattle.factor.proofs.store_factor.Statement.{statement}
+use Rattle.factor.proofs.store_factor.Tie as tie
+
+-- a square of the most rows has room
+room : (n : ℕ) → n ≤ max-rows → n * n ≤ max-rows * max-rows
+room n l = mul-le-mul l l
+
+lent : (n : ℕ) (l xi w : List Float) → n ≤ max-rows → l ≡ replicate (n * n) plus-zero → xi ≡ replicate n plus-zero → w ≡ replicate (n * n) plus-zero → Lent n l xi w
+lent n l xi w h el ex ew = record { rows = h; of-l = rw el (length-replicate (n * n) plus-zero); of-xi = rw ex (length-replicate n plus-zero); of-w = ew }
+
+mul-square : tie.Need-mul-square
+mul-square c = search needs
+
+sub-store-by : tie.Need-sub-store-by
+sub-store-by c = search needs
+
+part-l-start : tie.Need-part-l-start
+part-l-start c = search needs
+
+part-l-end : tie.Need-part-l-end
+part-l-end c = omega (arith, room (c .before .before .before .before .before .args .n) (c .before .before .before .before .before .pre .rows))
+
+sub-store-by-2 : tie.Need-sub-store-by-2
+sub-store-by-2 c = search needs
+
+part-xi-start : tie.Need-part-xi-start
+part-xi-start c = search needs
+
+part-xi-end : tie.Need-part-xi-end
+part-xi-end c = search needs
+
+sub-store-by-3 : tie.Need-sub-store-by-3
+sub-store-by-3 c = search needs
+
+part-w-start : tie.Need-part-w-start
+part-w-start c = search needs
+
+part-w-end : tie.Need-part-w-end
+part-w-end c = omega (arith, room (c .before .before .before .before .before .before .before .args .n) (c .before .before .before .before .before .before .before .pre .rows))
+
+store-by-requires : tie.Need-store-by-requires
+unfolding ofBits
+store-by-requires c κs = (c .before .before .before .before .before .before .before .before .pre, lent (c .before .before .before .before .before .before .before .before .args .n) _ _ _ (c .before .before .before .before .before .before .before .before .pre .rows) (front-replicate plus-zero (max-rows * max-rows) (c .before .before .before .before .before .before .before .before .args .n * c .before .before .before .before .before .before .before .before .args .n) (room (c .before .before .before .before .before .before .before .before .args .n) (c .before .before .before .before .before .before .before .before .pre .rows))) (front-replicate plus-zero max-rows (c .before .before .before .before .before .before .before .before .args .n) (c .before .before .before .before .before .before .before .before .pre .rows)) (front-replicate plus-zero (max-rows * max-rows) (c .before .before .before .before .before .before .before .before .args .n * c .before .before .before .before .before .before .before .before .args .n) (room (c .before .before .before .before .before .before .before .before .args .n) (c .before .before .before .before .before .before .before .before .pre .rows))))
+
+same-length : tie.Need-same-length
+same-length c = search needs
+
+returns : tie.Need-returns
+returns c = search needs
+
+pub store-factor-spec : {M : Type 1} → statement M
+store-factor-spec =
+    tie.close
+    (tie.spec
+    mul-square
+    sub-store-by
+    part-l-start
+    part-l-end
+    sub-store-by-2
+    part-xi-start
+    part-xi-end
+    sub-store-by-3
+    part-w-start
+    part-w-end
+    store-by-requires
+    same-length
+    returns)

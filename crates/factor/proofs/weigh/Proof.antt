@@ -1,0 +1,102 @@
+-- `factor::weigh` meets its contract: its ways out are those of the definition. Assumes nothing.
+use Prim.Native.Nat.{_*_}
+use mathlib.Core.Path.{ap}
+use native.Mathlib.Omega.{arith}
+use borrow.Author.Needs.{needs}
+use borrow.Author.Tests.{not-false, not-true}
+use lib.ListN.{length, length-replicate}
+use Rattle.factor.proofs.Counting.{tells}
+use Rattle.factor.proofs.Weighing.{all-finite, stopped, w-overflows, xi-overflows}
+use Rattle.matrix.proofs.Dense.{dense}
+use Rattle.matrix.specs.Sums.{plus-zero}
+use Rattle.factor.proofs.weigh.Statement.{statement}
+use Rattle.factor.proofs.weigh.Tie as tie
+
+cholesky-requires : tie.Need-cholesky-requires
+cholesky-requires c κs = dense (c .before .before .before .before .args .n) (c .before .before .before .before .args .n) _ (omega (arith, c .before .before .before .before .pre .of-l))
+
+enum-told : tie.Need-enum-told
+enum-told c = search needs
+
+enum-told-2 : tie.Need-enum-told-2
+enum-told-2 c = search needs
+
+same-length : tie.Need-same-length
+same-length c = search needs
+
+returns : tie.Need-returns
+returns c = stopped _ _ _ _ _ (c .before .before .before .before .cholesky .ensures .0) (c .before .before .before .before .cholesky .ensures .1) (c .enum-told2 .given .1)
+
+solve-requires : tie.Need-solve-requires
+solve-requires c κs = (dense (c .before .before .before .before .before .before .before .before .before .before .before .args .n) (c .before .before .before .before .before .before .before .before .before .before .before .args .n) _ (omega (arith, c .before .before .before .before .before .before .cholesky .kept .0, c .before .before .before .before .before .before .before .before .before .before .before .pre .of-l)), λ i h. omega (arith, c .before .before .before .before .before .before .before .before .before .before .before .pre .of-xi))
+
+inverse-requires : tie.Need-inverse-requires
+inverse-requires c κs = (dense (c .before .before .before .before .before .before .before .before .before .before .before .before .before .before .before .before .args .n) (c .before .before .before .before .before .before .before .before .before .before .before .before .before .before .before .before .args .n) _ (omega (arith, c .before .before .before .before .before .before .before .before .before .before .before .cholesky .kept .0, c .before .before .before .before .before .before .before .before .before .before .before .before .before .before .before .before .pre .of-l)), dense (c .before .before .before .before .before .before .before .before .before .before .before .before .before .before .before .before .args .n) (c .before .before .before .before .before .before .before .before .before .before .before .before .before .before .before .before .args .n) _ (omega (arith, ap length (c .before .before .before .before .before .before .before .before .before .before .before .before .before .before .before .before .pre .of-w), length-replicate (c .before .before .before .before .before .before .before .before .before .before .before .before .before .before .before .before .args .n * c .before .before .before .before .before .before .before .before .before .before .before .before .before .before .before .before .args .n) plus-zero)))
+
+finite-requires : tie.Need-finite-requires
+finite-requires c κs = search needs
+
+same-length-2 : tie.Need-same-length-2
+same-length-2 c = search needs
+
+same-length-3 : tie.Need-same-length-3
+same-length-3 c = search needs
+
+same-length-4 : tie.Need-same-length-4
+same-length-4 c = search needs
+
+returns-2 : tie.Need-returns-2
+returns-2 c = xi-overflows _ _ _ _ _ (c .before .before .before .before .before .before .before .before .before .before .before .before .before .before .before .before .before .cholesky .ensures .0) (c .before .before .before .before .before .before .before .before .before .before .before .before .before .before .before .before .before .cholesky .ensures .1) (c .before .before .before .before .before .before .before .before .before .before .before .before .before .enum-told .given .1) _ _ _ (c .before .before .before .before .before .before .before .before .before .before .before .before .before .before .before .before .before .before .before .before .before .before .pre .of-w) (c .before .before .before .before .before .before .before .before .before .before .solve .ensures) (c .before .before .before .before .before .inverse .ensures) (tells (c .before .finite .ensures) (not-true _ (c .if1 .taken)))
+
+finite-requires-2 : tie.Need-finite-requires-2
+finite-requires-2 c κs = search needs
+
+same-length-5 : tie.Need-same-length-5
+same-length-5 c = search needs
+
+same-length-6 : tie.Need-same-length-6
+same-length-6 c = search needs
+
+same-length-7 : tie.Need-same-length-7
+same-length-7 c = search needs
+
+returns-3 : tie.Need-returns-3
+returns-3 c = w-overflows _ _ _ _ _ (c .before .before .before .before .before .before .before .before .before .before .before .before .before .before .before .before .before .before .before .before .cholesky .ensures .0) (c .before .before .before .before .before .before .before .before .before .before .before .before .before .before .before .before .before .before .before .before .cholesky .ensures .1) (c .before .before .before .before .before .before .before .before .before .before .before .before .before .before .before .before .enum-told .given .1) _ _ _ (c .before .before .before .before .before .before .before .before .before .before .before .before .before .before .before .before .before .before .before .before .before .before .before .before .before .pre .of-w) (c .before .before .before .before .before .before .before .before .before .before .before .before .before .solve .ensures) (c .before .before .before .before .before .before .before .before .inverse .ensures) (tells (c .before .before .before .before .finite .ensures) (not-false _ (c .before .before .before .if1 .left))) (tells (c .before .finite2 .ensures) (not-true _ (c .if2 .taken)))
+
+same-length-8 : tie.Need-same-length-8
+same-length-8 c = search needs
+
+same-length-9 : tie.Need-same-length-9
+same-length-9 c = search needs
+
+same-length-10 : tie.Need-same-length-10
+same-length-10 c = search needs
+
+returns-4 : tie.Need-returns-4
+returns-4 c = all-finite _ _ _ _ _ (c .before .before .before .before .before .before .before .before .before .before .before .before .before .before .before .before .before .before .before .before .cholesky .ensures .0) (c .before .before .before .before .before .before .before .before .before .before .before .before .before .before .before .before .before .before .before .before .cholesky .ensures .1) (c .before .before .before .before .before .before .before .before .before .before .before .before .before .before .before .before .enum-told .given .1) _ _ _ (c .before .before .before .before .before .before .before .before .before .before .before .before .before .before .before .before .before .before .before .before .before .before .before .before .before .pre .of-w) (c .before .before .before .before .before .before .before .before .before .before .before .before .before .solve .ensures) (c .before .before .before .before .before .before .before .before .inverse .ensures) (tells (c .before .before .before .before .finite .ensures) (not-false _ (c .before .before .before .if1 .left))) (tells (c .before .finite2 .ensures) (not-false _ (c .if2 .left)))
+
+pub weigh-spec : {M : Type 1} → statement M
+weigh-spec =
+    tie.close
+    (tie.spec
+    cholesky-requires
+    enum-told
+    enum-told-2
+    same-length
+    returns
+    solve-requires
+    inverse-requires
+    finite-requires
+    same-length-2
+    same-length-3
+    same-length-4
+    returns-2
+    finite-requires-2
+    same-length-5
+    same-length-6
+    same-length-7
+    returns-3
+    same-length-8
+    same-length-9
+    same-length-10
+    returns-4)

@@ -1,0 +1,376 @@
+// A factor of the graph: its record, the layout of its blocks, and the numbers that are stored for it.
+pub mod limits;
+
+use cholesky::Factored;
+use limits::KEYS;
+use limits::ROWS;
+use limits::SQUARE;
+use limits::VARIABLES;
+use matrix::View;
+ghost use mathlib.Core.Path.{_≡_};
+ghost use mathlib.Core.Bool.{true};
+ghost use Prim.Native.Nat.{_+_, _*_, _<_, _≤_};
+ghost use lib.ListN.{length};
+ghost use Rattle.factor.specs.Limits.{max-keys, max-variables, most-numbers};
+ghost use Rattle.factor.specs.Factor as spec;
+ghost use Rattle.factor.specs.Weighing.{Lent, Room, weighed, told, answerOf, laid};
+
+// A prior or an observation: its keys stand in the first places, rising, and unused places are 0. A prior has one key and that key's size as rows.
+pub struct Factor {
+    pub prior: bool,
+    pub touched: u8,
+    pub rows: u8,
+    pub keys: [u8; KEYS],
+}
+
+// The block of a key: its first column and its size.
+pub enum Found {
+    Block(usize, usize),
+    Absent,
+}
+
+// How the weighing of a mean by its variance ended: with numbers, at a refused pivot, or with a number that isn't finite.
+pub enum Weighed {
+    Done,
+    Pivot,
+    Unbounded,
+}
+
+fn wide(x: u8) -> usize
+    ensures { λ r. ⌜ r ≡ x ⌝ }
+{
+    x as usize
+}
+
+// What the size table has for a key, and 0 for a key that it has no place for.
+pub fn size_of(sizes: [u8; VARIABLES], key: usize) -> usize
+    ensures { λ r. ⌜ (r ≡ spec.sizeOf sizes key) × (r < 256) ⌝ }
+{
+    if key < VARIABLES { wide(sizes[key]) } else { 0 }
+}
+
+// All of src goes into dst from a place on.
+pub fn copy_in(dst: &mut [f64], at: usize, src: &[f64])
+    requires { ⌜ at + length (now src) ≤ length (now dst) ⌝ }
+    ensures { λ _. ⌜ now (dst .exit) ≡ spec.lay (now (dst .entry)) at (now (src .entry)) ⌝ }
+{
+    for j in 0..src.len() {
+        dst[at + j] = src[j];
+    }
+}
+
+// The key at a place is above the one before it.
+fn above(keys: &[usize], place: usize) -> bool
+    requires { ⌜ place < length (now keys) ⌝ }
+    ensures { λ r. ⌜ r ≡ spec.above (now (keys .entry)) place ⌝ }
+{
+    if place == 0 {
+        return true;
+    }
+    let last = place - 1;
+    keys[last] < keys[place]
+}
+
+// The keys are strictly rising.
+pub fn rising(keys: &[usize]) -> bool
+    ensures { λ r. ⌜ r ≡ spec.rising (now (keys .entry)) ⌝ }
+{
+    for place in 0..keys.len() {
+        if !above(keys, place) {
+            return false;
+        }
+    }
+    true
+}
+
+// Each key is one of so many variables.
+pub fn known(variables: usize, keys: &[usize]) -> bool
+    ensures { λ r. ⌜ r ≡ spec.known variables (now (keys .entry)) ⌝ }
+{
+    for place in 0..keys.len() {
+        if variables <= keys[place] {
+            return false;
+        }
+    }
+    true
+}
+
+// All numbers given for a factor are finite.
+pub fn given_finite(a: &[f64], mean: &[f64], variance: &[f64]) -> bool
+    ensures { λ r. ⌜ r ≡ spec.givenFinite (now (a .entry)) (now (mean .entry)) (now (variance .entry)) ⌝ }
+{
+    if !matrix::finite(a) {
+        return false;
+    }
+    if !matrix::finite(mean) {
+        return false;
+    }
+    matrix::finite(variance)
+}
+
+// The record of a prior on a key of that size.
+pub fn prior_of(key: usize, size: usize) -> Factor
+    requires { ⌜ (key < 256) × (size < 256) ⌝ }
+    ensures { λ r. ⌜ r ≡ spec.priorOf key size ⌝ }
+{
+    let mut keys = [0u8; KEYS];
+    keys[0] = key as u8;
+    Factor {
+        prior: true,
+        touched: 1,
+        rows: size as u8,
+        keys: keys,
+    }
+}
+
+// The record of an observation of some keys.
+pub fn observation_of(keys: &[usize], rows: usize) -> Factor
+    requires { ⌜ (length (now keys) ≤ max-keys) × (rows < 256) × (spec.known max-variables (now keys) ≡ true) ⌝ }
+    ensures { λ r. ⌜ r ≡ spec.observationOf (now (keys .entry)) rows ⌝ }
+{
+    let mut packed = [0u8; KEYS];
+    for place in 0..keys.len() {
+        packed[place] = keys[place] as u8;
+    }
+    Factor {
+        prior: false,
+        touched: keys.len() as u8,
+        rows: rows as u8,
+        keys: packed,
+    }
+}
+
+impl Factor {
+    // The key at a place is registered and above the one before it, or the place is unused.
+    fn key_fits(self, variables: usize, place: usize) -> bool
+        requires { ⌜ place < max-keys ⌝ }
+        ensures { λ r. ⌜ r ≡ spec.keyFits variables self place ⌝ }
+    {
+        let key = self.keys[place];
+        if wide(self.touched) <= place {
+            return key == 0;
+        }
+        if variables <= wide(key) {
+            return false;
+        }
+        if place == 0 {
+            return true;
+        }
+        let last = place - 1;
+        self.keys[last] < key
+    }
+
+    // A prior has one key, whose size is its rows; an observation has rows within the limit.
+    fn rows_fit(self, sizes: [u8; VARIABLES]) -> bool
+        ensures { λ r. ⌜ r ≡ spec.rowsFit sizes self ⌝ }
+    {
+        let rows = wide(self.rows);
+        if !self.prior {
+            return 1 <= rows && rows <= ROWS;
+        }
+        if self.touched != 1 {
+            return false;
+        }
+        rows == size_of(sizes, wide(self.keys[0]))
+    }
+
+    // A registering call makes this record where so many variables have these sizes.
+    pub fn fits(self, sizes: [u8; VARIABLES], variables: usize) -> bool
+        ensures { λ r. ⌜ (r ≡ spec.fits sizes variables self) × (length (self .keys) ≡ max-keys) ⌝ }
+    {
+        if KEYS < wide(self.touched) {
+            return false;
+        }
+        if !self.rows_fit(sizes) {
+            return false;
+        }
+        for place in 0..KEYS {
+            if !self.key_fits(variables, place) {
+                return false;
+            }
+        }
+        true
+    }
+
+    // The record of an unused place.
+    pub fn is_clear(self) -> bool
+        ensures { λ r. ⌜ (r ≡ spec.isClear self) × (length (self .keys) ≡ max-keys) ⌝ }
+    {
+        if self.prior {
+            return false;
+        }
+        if self.touched != 0 {
+            return false;
+        }
+        if self.rows != 0 {
+            return false;
+        }
+        for place in 0..KEYS {
+            if self.keys[place] != 0 {
+                return false;
+            }
+        }
+        true
+    }
+
+    // The total width: the sizes of the keys, added up.
+    pub fn width(self, sizes: [u8; VARIABLES]) -> usize
+        requires { ⌜ self .touched ≤ max-keys ⌝ }
+        ensures { λ r. ⌜ (r ≡ spec.width sizes self) × (r ≤ 255 * max-keys) ⌝ }
+    {
+        let mut sum = 0;
+        for place in 0..wide(self.touched) {
+            sum += size_of(sizes, wide(self.keys[place]));
+        }
+        sum
+    }
+
+    // The block of a key: looked for among the keys from the first place on.
+    pub fn find(self, sizes: [u8; VARIABLES], key: usize) -> Found
+        requires { ⌜ self .touched ≤ max-keys ⌝ }
+        ensures { λ r. ⌜ r ≡ spec.find sizes self key ⌝ }
+    {
+        let mut first = 0;
+        for place in 0..wide(self.touched) {
+            let here = wide(self.keys[place]);
+            let size = size_of(sizes, here);
+            if here == key {
+                return Found::Block(first, size);
+            }
+            first += size;
+        }
+        Found::Absent
+    }
+
+    // How many numbers of A are stored: none for a prior.
+    pub fn a_numbers(self, sizes: [u8; VARIABLES]) -> usize
+        requires { ⌜ self .touched ≤ max-keys ⌝ }
+        ensures { λ r. ⌜ (r ≡ spec.aNumbers sizes self) × (r ≤ 255 * (255 * max-keys)) ⌝ }
+    {
+        if self.prior {
+            return 0;
+        }
+        wide(self.rows) * self.width(sizes)
+    }
+
+    // How many numbers are stored: A, xi and W.
+    pub fn numbers(self, sizes: [u8; VARIABLES]) -> usize
+        requires { ⌜ self .touched ≤ max-keys ⌝ }
+        ensures { λ r. ⌜ (r ≡ spec.numbers sizes self) × (r ≤ most-numbers) ⌝ }
+    {
+        let rows = wide(self.rows);
+        self.a_numbers(sizes) + rows + rows * rows
+    }
+
+    // Lengths are those of its A, its mean and its variance.
+    pub fn lengths_fit(self, sizes: [u8; VARIABLES], a: usize, mean: usize, variance: usize) -> bool
+        requires { ⌜ self .touched ≤ max-keys ⌝ }
+        ensures { λ r. ⌜ r ≡ spec.lengthsFit sizes self a mean variance ⌝ }
+    {
+        let rows = wide(self.rows);
+        if a != self.a_numbers(sizes) {
+            return false;
+        }
+        mean == rows && variance == rows * rows
+    }
+
+    // The block column of a key: the part of A that begins at its first column, and no numbers where the factor lacks the key.
+    pub fn a_from_key<'a>(self, sizes: [u8; VARIABLES], key: usize, a: &'a [f64]) -> &'a [f64]
+        requires { ⌜ (self .touched ≤ max-keys) × (spec.width sizes self * self .rows ≤ length (now a)) ⌝ }
+        ensures { λ r. ⌜ now r ≡ spec.columnsAt (spec.find sizes self key) (self .rows) (now (a .entry)) ⌝ }
+    {
+        let Found::Block(first, size) = self.find(sizes, key) else {
+            return &a[0..0];
+        };
+        let rows = wide(self.rows);
+        let start = first * rows;
+        let end = start + size * rows;
+        &a[start..end]
+    }
+}
+
+// The mean in xi becomes the solve of it, the zeros in w become the inverse of the variance in l, and l its Cholesky factor.
+fn weigh(l: &mut [f64], n: usize, xi: &mut [f64], w: &mut [f64]) -> Weighed
+    requires { ⌜ Lent n (now l) (now xi) (now w) ⌝ }
+    ensures { λ r. ⌜ weighed n (now (xi .entry)) (now (l .entry)) ≡ told r (now (xi .exit)) (now (w .exit)) ⌝ }
+{
+    let v = View {
+        at: 0,
+        down: 1,
+        across: n,
+    };
+    let Factored::Done = cholesky::cholesky(l, v, n) else {
+        return Weighed::Pivot;
+    };
+    cholesky::solve(&l[..], v, n, xi, v, 0);
+    cholesky::inverse(&l[..], v, n, w, v);
+    if !matrix::finite(&xi[..]) {
+        return Weighed::Unbounded;
+    }
+    if !matrix::finite(&w[..]) {
+        return Weighed::Unbounded;
+    }
+    Weighed::Done
+}
+
+// Stores A, xi and W of a mean and a variance of n rows from a place on, by way of the working slices. The store is touched only when all numbers are there.
+fn store_by(
+    store: &mut [f64],
+    at: usize,
+    a: &[f64],
+    mean: &[f64],
+    variance: &[f64],
+    n: usize,
+    l: &mut [f64],
+    xi: &mut [f64],
+    w: &mut [f64],
+) -> Weighed
+    requires { ⌜ Room n at (now a) (now mean) (now variance) (now store) ⌝ }
+    requires { ⌜ Lent n (now l) (now xi) (now w) ⌝ }
+    ensures { λ r. ⌜ r ≡ answerOf (weighed n (now (mean .entry)) (now (variance .entry))) ⌝ }
+    ensures { λ _. ⌜ now (store .exit) ≡ laid (weighed n (now (mean .entry)) (now (variance .entry))) (now (a .entry)) (now (store .entry)) at ⌝ }
+{
+    copy_in(l, 0, variance);
+    copy_in(xi, 0, mean);
+    match weigh(l, n, xi, w) {
+        Weighed::Done => {}
+        Weighed::Pivot => return Weighed::Pivot,
+        Weighed::Unbounded => return Weighed::Unbounded,
+    }
+    let second = at + a.len();
+    let third = second + n;
+    copy_in(store, at, a);
+    copy_in(store, second, &xi[..]);
+    copy_in(store, third, &w[..]);
+    Weighed::Done
+}
+
+// The same with working slices of its own.
+pub fn store_factor(
+    store: &mut [f64],
+    at: usize,
+    a: &[f64],
+    mean: &[f64],
+    variance: &[f64],
+    n: usize,
+) -> Weighed
+    requires { ⌜ Room n at (now a) (now mean) (now variance) (now store) ⌝ }
+    ensures { λ r. ⌜ r ≡ answerOf (weighed n (now (mean .entry)) (now (variance .entry))) ⌝ }
+    ensures { λ _. ⌜ now (store .exit) ≡ laid (weighed n (now (mean .entry)) (now (variance .entry))) (now (a .entry)) (now (store .entry)) at ⌝ }
+{
+    let square = n * n;
+    let mut l = [0.0; SQUARE];
+    let mut xi = [0.0; ROWS];
+    let mut w = [0.0; SQUARE];
+    store_by(
+        store,
+        at,
+        a,
+        mean,
+        variance,
+        n,
+        &mut l[0..square],
+        &mut xi[0..n],
+        &mut w[0..square],
+    )
+}

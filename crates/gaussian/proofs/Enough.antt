@@ -1,0 +1,165 @@
+-- What is asked of the tables alone is enough for every function below: each slot then fits the frame of the branch that runs. Assumes nothing.
+use Prim.Native.Nat.{ℕ, zero, suc, _+_, _-_, _*_, _≤_, _<_}
+use mathlib.Core.Path.{_≡_, refl, ap, ap₂, _∙_, subst}
+use mathlib.Core.Bool.{Bool, true, false, cond, _||_}
+use mathlib.Core.List.{List, []}
+use native.Mathlib.Decide.{decLt}
+use native.Mathlib.Omega.{arith}
+use lib.Dec.{leb}
+use lib.ListN.{length, getD, drop, length-take, length-drop}
+use lib.Seq.{getD-take, getD-drop}
+use lib.Ieee.{Float}
+use Rattle.matrix.specs.Views.{part}
+use Rattle.workspace.specs.Frames.{frameOf}
+use Rattle.slots.specs.Layouts.{member, dimOf, firstOf, layoutOf}
+use Rattle.slots.specs.Views.{FactorView, rowsOf, rowsOfAll}
+use Rattle.slots.specs.Tables.{headOf, keysAt, storeOf, numbersOf, viewOf, viewAt, rowsBy, rowsByAll}
+use Rattle.slots.specs.Fitting.{KnownKey, Fitted, Ready, CountedHead}
+use Rattle.slots.specs.declared.layout.Layout.{Layout}
+use Rattle.slots.specs.declared.Head.{Head}
+use Rattle.slots.proofs.LayoutTables.{first-fits, getD-table}
+use Rattle.slots.proofs.Reading.{rows-of-view, rows-bound}
+use Rattle.gaussian.specs.Asked.{KeyFits, HeadFits, Asked, Whole, frameFor}
+
+-- ---- a key
+
+-- the columns of a key that is kept or cleared are within its list
+sits-by : (f₁ f₂ s u d : ℕ) (c k : Bool) → (c ≡ true → f₁ + s ≤ u) → (k ≡ true → f₂ + s ≤ d) → (c || k) ≡ true → cond c f₁ f₂ + s ≤ cond c u d
+sits-by f₁ f₂ s u d true k hc hk h = hc refl
+sits-by f₁ f₂ s u d false k hc hk h = hk h
+
+module _ (kept cleared sizes : List ℕ) (len : length sizes ≡ 32) where
+  cleared-at : (key : ℕ) → key < 32 → getD (layoutOf kept cleared sizes .cleared) key false ≡ member key cleared
+  unfolding layoutOf
+  cleared-at key h = getD-table (λ k. member k cleared) 0 (length sizes) key false (rw len h) ∙ ap (λ (k : ℕ). member k cleared) (omega arith)
+
+  first-at : (key : ℕ) → key < 32 → getD (layoutOf kept cleared sizes .first) key 0 ≡ cond (member key cleared) (firstOf sizes cleared key) (firstOf sizes kept key)
+  unfolding layoutOf
+  first-at key h =
+      getD-table (λ k. cond (member k cleared) (firstOf sizes cleared k) (firstOf sizes kept k)) 0 (length sizes) key 0 (rw len h)
+      ∙ ap (λ (k : ℕ). cond (member k cleared) (firstOf sizes cleared k) (firstOf sizes kept k)) (omega arith)
+
+  size-is : layoutOf kept cleared sizes .size ≡ sizes
+  unfolding layoutOf
+  size-is = refl
+
+  known-key : (r key : ℕ) → KeyFits kept cleared sizes key → KnownKey (frameOf (dimOf sizes cleared) r (dimOf sizes kept)) (layoutOf kept cleared sizes) key
+  unfolding frameOf
+  known-key r key k =
+      record {
+        listed = k .listed;
+        small = rw size-is (k .small);
+        sits =
+            rw (cleared-at key (k .listed), first-at key (k .listed), size-is)
+            (sits-by (firstOf sizes cleared key) (firstOf sizes kept key) (getD sizes key 0) (dimOf sizes cleared) (dimOf sizes kept) (member key cleared) (member key kept)
+            (first-fits sizes cleared key) (first-fits sizes kept key) (k .placed));
+      }
+
+  -- ---- a slot's head
+
+  module _ (keys : List ℕ) (store : ℕ) (h : Head) (k : HeadFits kept cleared sizes keys store h) where
+    count-is : length (keysAt keys h) ≡ h .count
+    count-is = simp (length-take, length-drop) (omega (arith, k .listed))
+
+    key-at : (j : ℕ) → j < h .count → getD (keysAt keys h) j 0 ≡ getD keys (h .first + j) 0
+    key-at j l = getD-take (h .first + h .count - h .first) (drop (h .first) keys) j 0 (omega arith) ∙ getD-drop (h .first) keys j 0
+
+    first-key : h .prior ≡ true → getD (keysAt keys h) 0 0 ≡ getD keys (h .first) 0
+    first-key e = key-at 0 (k .of-prior e .0) ∙ ap (λ (n : ℕ). getD keys n 0) (omega arith)
+
+    prior-size : h .prior ≡ true → getD (layoutOf kept cleared sizes .size) (getD (keysAt keys h) 0 0) 0 ≡ h .rows
+    prior-size e = rw (size-is, first-key e) (k .of-prior e .1)
+
+    counted-head : CountedHead keys h
+    counted-head =
+        record {
+          rows = k .rows;
+          of-prior = λ e. let c = k .of-prior e .0 in
+              (omega (arith, k .listed), subst (λ (n : ℕ). getD keys n 0 < 32) (omega arith) (k .known 0 c .listed));
+        }
+
+    rows-are : (t : List Float) → rowsBy (layoutOf kept cleared sizes) keys h ≡ rowsOf (layoutOf kept cleared sizes) (viewOf (h .prior) (keysAt keys h) (h .rows) (h .width) t)
+    unfolding rowsBy
+    rows-are t = rows-of-view (layoutOf kept cleared sizes) (h .prior) (keysAt keys h) (getD keys (h .first) 0) (h .rows) (h .width) t prior-size first-key
+
+    fitted : (z : Bool) (r row : ℕ) → (z ≡ false → r ≡ dimOf sizes kept) → (z ≡ true → row + rowsBy (layoutOf kept cleared sizes) keys h ≤ r)
+        → Fitted (frameOf (dimOf sizes cleared) r (dimOf sizes kept)) (layoutOf kept cleared sizes) z row (h .prior) (keysAt keys h) (h .rows) (h .width) 192 (numbersOf (h .rows) (h .width))
+    unfolding frameOf
+    fitted z r row hx hz =
+        record {
+          some = λ e. rw count-is (k .of-prior e .0);
+          known = λ j l. rw (key-at j (rw count-is at l)) (known-key r _ (k .known j (rw count-is at l)));
+          count = rw count-is (k .count);
+          narrow = k .width;
+          rows = k .rows;
+          square = hx;
+          inside = λ e. rw (← rows-are []) (hz e);
+          of-prior = prior-size;
+          of-other = λ e. rw (size-is, count-is) (k .of-likelihood e);
+          scratch = omega (arith, k .rows);
+          whole = omega arith;
+        }
+
+-- ---- all slots
+
+rows-rise : (m : Layout) (view : ℕ → FactorView) (n i : ℕ) → i < n → rowsOfAll m view i + rowsOf m (view i) ≤ rowsOfAll m view n
+unfolding rowsOfAll
+rows-rise m view zero i h = absurd (omega arith)
+rows-rise m view (suc n) i h = go (decLt i n) (rows-rise m view n i)
+  where
+    go : Dec (i < n) → (i < n → rowsOfAll m view i + rowsOf m (view i) ≤ rowsOfAll m view n) → rowsOfAll m view i + rowsOf m (view i) ≤ rowsOfAll m view n + rowsOf m (view n)
+    go (yes p) ih = omega (arith, ih p)
+    go (no p) ih = let e : i ≡ n = omega arith in rw e (omega arith)
+
+module _ {kept cleared sizes : List ℕ} {factors messages : List Float} {work : ℕ} {keys heads slots : List ℕ} {to : ℕ} (len : length sizes ≡ 32)
+    (q : Asked kept cleared sizes factors messages work keys heads slots to) where
+  rows-all : (n : ℕ) → n ≤ length slots → (rowsByAll (layoutOf kept cleared sizes) keys heads slots n ≡ rowsOfAll (layoutOf kept cleared sizes) (viewAt factors messages keys heads slots) n)
+      × (rowsByAll (layoutOf kept cleared sizes) keys heads slots n ≤ 32 * n)
+  unfolding rowsByAll rowsOfAll viewAt
+  rows-all zero h = (refl, omega arith)
+  rows-all (suc n) h =
+      let ih = rows-all n (omega arith) in
+      let k = q .fits n (omega arith) in (
+        ap₂ (λ (a b : ℕ). a + b) (ih .0) (rows-are kept cleared sizes len keys _ (headOf heads (getD slots n 0)) k _),
+        omega (arith, ih .1, rows-bound (layoutOf kept cleared sizes) keys (headOf heads (getD slots n 0)) (k .rows)),
+      )
+
+  -- in z the rows of each slot are within those of all
+  rows-inside : (i : ℕ) → i < length slots
+      → rowsOfAll (layoutOf kept cleared sizes) (viewAt factors messages keys heads slots) i + rowsBy (layoutOf kept cleared sizes) keys (headOf heads (getD slots i 0))
+      ≤ rowsByAll (layoutOf kept cleared sizes) keys heads slots (length slots)
+  unfolding viewAt
+  rows-inside i h =
+      let k : Head = headOf heads (getD slots i 0) in
+      rw (rows-are kept cleared sizes len keys _ k (q .fits i h) (part (storeOf (k .slot) factors messages) (k .at) (k .at + numbersOf (k .rows) (k .width))), rows-all (length slots) (omega arith) .0)
+      (rows-rise (layoutOf kept cleared sizes) (viewAt factors messages keys heads slots) (length slots) i h)
+
+  pub enough : Whole (dimOf sizes cleared) (dimOf sizes kept) (layoutOf kept cleared sizes) factors messages work keys heads slots to
+  enough =
+      record {
+        total = q .total;
+        counted =
+            record {
+              few = q .few;
+              headed = q .headed;
+              counted = λ i h. counted-head kept cleared sizes len keys _ (headOf heads (getD slots i 0)) (q .fits i h);
+            };
+        rows = rows-all (length slots) (omega arith) .0;
+        room = q .room;
+        ready = ready;
+        enough = q .enough;
+      }
+    where
+      ready : (i : ℕ) → i < length slots
+          → Ready (frameFor (dimOf sizes cleared) (dimOf sizes kept) (rowsByAll (layoutOf kept cleared sizes) keys heads slots (length slots))) (layoutOf kept cleared sizes)
+          (leb (rowsByAll (layoutOf kept cleared sizes) keys heads slots (length slots)) (dimOf sizes kept)) (rowsOfAll (layoutOf kept cleared sizes) (viewAt factors messages keys heads slots) i) factors messages keys 192 (headOf heads (getD slots i 0))
+      ready i h =
+          let k = q .fits i h in
+          let b = rows-all i (omega arith) in
+          record {
+            listed = k .listed;
+            stored = k .stored;
+            low = omega (arith, b .0, b .1, q .few);
+            fitted =
+                fitted kept cleared sizes len keys _ (headOf heads (getD slots i 0)) k _ _ _ (λ e. rw e) (λ e. rw e (rows-inside i h));
+          }

@@ -1,0 +1,11 @@
+-- Laws of the elimination, and computed cases.
+pub mod Beginning
+pub mod Ending
+pub mod Sending
+pub mod Branches
+pub mod Enough
+pub mod Listing
+pub mod Moments
+pub mod Computing
+pub mod Cases
+pub mod Random

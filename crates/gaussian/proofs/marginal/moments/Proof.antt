@@ -1,0 +1,49 @@
+-- `gaussian::marginal::moments` meets its contract: A'xi and A'WA are added to zeros. Assumes nothing.
+use Prim.Native.Nat.{_*_}
+use mathlib.Core.Path.{ap, _∙_}
+use native.Mathlib.Omega.{arith}
+use borrow.Author.Needs.{needs}
+use lib.ListN.{length, length-replicate}
+use Rattle.matrix.specs.Sums.{plus-zero}
+use Rattle.matrix.proofs.Dense.{dense}
+use Rattle.gaussian.specs.Marginals.{momentsOf}
+use Rattle.gaussian.proofs.marginal.moments.Statement.{statement}
+use Rattle.gaussian.proofs.marginal.moments.Tie as tie
+
+gemv-tr-requires : tie.Need-gemv-tr-requires
+gemv-tr-requires c κs = (λ i j hi hj. dense (c .before .before .before .before .before .before .before .before .args .s) 1 _ (omega (arith, ap length (c .before .before .before .before .before .before .before .before .pre .1 .0), length-replicate (c .before .before .before .before .before .before .before .before .args .s) plus-zero)) i j hi hj, (λ i j hi hj. dense (c .before .before .before .before .before .before .before .before .args .y) (c .before .before .before .before .before .before .before .before .args .s) _ (c .before .before .before .before .before .before .before .before .pre .0 .0) i j hi hj, λ i j hi hj. dense (c .before .before .before .before .before .before .before .before .args .y) 1 _ (omega (arith, c .before .before .before .before .before .before .before .before .pre .0 .1)) i j hi hj))
+
+quadform-requires : tie.Need-quadform-requires
+quadform-requires c κs = (λ i j hi hj. dense (c .before .before .before .before .before .before .before .before .before .before .before .before .before .args .s) (c .before .before .before .before .before .before .before .before .before .before .before .before .before .args .s) _ (omega (arith, ap length (c .before .before .before .before .before .before .before .before .before .before .before .before .before .pre .1 .1), length-replicate (c .before .before .before .before .before .before .before .before .before .before .before .before .before .args .s * c .before .before .before .before .before .before .before .before .before .before .before .before .before .args .s) plus-zero)) i j hi hj, (λ i j hi hj. dense (c .before .before .before .before .before .before .before .before .before .before .before .before .before .args .y) (c .before .before .before .before .before .before .before .before .before .before .before .before .before .args .y) _ (c .before .before .before .before .before .before .before .before .before .before .before .before .before .pre .0 .2) i j hi hj, (λ i j hi hj. dense (c .before .before .before .before .before .before .before .before .before .before .before .before .before .args .y) (c .before .before .before .before .before .before .before .before .before .before .before .before .before .args .s) _ (c .before .before .before .before .before .before .before .before .before .before .before .before .before .pre .0 .0) i j hi hj, c .before .before .before .before .before .before .before .before .before .before .before .before .before .pre .0 .3)))
+
+solve-moments-requires : tie.Need-solve-moments-requires
+solve-moments-requires c κs = (record { of-xi = c .before .before .before .before .before .before .before .before .before .before .before .before .gemv-tr .kept .0 ∙ ap length (c .before .before .before .before .before .before .before .before .before .before .before .before .before .before .before .before .before .before .before .before .before .pre .1 .0) ∙ length-replicate (c .before .before .before .before .before .before .before .before .before .before .before .before .before .before .before .before .before .before .before .before .before .args .s) plus-zero; of-w = c .before .before .before .before .before .before .before .quadform .kept .0 ∙ ap length (c .before .before .before .before .before .before .before .before .before .before .before .before .before .before .before .before .before .before .before .before .before .pre .1 .1) ∙ length-replicate (c .before .before .before .before .before .before .before .before .before .before .before .before .before .before .before .before .before .before .before .before .before .args .s * c .before .before .before .before .before .before .before .before .before .before .before .before .before .before .before .before .before .before .before .before .before .args .s) plus-zero }, c .before .before .before .before .before .before .before .before .before .before .before .before .before .before .before .before .before .before .before .before .before .pre .1 .2)
+
+same-length : tie.Need-same-length
+same-length c = search needs
+
+same-length-2 : tie.Need-same-length-2
+same-length-2 c = search needs
+
+same-length-3 : tie.Need-same-length-3
+same-length-3 c = search needs
+
+same-length-4 : tie.Need-same-length-4
+same-length-4 c = search needs
+
+returns : tie.Need-returns
+unfolding momentsOf
+returns c = rw (← c .before .before .before .before .before .before .before .before .before .before .before .before .before .before .before .before .before .before .before .before .before .before .before .before .before .before .before .before .pre .1 .0, ← c .before .before .before .before .before .before .before .before .before .before .before .before .before .before .before .before .before .before .before .before .before .before .before .before .before .before .before .before .pre .1 .1, ← c .before .before .before .before .before .before .before .before .before .before .before .before .before .before .before .before .before .before .before .gemv-tr .ensures, ← c .before .before .before .before .before .before .before .before .before .before .before .before .before .before .quadform .ensures) (c .before .before .before .before .before .before .solve-moments .ensures)
+
+pub moments-spec : {M : Type 1} → statement M
+moments-spec =
+    tie.close
+    (tie.spec
+    gemv-tr-requires
+    quadform-requires
+    solve-moments-requires
+    same-length
+    same-length-2
+    same-length-3
+    same-length-4
+    returns)

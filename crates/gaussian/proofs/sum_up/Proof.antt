@@ -1,0 +1,33 @@
+-- `gaussian::sum_up` meets its contract: the slots are added to the sums before the first of them. Assumes nothing.
+use borrow.Author.Needs.{needs}
+use lib.ListN.{length}
+use Rattle.workspace.proofs.Cuts.{relaid}
+use Rattle.slots.specs.Tables.{viewAt}
+use Rattle.gaussian.proofs.Sending.{views-from}
+use Rattle.gaussian.proofs.sum_up.Statement.{statement}
+use Rattle.gaussian.proofs.sum_up.Tie as tie
+
+begin-sums-requires : tie.Need-begin-sums-requires
+begin-sums-requires c κs = search needs
+
+slice-aggregate-add-slots : tie.Need-slice-aggregate-add-slots
+slice-aggregate-add-slots c = search needs
+
+add-slots-requires : tie.Need-add-slots-requires
+add-slots-requires c κs = (relaid (c .before .before .before .before .before .before .before .before .before .before .before .before .args .f) (c .before .before .before .before .begin-sums .kept .0) (c .before .before .before .before .before .before .before .before .before .before .before .before .pre .0 .0), (c .before .before .before .before .before .before .before .before .before .before .before .before .pre .1 .0, c .before .before .before .before .before .before .before .before .before .before .before .before .pre .1 .1))
+
+same-length : tie.Need-same-length
+same-length c = search needs
+
+returns : tie.Need-returns
+returns c = views-from (c .before .before .before .before .before .before .before .before .before .before .before .before .before .before .before .before .args .z) (c .before .before .before .before .before .before .before .before .before .before .before .before .before .before .before .before .args .f) (c .before .before .before .before .before .before .before .before .before .before .before .before .before .before .before .before .args .layout) (viewAt (c .before .before .before .before .before .before .before .before .before .before .before .before .before .before .before .before .args .factors .now) (c .before .before .before .before .before .before .before .before .before .before .before .before .before .before .before .before .args .messages .now) (c .before .before .before .before .before .before .before .before .before .before .before .before .before .before .before .before .args .keys .now) (c .before .before .before .before .before .before .before .before .before .before .before .before .before .before .before .before .args .heads .now) (c .before .before .before .before .before .before .before .before .before .before .before .before .before .before .before .before .args .slots .now)) (length (c .before .before .before .before .before .before .before .before .before .before .before .before .before .before .before .before .args .slots .now)) _ (c .before .before .before .before .before .before .before .before .begin-sums .ensures) _ (c .before .before .before .add-slots .ensures)
+
+pub sum-up-spec : {M : Type 1} → statement M
+sum-up-spec =
+    tie.close
+    (tie.spec
+    begin-sums-requires
+    slice-aggregate-add-slots
+    add-slots-requires
+    same-length
+    returns)

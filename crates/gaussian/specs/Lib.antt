@@ -1,0 +1,5 @@
+-- The definitions that the contracts of `gaussian` cite.
+pub mod Elimination
+pub mod Answers
+pub mod Asked
+pub mod Marginals

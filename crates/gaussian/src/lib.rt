@@ -1,0 +1,256 @@
+// One elimination: the cleared keys go out of the factors of its slots, and a message over the kept keys stays.
+pub mod marginal;
+
+use cholesky::Factored;
+use matrix::View;
+use slots::add_slots;
+use slots::count_rows;
+use slots::layout::Layout;
+use slots::layout::dim_of;
+use slots::layout::layout_of;
+use slots::limits::VARIABLES;
+use workspace::Frame;
+use workspace::Part;
+use workspace::cholesky_at;
+use workspace::copy;
+use workspace::fill_diagonal_at;
+use workspace::fill_upper_at;
+use workspace::frame_of;
+use workspace::solve_at;
+use workspace::subtract_at;
+use workspace::zero;
+ghost use mathlib.Core.Path.{_≡_};
+ghost use mathlib.Core.Bool.{false, cond};
+ghost use Prim.Native.Nat.{ℕ, _+_, _-_, _<_, _≤_};
+ghost use lib.ListN.{length, getD};
+ghost use Rattle.matrix.specs.Views.{columns};
+ghost use Rattle.matrix.specs.Triangles.{filledUpper};
+ghost use Rattle.workspace.specs.Sums.{change};
+ghost use Rattle.workspace.specs.Frames.{cut, Laid};
+ghost use Rattle.slots.specs.Layouts.{layoutOf};
+ghost use Rattle.slots.specs.Views.{rowsOfAll, withViews};
+ghost use Rattle.slots.specs.Tables.{headOf, viewAt};
+ghost use Rattle.slots.specs.Fitting.{Ready, Counted};
+ghost use Rattle.gaussian.specs.Elimination.{begun, lost, finished, run, eliminate};
+ghost use Rattle.gaussian.specs.Answers.{endedAs, answer, stored, viewsOf, branchedAt};
+ghost use Rattle.gaussian.specs.Asked.{Asked, Whole};
+
+// How an elimination ended: with a message of so many rows, at a refused pivot of the cleared block, or with a message that is not finite.
+pub enum Eliminated {
+    Rows(usize),
+    Pivot,
+    Unbounded,
+}
+
+// All sums are zero; in x A is the identity.
+fn begin_sums(work: &mut [f64], f: Frame, z: bool)
+    requires { ⌜ Laid f (length (now work)) × (z ≡ false → f .rows ≡ f .kept) ⌝ }
+    ensures { λ _. ⌜ cut f (now (work .exit)) ≡ begun z f ⌝ }
+{
+    zero(work);
+    if z {
+        return;
+    }
+    let v = View {
+        at: 0,
+        down: 1,
+        across: f.rows,
+    };
+    fill_diagonal_at(work, f, v, f.rows);
+}
+
+// The sums over all slots.
+fn sum_up<'a>(
+    work: &mut [f64],
+    f: Frame,
+    z: bool,
+    layout: Layout,
+    factors: &'a [f64],
+    messages: &'a [f64],
+    keys: &[usize],
+    heads: &[usize],
+    slots: &[usize],
+)
+    requires { ⌜ Laid f (length (now work)) × (z ≡ false → f .rows ≡ f .kept) ⌝ }
+    requires { ⌜ Counted (now keys) (now heads) (now slots) ⌝ }
+    requires { ⌜ ((i : ℕ) → i < length (now slots) → Ready f layout z (rowsOfAll layout (viewAt (now factors) (now messages) (now keys) (now heads) (now slots)) i) (now factors) (now messages) (now keys) 192 (headOf (now heads) (getD (now slots) i 0))) ⌝ }
+    ensures { λ _. ⌜ cut f (now (work .exit)) ≡ withViews z f layout (viewAt (now (factors .entry)) (now (messages .entry)) (now (keys .entry)) (now (heads .entry)) (now (slots .entry))) (begun z f) (length (now (slots .entry))) ⌝ }
+{
+    let mut t = [0.0; 192];
+    begin_sums(work, f, z);
+    add_slots(
+        work,
+        &mut t,
+        f,
+        z,
+        layout,
+        factors,
+        messages,
+        keys,
+        heads,
+        slots,
+    );
+}
+
+// In x only the lower triangle of W has been summed: the upper one is filled from it.
+fn fill_upper_in_x(work: &mut [f64], f: Frame, z: bool)
+    requires { ⌜ Laid f (length (now work)) ⌝ }
+    ensures { λ _. ⌜ cut f (now (work .exit)) ≡ change Part.W (λ c. cond z c (filledUpper (columns (f .rows)) c (f .rows))) (cut f (now (work .entry))) ⌝ }
+{
+    if z {
+        return;
+    }
+    fill_upper_at(work, f);
+}
+
+// With L in S: h and G are solved, and xi and W lose G'h and G'G.
+fn lose(work: &mut [f64], f: Frame, z: bool)
+    requires { ⌜ Laid f (length (now work)) ⌝ }
+    ensures { λ _. ⌜ cut f (now (work .exit)) ≡ lost z f (cut f (now (work .entry))) ⌝ }
+{
+    solve_at(work, f, Part::H, 1);
+    solve_at(work, f, Part::G, f.rows);
+    fill_upper_in_x(work, f, z);
+    subtract_at(work, f, Part::Xi, Part::H, 1);
+    subtract_at(work, f, Part::W, Part::G, f.rows);
+}
+
+// The cleared block is factored, and the cleared keys go.
+fn finish(work: &mut [f64], f: Frame, z: bool) -> Factored
+    requires { ⌜ Laid f (length (now work)) ⌝ }
+    ensures { λ r. ⌜ finished z f (cut f (now (work .entry))) ≡ endedAs r (cut f (now (work .exit))) ⌝ }
+{
+    match cholesky_at(work, f) {
+        Factored::Done => {
+            lose(work, f, z);
+            Factored::Done
+        }
+        Factored::Stopped => Factored::Stopped,
+    }
+}
+
+// The elimination in one branch. The message goes into the message store from a place on, once its pivots and its numbers have passed.
+fn eliminate_to(
+    factors: &[f64],
+    messages: &mut [f64],
+    to: usize,
+    work: &mut [f64],
+    f: Frame,
+    z: bool,
+    layout: Layout,
+    keys: &[usize],
+    heads: &[usize],
+    slots: &[usize],
+) -> Eliminated
+    requires { ⌜ Laid f (length (now work)) × (z ≡ false → f .rows ≡ f .kept) ⌝ }
+    requires { ⌜ Counted (now keys) (now heads) (now slots) × (to + (f .end - f .a) ≤ length (now messages)) ⌝ }
+    requires { ⌜ ((i : ℕ) → i < length (now slots) → Ready f layout z (rowsOfAll layout (viewAt (now factors) (now messages) (now keys) (now heads) (now slots)) i) (now factors) (now messages) (now keys) 192 (headOf (now heads) (getD (now slots) i 0))) ⌝ }
+    ensures { λ r. ⌜ r ≡ answer (run z f layout (viewAt (now (factors .entry)) (now (messages .entry)) (now (keys .entry)) (now (heads .entry)) (now (slots .entry))) (length (now (slots .entry)))) ⌝ }
+    ensures { λ _. ⌜ now (messages .exit) ≡ stored (now (messages .entry)) to (run z f layout (viewAt (now (factors .entry)) (now (messages .entry)) (now (keys .entry)) (now (heads .entry)) (now (slots .entry))) (length (now (slots .entry)))) ⌝ }
+{
+    sum_up(
+        work,
+        f,
+        z,
+        layout,
+        factors,
+        &messages[..],
+        keys,
+        heads,
+        slots,
+    );
+    match finish(work, f, z) {
+        Factored::Done => {}
+        Factored::Stopped => return Eliminated::Pivot,
+    }
+    let p = f.a;
+    let q = f.end;
+    if !matrix::finite(&work[p..q]) {
+        return Eliminated::Unbounded;
+    }
+    let e = to + (q - p);
+    copy(&mut messages[to..e], &work[p..q]);
+    Eliminated::Rows(f.rows)
+}
+
+// With the layout at hand: y rows at most the kept dimension d is the z branch, with y rows; otherwise the x branch, with d rows.
+fn eliminate_by(
+    factors: &[f64],
+    messages: &mut [f64],
+    to: usize,
+    work: &mut [f64],
+    u: usize,
+    d: usize,
+    layout: Layout,
+    keys: &[usize],
+    heads: &[usize],
+    slots: &[usize],
+) -> Eliminated
+    requires { ⌜ Whole u d layout (now factors) (now messages) (length (now work)) (now keys) (now heads) (now slots) to ⌝ }
+    ensures { λ r. ⌜ r ≡ answer (branchedAt u d layout (now (factors .entry)) (now (messages .entry)) (now (keys .entry)) (now (heads .entry)) (now (slots .entry))) ⌝ }
+    ensures { λ _. ⌜ now (messages .exit) ≡ stored (now (messages .entry)) to (branchedAt u d layout (now (factors .entry)) (now (messages .entry)) (now (keys .entry)) (now (heads .entry)) (now (slots .entry))) ⌝ }
+{
+    let y = count_rows(layout, keys, heads, slots);
+    if y <= d {
+        let f = frame_of(u, y, d);
+        return eliminate_to(
+            factors,
+            messages,
+            to,
+            work,
+            f,
+            true,
+            layout,
+            keys,
+            heads,
+            slots,
+        );
+    }
+    let f = frame_of(u, d, d);
+    eliminate_to(
+        factors,
+        messages,
+        to,
+        work,
+        f,
+        false,
+        layout,
+        keys,
+        heads,
+        slots,
+    )
+}
+
+// The elimination of the slots of a list, in order. Each slot is a number with a head in the table of heads; `keys` holds the keys of all heads, and `sizes` the size of each key.
+pub fn eliminate_slots(
+    factors: &[f64],
+    messages: &mut [f64],
+    to: usize,
+    work: &mut [f64],
+    kept: &[usize],
+    cleared: &[usize],
+    sizes: [u8; VARIABLES],
+    keys: &[usize],
+    heads: &[usize],
+    slots: &[usize],
+) -> Eliminated
+    requires { ⌜ Asked (now kept) (now cleared) sizes (now factors) (now messages) (length (now work)) (now keys) (now heads) (now slots) to ⌝ }
+    ensures { λ r. ⌜ r ≡ answer (eliminate (viewsOf (now (factors .entry)) (now (messages .entry)) (now (keys .entry)) (now (heads .entry)) (now (slots .entry))) (now (kept .entry)) (now (cleared .entry)) sizes) ⌝ }
+    ensures { λ _. ⌜ now (messages .exit) ≡ stored (now (messages .entry)) to (eliminate (viewsOf (now (factors .entry)) (now (messages .entry)) (now (keys .entry)) (now (heads .entry)) (now (slots .entry))) (now (kept .entry)) (now (cleared .entry)) sizes) ⌝ }
+{
+    let layout = layout_of(kept, cleared, sizes);
+    let u = dim_of(cleared, sizes);
+    let d = dim_of(kept, sizes);
+    eliminate_by(
+        factors,
+        messages,
+        to,
+        work,
+        u,
+        d,
+        layout,
+        keys,
+        heads,
+        slots,
+    )
+}

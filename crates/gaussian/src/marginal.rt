@@ -1,0 +1,149 @@
+// The marginal of a key, from the message over that key alone.
+use cholesky::Factored;
+use matrix::Update;
+use matrix::View;
+ghost use mathlib.Core.Path.{_≡_};
+ghost use Prim.Native.Nat.{_+_, _*_, _≤_};
+ghost use lib.ListN.{length, replicate};
+ghost use Rattle.matrix.specs.Sums.{plus-zero};
+ghost use Rattle.slots.specs.Tables.{numbersOf};
+ghost use Rattle.gaussian.specs.Marginals.{solvedMoments, momentsOf, told, Lent, refusedAs, marginalOf};
+
+// The largest size of a variable, and the numbers of a matrix of as many rows and columns.
+const SIZE: usize = 6;
+
+const SQUARE: usize = SIZE * SIZE;
+
+// A key with its size s, its mean, which has s numbers, and its covariance, which has s times s numbers, column by column. The places after those hold zeros.
+pub struct Marginal {
+    pub key: usize,
+    pub size: usize,
+    pub mean: [f64; SIZE],
+    pub covariance: [f64; SQUARE],
+}
+
+// How the making of a marginal ended: with numbers, at a refused pivot, or with a number that is not finite.
+pub enum Ending {
+    Done,
+    Pivot,
+    Unbounded,
+}
+
+// The ending, and the marginal; refused, it holds zeros.
+pub struct Answer {
+    pub ending: Ending,
+    pub marginal: Marginal,
+}
+
+// The xi in mean becomes the mean, the zeros in covariance the covariance, and the W in l its Cholesky factor.
+fn solve_moments(l: &mut [f64], s: usize, mean: &mut [f64], covariance: &mut [f64]) -> Ending
+    requires { ⌜ Lent s (now mean) (now l) ⌝ }
+    requires { ⌜ now covariance ≡ replicate (s * s) plus-zero ⌝ }
+    ensures { λ r. ⌜ solvedMoments s (now (mean .entry)) (now (l .entry)) ≡ told r (now (mean .exit)) (now (covariance .exit)) ⌝ }
+{
+    let v = View {
+        at: 0,
+        down: 1,
+        across: s,
+    };
+    let Factored::Done = cholesky::cholesky(l, v, s) else {
+        return Ending::Pivot;
+    };
+    cholesky::solve(&l[..], v, s, mean, v, 0);
+    cholesky::inverse(&l[..], v, s, covariance, v);
+    if !matrix::finite(&mean[..]) {
+        return Ending::Unbounded;
+    }
+    if !matrix::finite(&covariance[..]) {
+        return Ending::Unbounded;
+    }
+    Ending::Done
+}
+
+// The mean and the covariance of a message of y rows over s columns. The slices lent hold zeros; t takes W times A.
+fn moments(
+    a: &[f64],
+    xi: &[f64],
+    w: &[f64],
+    y: usize,
+    s: usize,
+    mean: &mut [f64],
+    l: &mut [f64],
+    covariance: &mut [f64],
+    t: &mut [f64],
+) -> Ending
+    requires { ⌜ (y * s ≤ length (now a)) × (y ≤ length (now xi)) × (y * y ≤ length (now w)) × (y * s ≤ length (now t)) × (s ≤ 6) ⌝ }
+    requires { ⌜ (now mean ≡ replicate s plus-zero) × (now l ≡ replicate (s * s) plus-zero) × (now covariance ≡ replicate (s * s) plus-zero) ⌝ }
+    ensures { λ r. ⌜ momentsOf y s (now (a .entry)) (now (xi .entry)) (now (w .entry)) ≡ told r (now (mean .exit)) (now (covariance .exit)) ⌝ }
+{
+    let tall = View {
+        at: 0,
+        down: 1,
+        across: y,
+    };
+    let square = View {
+        at: 0,
+        down: 1,
+        across: s,
+    };
+    matrix::gemv_tr(mean, square, s, Update::Add, a, tall, xi, tall, y);
+    matrix::quadform(l, square, s, w, tall, a, tall, y, t);
+    solve_moments(l, s, mean, covariance)
+}
+
+// The answer of a refusal.
+fn refused(key: usize, size: usize, ending: Ending) -> Answer
+    ensures { λ r. ⌜ r ≡ refusedAs key size ending ⌝ }
+{
+    Answer {
+        ending,
+        marginal: Marginal {
+            key,
+            size,
+            mean: [0.0; SIZE],
+            covariance: [0.0; SQUARE],
+        },
+    }
+}
+
+impl Marginal {
+    // The marginal of a key of size s from the message of so many rows that keeps it alone: A, xi and W stand at the start of the part lent.
+    pub fn from(key: usize, size: usize, rows: usize, message: &[f64]) -> Answer
+        requires { ⌜ (size ≤ 6) × (rows ≤ 32) × (numbersOf rows size ≤ length (now message)) ⌝ }
+        ensures { λ r. ⌜ r ≡ marginalOf key size rows (now (message .entry)) ⌝ }
+    {
+        let o = 0;
+        let p = rows * size;
+        let q = p + rows;
+        let e = q + rows * rows;
+        let square = size * size;
+        let mut mean = [0.0; SIZE];
+        let mut covariance = [0.0; SQUARE];
+        let mut l = [0.0; SQUARE];
+        let mut t = [0.0; 192];
+        match moments(
+            &message[o..p],
+            &message[p..q],
+            &message[q..e],
+            rows,
+            size,
+            &mut mean[0..size],
+            &mut l[0..square],
+            &mut covariance[0..square],
+            &mut t,
+        ) {
+            Ending::Done => {}
+            Ending::Pivot => return refused(key, size, Ending::Pivot),
+            Ending::Unbounded => return refused(key, size, Ending::Unbounded),
+        }
+        Answer {
+            ending: Ending::Done,
+            marginal: Marginal {
+                key,
+                size,
+                mean,
+                covariance,
+            },
+        }
+    }
+}

@@ -1,0 +1,131 @@
+-- `graph::Graph::add_factor` meets its contract: its ways out are those of the verdict (`proofs/Verdicts.antt`). Assumes nothing.
+use mathlib.Core.Path.{_∙_, refl, sym}
+use borrow.Author.Needs.{needs}
+use borrow.Author.Tests.{not-false, not-true}
+use denote.Ref.{now}
+use Rattle.factor.proofs.Counting.{tells}
+use Rattle.factor.proofs.Fitting.{fits-touched}
+use Rattle.factor.specs.Factor.{numbers}
+use Rattle.graph.proofs.Validity.{rows-most}
+use Rattle.graph.proofs.Verdicts.{at-overflow, at-pivot, full, not-given, room-for, short, taken, turned-back, unlike}
+use Rattle.graph.specs.Record.{offset}
+use Rattle.graph.specs.Registration.{refused}
+use Rattle.graph.proofs.Graph.add_factor.Statement.{statement}
+use Rattle.graph.proofs.Graph.add_factor.Tie as tie
+
+lengths-fit-requires : tie.Need-lengths-fit-requires
+lengths-fit-requires c κs = fits-touched (c .before .before .before .before .before .args .t1 .sizes) (c .before .before .before .before .before .args .t1 .variables) (c .before .before .before .before .before .args .f) (c .before .before .before .before .before .pre .1)
+
+refused-requires : tie.Need-refused-requires
+refused-requires c κs = search needs
+
+returns : tie.Need-returns
+returns c = turned-back (c .before .before .before .before .before .before .before .before .args .t1) (c .before .before .before .before .before .before .before .before .args .f) (c .before .before .before .before .before .before .before .before .args .store .now) _ _ _ _ (unlike (c .before .before .before .before .before .before .before .before .args .t1) (c .before .before .before .before .before .before .before .before .args .f) (c .before .before .before .before .before .before .before .before .args .a .now) (c .before .before .before .before .before .before .before .before .args .mean .now) (c .before .before .before .before .before .before .before .before .args .variance .now) (c .before .before .before .before .before .before .before .before .args .store .now) (tells (c .before .before .lengths-fit .ensures) (not-true _ (c .before .if1 .taken)))) (c .refused .ensures) refl
+
+refused-requires-2 : tie.Need-refused-requires-2
+refused-requires-2 c κs = search needs
+
+returns-2 : tie.Need-returns-2
+returns-2 c = turned-back (c .before .before .before .before .before .before .before .before .before .args .t1) (c .before .before .before .before .before .before .before .before .before .args .f) (c .before .before .before .before .before .before .before .before .before .args .store .now) _ _ _ _ (full (c .before .before .before .before .before .before .before .before .before .args .t1) (c .before .before .before .before .before .before .before .before .before .args .f) (c .before .before .before .before .before .before .before .before .before .args .a .now) (c .before .before .before .before .before .before .before .before .before .args .mean .now) (c .before .before .before .before .before .before .before .before .before .args .variance .now) (c .before .before .before .before .before .before .before .before .before .args .store .now) (tells (c .before .before .before .lengths-fit .ensures) (not-false _ (c .before .before .if1 .left))) (c .before .if2 .taken)) (c .refused2 .ensures) refl
+
+offset-requires : tie.Need-offset-requires
+offset-requires c κs = search needs
+
+numbers-requires : tie.Need-numbers-requires
+numbers-requires c κs = fits-touched (c .before .before .before .before .before .before .before .before .before .args .t1 .sizes) (c .before .before .before .before .before .before .before .before .before .args .t1 .variables) (c .before .before .before .before .before .before .before .before .before .args .f) (c .before .before .before .before .before .before .before .before .before .pre .1)
+
+add-if3 : tie.Need-add-if3
+add-if3 c = search needs
+
+refused-requires-3 : tie.Need-refused-requires-3
+refused-requires-3 c κs = search needs
+
+returns-3 : tie.Need-returns-3
+returns-3 c = turned-back (c .before .before .before .before .before .before .before .before .before .before .before .before .args .t1) (c .before .before .before .before .before .before .before .before .before .before .before .before .args .f) (c .before .before .before .before .before .before .before .before .before .before .before .before .args .store .now) _ _ _ _ (short (c .before .before .before .before .before .before .before .before .before .before .before .before .args .t1) (c .before .before .before .before .before .before .before .before .before .before .before .before .args .f) (c .before .before .before .before .before .before .before .before .before .before .before .before .args .a .now) (c .before .before .before .before .before .before .before .before .before .before .before .before .args .mean .now) (c .before .before .before .before .before .before .before .before .before .before .before .before .args .variance .now) (c .before .before .before .before .before .before .before .before .before .before .before .before .args .store .now) (tells (c .before .before .before .before .before .before .lengths-fit .ensures) (not-false _ (c .before .before .before .before .before .if1 .left))) (c .before .before .before .before .if2 .left) (c .before .before .before .offset .result) (c .before .before .numbers .result) (c .before .before .before .offset .ensures .0) (c .before .before .numbers .ensures .0) (c .before .if3 .taken)) (c .refused3 .ensures) refl
+
+given-finite-requires : tie.Need-given-finite-requires
+given-finite-requires c κs = search needs
+
+refused-requires-4 : tie.Need-refused-requires-4
+refused-requires-4 c κs = search needs
+
+returns-4 : tie.Need-returns-4
+returns-4 c = turned-back (c .before .before .before .before .before .before .before .before .before .before .before .before .before .before .args .t1) (c .before .before .before .before .before .before .before .before .before .before .before .before .before .before .args .f) (c .before .before .before .before .before .before .before .before .before .before .before .before .before .before .args .store .now) _ _ _ _ (not-given (c .before .before .before .before .before .before .before .before .before .before .before .before .before .before .args .t1) (c .before .before .before .before .before .before .before .before .before .before .before .before .before .before .args .f) (c .before .before .before .before .before .before .before .before .before .before .before .before .before .before .args .a .now) (c .before .before .before .before .before .before .before .before .before .before .before .before .before .before .args .mean .now) (c .before .before .before .before .before .before .before .before .before .before .before .before .before .before .args .variance .now) (c .before .before .before .before .before .before .before .before .before .before .before .before .before .before .args .store .now) (tells (c .before .before .before .before .before .before .before .before .lengths-fit .ensures) (not-false _ (c .before .before .before .before .before .before .before .if1 .left))) (c .before .before .before .before .before .before .if2 .left) (c .before .before .before .before .before .offset .result) (c .before .before .before .before .numbers .result) (c .before .before .before .before .before .offset .ensures .0) (c .before .before .before .before .numbers .ensures .0) (c .before .before .before .if3 .left) (tells (c .before .before .given-finite .ensures) (not-true _ (c .before .if4 .taken)))) (c .refused4 .ensures) refl
+
+store-factor-requires : tie.Need-store-factor-requires
+store-factor-requires c κs = room-for (c .before .before .before .before .before .before .before .before .before .before .before .before .before .before .args .t1) (c .before .before .before .before .before .before .before .before .before .before .before .before .before .before .args .f) (c .before .before .before .before .before .before .before .before .before .before .before .before .before .before .args .a .now) (c .before .before .before .before .before .before .before .before .before .before .before .before .before .before .args .mean .now) (c .before .before .before .before .before .before .before .before .before .before .before .before .before .before .args .variance .now) (c .before .before .before .before .before .before .before .before .before .before .before .before .before .before .args .store .now) (tells (c .before .before .before .before .before .before .before .before .lengths-fit .ensures) (not-false _ (c .before .before .before .before .before .before .before .if1 .left))) (c .before .before .before .before .before .before .if2 .left) (c .before .before .before .before .before .offset .result) (c .before .before .before .before .numbers .result) (c .before .before .before .before .before .offset .ensures .0) (c .before .before .before .before .numbers .ensures .0) (c .before .before .before .if3 .left) (rows-most (c .before .before .before .before .before .before .before .before .before .before .before .before .before .before .args .t1) (c .before .before .before .before .before .before .before .before .before .before .before .before .before .before .pre .0) (c .before .before .before .before .before .before .before .before .before .before .before .before .before .before .args .f) (c .before .before .before .before .before .before .before .before .before .before .before .before .before .before .pre .1))
+
+enum-told : tie.Need-enum-told
+enum-told c = search needs
+
+enum-told-2 : tie.Need-enum-told-2
+enum-told-2 c = search needs
+
+refused-requires-5 : tie.Need-refused-requires-5
+refused-requires-5 c κs = search needs
+
+same-length : tie.Need-same-length
+same-length c = search needs
+
+returns-5 : tie.Need-returns-5
+returns-5 c = let p = at-pivot (c .before .before .before .before .before .before .before .before .before .before .before .before .before .before .before .before .before .before .before .before .args .t1) (c .before .before .before .before .before .before .before .before .before .before .before .before .before .before .before .before .before .before .before .before .args .f) (c .before .before .before .before .before .before .before .before .before .before .before .before .before .before .before .before .before .before .before .before .args .a .now) (c .before .before .before .before .before .before .before .before .before .before .before .before .before .before .before .before .before .before .before .before .args .mean .now) (c .before .before .before .before .before .before .before .before .before .before .before .before .before .before .before .before .before .before .before .before .args .variance .now) (c .before .before .before .before .before .before .before .before .before .before .before .before .before .before .before .before .before .before .before .before .args .store .now) (tells (c .before .before .before .before .before .before .before .before .before .before .before .before .before .before .lengths-fit .ensures) (not-false _ (c .before .before .before .before .before .before .before .before .before .before .before .before .before .if1 .left))) (c .before .before .before .before .before .before .before .before .before .before .before .before .if2 .left) (c .before .before .before .before .before .before .before .before .before .before .before .offset .result) (c .before .before .before .before .before .before .before .before .before .before .numbers .result) (c .before .before .before .before .before .before .before .before .before .before .before .offset .ensures .0) (c .before .before .before .before .before .before .before .before .before .before .numbers .ensures .0) (c .before .before .before .before .before .before .before .before .before .if3 .left) (tells (c .before .before .before .before .before .before .before .before .given-finite .ensures) (not-false _ (c .before .before .before .before .before .before .before .if4 .left))) (c .before .before .before .before .before .store-factor .last .0) (c .before .before .before .before .before .store-factor .ensures .1) (sym (c .before .enum-told2 .given .1) ∙ c .before .before .before .before .before .store-factor .ensures .0) in turned-back (c .before .before .before .before .before .before .before .before .before .before .before .before .before .before .before .before .before .before .before .before .args .t1) (c .before .before .before .before .before .before .before .before .before .before .before .before .before .before .before .before .before .before .before .before .args .f) (c .before .before .before .before .before .before .before .before .before .before .before .before .before .before .before .before .before .before .before .before .args .store .now) _ _ _ _ (p .0) (c .refused5 .ensures) (p .1)
+
+enum-told-3 : tie.Need-enum-told-3
+enum-told-3 c = search needs
+
+refused-requires-6 : tie.Need-refused-requires-6
+refused-requires-6 c κs = search needs
+
+same-length-2 : tie.Need-same-length-2
+same-length-2 c = search needs
+
+returns-6 : tie.Need-returns-6
+returns-6 c = let p = at-overflow (c .before .before .before .before .before .before .before .before .before .before .before .before .before .before .before .before .before .before .before .before .args .t1) (c .before .before .before .before .before .before .before .before .before .before .before .before .before .before .before .before .before .before .before .before .args .f) (c .before .before .before .before .before .before .before .before .before .before .before .before .before .before .before .before .before .before .before .before .args .a .now) (c .before .before .before .before .before .before .before .before .before .before .before .before .before .before .before .before .before .before .before .before .args .mean .now) (c .before .before .before .before .before .before .before .before .before .before .before .before .before .before .before .before .before .before .before .before .args .variance .now) (c .before .before .before .before .before .before .before .before .before .before .before .before .before .before .before .before .before .before .before .before .args .store .now) (tells (c .before .before .before .before .before .before .before .before .before .before .before .before .before .before .lengths-fit .ensures) (not-false _ (c .before .before .before .before .before .before .before .before .before .before .before .before .before .if1 .left))) (c .before .before .before .before .before .before .before .before .before .before .before .before .if2 .left) (c .before .before .before .before .before .before .before .before .before .before .before .offset .result) (c .before .before .before .before .before .before .before .before .before .before .numbers .result) (c .before .before .before .before .before .before .before .before .before .before .before .offset .ensures .0) (c .before .before .before .before .before .before .before .before .before .before .numbers .ensures .0) (c .before .before .before .before .before .before .before .before .before .if3 .left) (tells (c .before .before .before .before .before .before .before .before .given-finite .ensures) (not-false _ (c .before .before .before .before .before .before .before .if4 .left))) (c .before .before .before .before .before .store-factor .last .0) (c .before .before .before .before .before .store-factor .ensures .1) (sym (c .before .enum-told3 .given .1) ∙ c .before .before .before .before .before .store-factor .ensures .0) in turned-back (c .before .before .before .before .before .before .before .before .before .before .before .before .before .before .before .before .before .before .before .before .args .t1) (c .before .before .before .before .before .before .before .before .before .before .before .before .before .before .before .before .before .before .before .before .args .f) (c .before .before .before .before .before .before .before .before .before .before .before .before .before .before .before .before .before .before .before .before .args .store .now) _ _ _ _ (p .0) (c .refused6 .ensures) (p .1)
+
+mul-f : tie.Need-mul-f
+mul-f c = search needs
+
+element-set-from-f : tie.Need-element-set-from-f
+element-set-from-f c = search needs
+
+add-self : tie.Need-add-self
+add-self c = search needs
+
+same-length-3 : tie.Need-same-length-3
+same-length-3 c = search needs
+
+returns-7 : tie.Need-returns-7
+returns-7 c = taken (c .before .before .before .before .before .before .before .before .before .before .before .before .before .before .before .before .before .before .before .args .t1) (c .before .before .before .before .before .before .before .before .before .before .before .before .before .before .before .before .before .before .before .args .f) (c .before .before .before .before .before .before .before .before .before .before .before .before .before .before .before .before .before .before .before .args .a .now) (c .before .before .before .before .before .before .before .before .before .before .before .before .before .before .before .before .before .before .before .args .mean .now) (c .before .before .before .before .before .before .before .before .before .before .before .before .before .before .before .before .before .before .before .args .variance .now) (c .before .before .before .before .before .before .before .before .before .before .before .before .before .before .before .before .before .before .before .args .store .now) (tells (c .before .before .before .before .before .before .before .before .before .before .before .before .before .lengths-fit .ensures) (not-false _ (c .before .before .before .before .before .before .before .before .before .before .before .before .if1 .left))) (c .before .before .before .before .before .before .before .before .before .before .before .if2 .left) (c .before .before .before .before .before .before .before .before .before .before .offset .result) (c .before .before .before .before .before .before .before .before .before .numbers .result) (c .before .before .before .before .before .before .before .before .before .before .offset .ensures .0) (c .before .before .before .before .before .before .before .before .before .numbers .ensures .0) (c .before .before .before .before .before .before .before .before .if3 .left) (tells (c .before .before .before .before .before .before .before .given-finite .ensures) (not-false _ (c .before .before .before .before .before .before .if4 .left))) (c .before .before .before .before .store-factor .last .0) (c .before .before .before .before .store-factor .ensures .1) (sym (c .enum-told .given .1) ∙ c .before .before .before .before .store-factor .ensures .0)
+
+pub add-factor-spec : {M : Type 1} → statement M
+add-factor-spec =
+    tie.close
+    (tie.spec
+    lengths-fit-requires
+    refused-requires
+    returns
+    refused-requires-2
+    returns-2
+    offset-requires
+    numbers-requires
+    add-if3
+    refused-requires-3
+    returns-3
+    given-finite-requires
+    refused-requires-4
+    returns-4
+    store-factor-requires
+    enum-told
+    enum-told-2
+    refused-requires-5
+    same-length
+    returns-5
+    enum-told-3
+    refused-requires-6
+    same-length-2
+    returns-6
+    mul-f
+    element-set-from-f
+    add-self
+    same-length-3
+    returns-7)

@@ -1,0 +1,60 @@
+-- `graph::Graph::factors_fit` meets its contract. The loop's invariant: the places passed are right, and their keys have room. Assumes nothing.
+use Prim.Native.Nat.{_-_, _<_, _≤_, ℕ}
+use mathlib.Core.Bool.{false≢true, true}
+use mathlib.Core.Path.{_≡_, sym}
+use native.Mathlib.Omega.{arith}
+use borrow.Author.Count.{below-more, below-none}
+use borrow.Author.Needs.{needs}
+use borrow.Author.Tests.{not-false, not-true}
+use lib.ListN.{length}
+use Rattle.factor.proofs.Counting.{all-fail, all-more, all-none, tells}
+use Rattle.factor.specs.Counting.{all}
+use Rattle.factor.specs.Limits.{max-factors, max-keys}
+use Rattle.graph.specs.Record.{factorAt, factorPlace, factorsFit}
+use Rattle.graph.proofs.Graph.factors_fit.Statement.{statement}
+use Rattle.graph.proofs.Graph.factors_fit.Tie as tie
+
+abbrev Inv-loop : tie.InvT-loop
+Inv-loop self number₀ number = (number ≤ max-factors) × (all (λ i. factorPlace self i) number ≡ true) × ((i : ℕ) → i < number → length (factorAt self i .keys) ≡ max-keys)
+
+abbrev μ-loop : tie.MeasureT-loop
+μ-loop self number₀ number = max-factors - number
+
+loop-holds : tie.Need-loop-holds Inv-loop μ-loop
+loop-holds c = (search needs, all-none _, below-none _)
+
+factor-place-requires : tie.Need-factor-place-requires Inv-loop μ-loop
+factor-place-requires c κs = search needs
+
+returns : tie.Need-returns Inv-loop μ-loop
+unfolding factorsFit
+returns c = (sym (all-fail (λ i. factorPlace (c .before .before .before .before .args .self) i) max-factors (c .before .before .before .loop .number) (search needs) (tells (c .before .factor-place .ensures .0) (not-true _ (c .if1 .taken)))), λ x. absurd (false≢true x))
+
+add-number : tie.Need-add-number Inv-loop μ-loop
+add-number c = search needs
+
+loop-less : tie.Need-loop-less Inv-loop μ-loop
+loop-less c = search needs
+
+loop-again : tie.Need-loop-again Inv-loop μ-loop
+loop-again c = (search needs, all-more _ _ (c .before .before .before .loop .inv .1) (tells (c .before .factor-place .ensures .0) (not-false _ (c .if1 .left))), below-more _ _ (c .before .before .before .loop .inv .2) (c .before .factor-place .ensures .1))
+
+returns-2 : tie.Need-returns-2 Inv-loop μ-loop
+unfolding factorsFit
+returns-2 c =
+    let e : c .before .loop .number ≡ max-factors = omega arith in
+    (sym (rw e at (c .before .loop .inv .1)), λ _ i l. c .before .loop .inv .2 i (omega arith))
+
+pub factors-fit-spec : {M : Type 1} → statement M
+factors-fit-spec =
+    tie.close
+    (tie.spec
+    Inv-loop
+    μ-loop
+    loop-holds
+    factor-place-requires
+    returns
+    add-number
+    loop-less
+    loop-again
+    returns-2)

@@ -1,0 +1,63 @@
+-- `graph::Graph::offset` meets its contract. The loop's invariant: the numbers of the factors passed, added up. Assumes nothing.
+use Prim.Native.Nat.{_*_, _+_, _-_, _≤_, ℕ}
+use mathlib.Core.Path.{_∙_, _≡_, ap, sym}
+use native.Mathlib.Omega.{arith}
+use borrow.Author.Needs.{needs}
+use Rattle.factor.proofs.Counting.{sum-more, sum-none}
+use Rattle.factor.specs.Factor.{numbers}
+use Rattle.factor.specs.Limits.{most-numbers}
+use Rattle.graph.proofs.Validity.{valid-count, valid-touched}
+use Rattle.graph.specs.Record.{factorAt, offset}
+use Rattle.factor.specs.Counting as counting
+use Rattle.graph.proofs.Graph.offset.Statement.{statement}
+use Rattle.graph.proofs.Graph.offset.Tie as tie
+
+abbrev Inv-loop : tie.InvT-loop
+Inv-loop number self sizes sum₀ i₀ sum i = (i ≤ number) × (sum ≤ most-numbers * i) × (sum ≡ counting.sum (λ k. numbers sizes (factorAt self k)) i)
+
+abbrev μ-loop : tie.MeasureT-loop
+μ-loop number self sizes sum₀ i₀ sum i = number - i
+
+loop-holds : tie.Need-loop-holds Inv-loop μ-loop
+loop-holds c = (search needs, search needs, sym (sum-none _))
+
+mul-f : tie.Need-mul-f Inv-loop μ-loop
+mul-f c = omega (arith, valid-count (c .before .before .before .args .t1) (c .before .before .before .pre .0))
+
+element-copy-out-f : tie.Need-element-copy-out-f Inv-loop μ-loop
+element-copy-out-f c = omega (arith, valid-count (c .before .before .before .args .t1) (c .before .before .before .pre .0))
+
+numbers-requires : tie.Need-numbers-requires Inv-loop μ-loop
+numbers-requires c κs = valid-touched (c .before .before .before .before .args .t1) (c .before .before .before .before .pre .0) (c .before .before .loop .i) (omega arith)
+
+add-sum : tie.Need-add-sum Inv-loop μ-loop
+add-sum c = omega (arith, c .numbers .ensures .1, c .before .before .before .loop .inv .1, valid-count (c .before .before .before .before .before .args .t1) (c .before .before .before .before .before .pre .0))
+
+add-i : tie.Need-add-i Inv-loop μ-loop
+add-i c = search needs
+
+loop-less : tie.Need-loop-less Inv-loop μ-loop
+loop-less c = search needs
+
+loop-again : tie.Need-loop-again Inv-loop μ-loop
+loop-again c = (omega arith, omega (arith, c .numbers .ensures .1, c .before .before .before .loop .inv .1), ap (λ (x : ℕ). c .before .before .before .loop .sum + x) (c .numbers .ensures .0) ∙ ap (λ (x : ℕ). x + numbers (c .before .before .before .before .before .args .t1 .sizes) (factorAt (c .before .before .before .before .before .args .t1) (c .before .before .before .loop .i))) (c .before .before .before .loop .inv .2) ∙ sym (sum-more (λ k. numbers (c .before .before .before .before .before .args .t1 .sizes) (factorAt (c .before .before .before .before .before .args .t1) k)) (c .before .before .before .loop .i)))
+
+returns : tie.Need-returns Inv-loop μ-loop
+unfolding offset
+returns c = let e : c .before .loop .i ≡ c .before .before .before .args .number = omega arith in (c .before .loop .inv .2 ∙ ap (counting.sum (λ k. numbers (c .before .before .before .args .t1 .sizes) (factorAt (c .before .before .before .args .t1) k))) e, omega (arith, c .before .loop .inv .1, valid-count (c .before .before .before .args .t1) (c .before .before .before .pre .0)))
+
+pub offset-spec : {M : Type 1} → statement M
+offset-spec =
+    tie.close
+    (tie.spec
+    Inv-loop
+    μ-loop
+    loop-holds
+    mul-f
+    element-copy-out-f
+    numbers-requires
+    add-sum
+    add-i
+    loop-less
+    loop-again
+    returns)

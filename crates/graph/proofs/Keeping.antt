@@ -1,0 +1,298 @@
+-- Each registering call keeps a record valid, whether it refuses or not. Assumes nothing.
+use Prim.Native.Nat.{ℕ, _+_, _<_, _≤_}
+use mathlib.Core.Path.{_≡_, refl, sym, ap, _∙_}
+use mathlib.Core.Bool.{Bool, true, false, not, cond}
+use mathlib.Core.List.{List, [], _∷_}
+use native.Mathlib.Omega.{arith}
+use native.Mathlib.Decide.{decLt}
+use borrow.Author.Tests.{ltb-true, ltb-false, leb-true, eqb-true, le-leb}
+use lib.Dec.{ltb, leb}
+use lib.Ieee.{Float}
+use lib.ListN.{length, getD-replicate, length-set}
+use lib.Seq.{getD-set-same, getD-set-other}
+use Rattle.factor.specs.Limits.{max-variables, max-total, max-factors, max-keys}
+use Rattle.factor.specs.Counting.{every, all, sum}
+use Rattle.factor.specs.Factor.{rising, known, noFactor, past, priorOf, observationOf, fits, isClear, lengthsFit, givenFinite, numbers}
+use Rattle.factor.specs.Weighing.{Weight, weight, noPivot, noNumber, weighed}
+use Rattle.factor.specs.declared.Factor.{Factor}
+use Rattle.factor.proofs.Counting.{every-at, every-3, every-5, by-test, all-of, all-ext, sum-put}
+use Rattle.factor.proofs.Fitting.{fits-more, prior-fits, observation-fits, observation-long}
+use Rattle.graph.specs.Record.{noName, nameAt, sizeAt, factorAt, fresh, scalar, sizeFits, same, free, total, registered, clear, place, variablesFit, factorPlace, factorsFit, offset, valid}
+use Rattle.graph.specs.Registration.{withVariable, addVariable, Verdict, withFactor, settle, weighedVerdict, factorVerdict, priorVerdict, addPrior, countsFit, observationVerdict, addObservation}
+use Rattle.graph.specs.Reached.{Call, variable, prior, observation, after, yields, Reached}
+use Rattle.graph.specs.declared.Symbol.{Symbol}
+use Rattle.graph.specs.declared.Graph.{Graph}
+use Rattle.graph.specs.declared.Added.{Added}
+use Rattle.graph.proofs.Validity.{valid-variables, valid-count, valid-total, valid-registered, valid-clear, valid-factor, valid-no-factor}
+
+-- the arrays have the lengths that the struct declares
+pub record Shaped (g : Graph) : Type 0 where
+  pub symbols : length (g .symbols) ≡ max-variables
+  pub sizes : length (g .sizes) ≡ max-variables
+  pub factors : length (g .factors) ≡ max-factors
+  pub keys : (i : ℕ) → i < max-factors → length (factorAt g i .keys) ≡ max-keys
+
+-- what makes a record valid, index by index
+pub record Sound (g : Graph) : Type 0 where
+  pub few : g .variables ≤ max-variables
+  pub few-factors : g .count ≤ max-factors
+  pub used : (i : ℕ) → i < g .variables → registered g i ≡ true
+  pub unused : (i : ℕ) → g .variables ≤ i → i < max-variables → clear g i ≡ true
+  pub room : total g ≤ max-total
+  pub good : (i : ℕ) → i < g .count → fits (g .sizes) (g .variables) (factorAt g i) ≡ true
+  pub none : (i : ℕ) → g .count ≤ i → i < max-factors → isClear (factorAt g i) ≡ true
+
+pub sound-of : (g : Graph) → valid g ≡ true → Sound g
+sound-of g v =
+    record {
+      few = valid-variables g v;
+      few-factors = valid-count g v;
+      used = valid-registered g v;
+      unused = valid-clear g v;
+      room = valid-total g v;
+      good = valid-factor g v;
+      none = valid-no-factor g v;
+    }
+
+valid-of : (g : Graph) → Sound g → valid g ≡ true
+unfolding valid variablesFit factorsFit place factorPlace
+valid-of g s =
+    every-5 _ _ _ _ _
+    (le-leb _ _ (s .few))
+    (le-leb _ _ (s .few-factors))
+    (all-of (λ i. place g i) max-variables (λ i l. by-test _ _ _ (λ t. s .used i (ltb-true _ _ t)) (λ t. s .unused i (ltb-false _ _ t) l)))
+    (le-leb _ _ (s .room))
+    (all-of (λ i. factorPlace g i) max-factors (λ i l. by-test _ _ _ (λ t. s .good i (ltb-true _ _ t)) (λ t. s .none i (ltb-false _ _ t) l)))
+
+-- ---- what a place of the variables looks at
+
+pub free-ext : (g h : Graph) (n : ℕ) (name : Symbol) → ((j : ℕ) → j < n → nameAt g j ≡ nameAt h j) → free g n name ≡ free h n name
+unfolding free
+free-ext g h n name e = all-ext _ _ n (λ j l. ap (λ (s : Symbol). not (same s name)) (e j l))
+
+registered-ext : (g h : Graph) (i : ℕ) → ((j : ℕ) → j < i + 1 → nameAt g j ≡ nameAt h j) → sizeAt g i ≡ sizeAt h i → registered g i ≡ registered h i
+unfolding registered
+registered-ext g h i e s =
+    let a : nameAt g i ≡ nameAt h i = e i (omega arith) in
+    let b : free g i (nameAt g i) ≡ free h i (nameAt g i) = free-ext g h i (nameAt g i) (λ j l. e j (omega arith)) in
+    rw (b, a, s)
+
+clear-ext : (g h : Graph) (i : ℕ) → nameAt g i ≡ nameAt h i → sizeAt g i ≡ sizeAt h i → clear g i ≡ clear h i
+unfolding clear
+clear-ext g h i e s = rw (e, s)
+
+same-is : (a b : Symbol) → same a b ≡ true → a ≡ b
+unfolding same
+same-is a b e = λ i. record { 0 = eqb-true (a .0) (b .0) (every-at _ 0 e) i; 1 = eqb-true (a .1) (b .1) (every-at _ 1 e) i }
+
+pub clear-name : (g : Graph) (i : ℕ) → clear g i ≡ true → nameAt g i ≡ noName
+unfolding clear
+clear-name g i e = same-is _ _ (every-at _ 0 e)
+
+pub clear-size : (g : Graph) (i : ℕ) → clear g i ≡ true → sizeAt g i ≡ 0
+unfolding clear
+clear-size g i e = eqb-true _ _ (every-at _ 1 e)
+
+-- ---- a variable more
+
+module _ (g : Graph) (sh : Shaped g) (so : Sound g) (name : Symbol) (size : ℕ) (h1 : scalar (name .0) ≡ true) (h2 : sizeFits size ≡ true) (h10 : free g (g .variables) name ≡ true)
+    (h12 : g .variables < max-variables) (h12′ : total g + size ≤ max-total) where
+  abbrev n : ℕ
+  n = g .variables
+
+  abbrev h : Graph
+  h = withVariable g name size
+
+  name-at : nameAt h n ≡ name
+  name-at = getD-set-same (g .symbols) n name noName (omega (arith, sh .symbols))
+
+  size-at : sizeAt h n ≡ size
+  size-at = getD-set-same (g .sizes) n size 0 (omega (arith, sh .sizes))
+
+  name-else : (i : ℕ) → (i ≡ n → ⊥) → nameAt h i ≡ nameAt g i
+  name-else i d = getD-set-other (g .symbols) n i name noName d
+
+  size-else : (i : ℕ) → (i ≡ n → ⊥) → sizeAt h i ≡ sizeAt g i
+  size-else i d = getD-set-other (g .sizes) n i size 0 d
+
+  new-place : registered h n ≡ true
+  unfolding registered
+  new-place =
+      every-3 _ _ _ (ap (λ (s : Symbol). scalar (s .0)) name-at ∙ h1) (ap sizeFits size-at ∙ h2)
+      (ap (λ (s : Symbol). free h n s) name-at ∙ free-ext h g n name (λ j k. name-else j (λ x. omega arith)) ∙ h10)
+
+  used-more : (i : ℕ) → i < n + 1 → registered h i ≡ true
+  used-more i l = go (decLt i n)
+    where
+      go : Dec (i < n) → registered h i ≡ true
+      go (yes m) = registered-ext h g i (λ j k. name-else j (λ x. omega arith)) (size-else i (λ x. omega arith)) ∙ so .used i m
+      go (no m) = let e : i ≡ n = omega arith in rw e new-place
+
+  total-more : total h ≡ total g + size
+  unfolding total
+  total-more =
+      sum-put (λ i. sizeAt g i) (λ i. sizeAt h i) n max-variables h12 (λ i l d. size-else i d) (clear-size g n (so .unused n (omega arith) h12))
+      ∙ ap (λ (x : ℕ). sum (λ i. sizeAt g i) max-variables + x) size-at
+
+  variable-sound : Sound h
+  variable-sound =
+      record {
+        few = omega arith;
+        few-factors = so .few-factors;
+        used = used-more;
+        unused = λ i l m. clear-ext h g i (name-else i (λ x. omega arith)) (size-else i (λ x. omega arith)) ∙ so .unused i (omega arith) m;
+        room = omega (arith, total-more);
+        good = λ i l. fits-more (g .sizes) (h .sizes) (g .variables) (h .variables) (omega arith) (λ j k. sym (size-else j (λ x. omega arith))) (factorAt g i) (so .good i l);
+        none = so .none;
+      }
+
+  variable-shaped : Shaped h
+  variable-shaped =
+      record {
+        symbols = length-set (g .symbols) n name ∙ sh .symbols;
+        sizes = length-set (g .sizes) n size ∙ sh .sizes;
+        factors = sh .factors;
+        keys = sh .keys;
+      }
+
+-- ---- a factor more
+
+module _ (g : Graph) (sh : Shaped g) (so : Sound g) (f : Factor) (h12 : g .count < max-factors) (fit : fits (g .sizes) (g .variables) f ≡ true) (long : length (f .keys) ≡ max-keys) where
+  factor-at : factorAt (withFactor g f) (g .count) ≡ f
+  factor-at = getD-set-same (g .factors) (g .count) f past (omega (arith, sh .factors))
+
+  factor-else : (i : ℕ) → (i ≡ g .count → ⊥) → factorAt (withFactor g f) i ≡ factorAt g i
+  factor-else i d = getD-set-other (g .factors) (g .count) i f past d
+
+  good-more : (i : ℕ) → i < g .count + 1 → fits (g .sizes) (g .variables) (factorAt (withFactor g f) i) ≡ true
+  good-more i l = go (decLt i (g .count))
+    where
+      go : Dec (i < g .count) → fits (g .sizes) (g .variables) (factorAt (withFactor g f) i) ≡ true
+      go (yes m) = rw (factor-else i (λ x. omega arith)) (so .good i m)
+      go (no m) = let e : i ≡ g .count = omega arith in rw (e, factor-at) fit
+
+  factor-sound : Sound (withFactor g f)
+  unfolding total
+  factor-sound =
+      record {
+        few = so .few;
+        few-factors = omega arith;
+        used = λ i l. registered-ext (withFactor g f) g i (λ j k. refl) refl ∙ so .used i l;
+        unused = λ i l m. clear-ext (withFactor g f) g i refl refl ∙ so .unused i l m;
+        room = so .room;
+        good = good-more;
+        none = λ i l m. ap isClear (factor-else i (λ x. omega arith)) ∙ so .none i (omega arith) m;
+      }
+
+  keys-more : (i : ℕ) → i < max-factors → Dec (i < g .count) → Dec (g .count < i) → length (factorAt (withFactor g f) i .keys) ≡ max-keys
+  keys-more i l (yes m) d = ap (λ (x : Factor). length (x .keys)) (factor-else i (λ x. omega arith)) ∙ sh .keys i l
+  keys-more i l (no m) (yes k) = ap (λ (x : Factor). length (x .keys)) (factor-else i (λ x. omega arith)) ∙ sh .keys i l
+  keys-more i l (no m) (no k) =
+      let e : i ≡ g .count = omega arith in
+      ap (λ (j : ℕ). length (factorAt (withFactor g f) j .keys)) e ∙ ap (λ (x : Factor). length (x .keys)) factor-at ∙ long
+
+  factor-shaped : Shaped (withFactor g f)
+  factor-shaped =
+      record {
+        symbols = sh .symbols;
+        sizes = sh .sizes;
+        factors = length-set (g .factors) (g .count) f ∙ sh .factors;
+        keys = λ i l. keys-more i l (decLt i (g .count)) (decLt (g .count) i);
+      }
+
+-- ---- each call
+
+-- by a check: what holds of the refusal and of the rest holds of both
+case {ℓ} : {A : Type ℓ} (P : A → Type 0) (b : Bool) (x y : A) → (b ≡ true → P y) → (b ≡ false → P x) → P (cond (not b) x y)
+case P true x y f h = f refl
+case P false x y f h = h refl
+
+abbrev pub Good : Graph → Type 0
+Good g = Shaped g × (valid g ≡ true)
+
+module _ (g : Graph) (ok : Good g) where
+  abbrev so : Sound g
+  so = sound-of g (ok .1)
+
+  variable-good : (name : Symbol) (size : ℕ) → Good (addVariable g name size .graph)
+  unfolding addVariable
+  variable-good name size =
+      case P (valid g) _ _
+      (λ h30. case P (scalar (name .0)) _ _
+      (λ h1. case P (sizeFits size) _ _
+      (λ h2. case P (free g (g .variables) name) _ _
+      (λ h10. case P (every (ltb (g .variables) max-variables ∷ leb (total g + size) max-total ∷ [])) _ _
+      (λ h12.
+      let a : g .variables < max-variables = ltb-true _ _ (every-at _ 0 h12) in
+      let b : total g + size ≤ max-total = leb-true _ _ (every-at _ 1 h12) in
+      (variable-shaped g (ok .0) so name size h1 h2 h10 a b, valid-of _ (variable-sound g (ok .0) so name size h1 h2 h10 a b)))
+      (λ _. ok)) (λ _. ok)) (λ _. ok)) (λ _. ok)) (λ _. ok)
+    where
+      P : Added → Type 0
+      P x = Good (x .graph)
+
+  module _ (f : Factor) (fit : fits (g .sizes) (g .variables) f ≡ true) (long : length (f .keys) ≡ max-keys) where
+    weighed-good : g .count < max-factors → (a : List Float) (w : Weight) → Good (settle g f (weighedVerdict a w) .graph)
+    weighed-good l a (weight xi w) = (factor-shaped g (ok .0) so f l fit long, valid-of _ (factor-sound g (ok .0) so f l fit long))
+    weighed-good l a noPivot = ok
+    weighed-good l a noNumber = ok
+
+    factor-good : (a mean variance store : List Float) → Good (settle g f (factorVerdict g f a mean variance store) .graph)
+    unfolding factorVerdict
+    factor-good a mean variance store =
+        case P (lengthsFit (g .sizes) f (length a) (length mean) (length variance)) _ _
+        (λ h5. case P (ltb (g .count) max-factors) _ _
+        (λ h12. case P (leb (offset g (g .count) + numbers (g .sizes) f) (length store)) _ _
+        (λ h13. case P (givenFinite a mean variance) _ _
+        (λ h6. weighed-good (ltb-true _ _ h12) a (weighed (f .rows) mean variance))
+        (λ _. ok)) (λ _. ok)) (λ _. ok)) (λ _. ok)
+      where
+        P : Verdict → Type 0
+        P x = Good (settle g f x .graph)
+
+  prior-good : (key : ℕ) (mean variance store : List Float) → Good (addPrior g key mean variance store .graph)
+  unfolding addPrior priorVerdict
+  prior-good key mean variance store =
+      case P (valid g) _ _
+      (λ h30. case P (ltb key (g .variables)) _ _
+      (λ h11. factor-good (priorOf key (sizeAt g key)) (prior-fits (g .sizes) (g .variables) key (ltb-true _ _ h11)) refl [] mean variance store)
+      (λ _. ok)) (λ _. ok)
+    where
+      P : Verdict → Type 0
+      P x = Good (settle g (priorOf key (sizeAt g key)) x .graph)
+
+  observation-good : (keys : List ℕ) (rows : ℕ) (a mean variance store : List Float) → Good (addObservation g keys rows a mean variance store .graph)
+  unfolding addObservation observationVerdict countsFit
+  observation-good keys rows a mean variance store =
+      case P (valid g) _ _
+      (λ h30. case P (countsFit (length keys) rows) _ _
+      (λ h4. case P (rising keys) _ _
+      (λ h3. case P (known (g .variables) keys) _ _
+      (λ h11.
+      let few : length keys ≤ max-keys = leb-true _ _ (every-at _ 0 h4) in
+      let fit : fits (g .sizes) (g .variables) (observationOf keys rows) ≡ true =
+      observation-fits keys (g .sizes) (g .variables) rows few (leb-true _ _ (every-at _ 1 h4)) (leb-true _ _ (every-at _ 2 h4)) h3 h11 in
+      factor-good (observationOf keys rows) fit (observation-long keys few) a mean variance store)
+      (λ _. ok)) (λ _. ok)) (λ _. ok)) (λ _. ok)
+    where
+      P : Verdict → Type 0
+      P x = Good (settle g (observationOf keys rows) x .graph)
+
+  after-good : (c : Call) → Good (after g c)
+  unfolding after
+  after-good (variable name size) = variable-good name size
+  after-good (prior key mean variance store) = prior-good key mean variance store
+  after-good (observation keys rows a mean variance store) = observation-good keys rows a mean variance store
+
+fresh-good : Good fresh
+unfolding valid variablesFit factorsFit every all place clear same factorPlace isClear total sum
+fresh-good = (record { symbols = refl; sizes = refl; factors = refl; keys = λ i l. ap (λ (x : Factor). length (x .keys)) (getD-replicate max-factors i noFactor past l) }, refl)
+
+yields-good : (cs : List Call) (g : Graph) → Good g → Good (yields g cs)
+unfolding yields
+yields-good [] g ok = ok
+yields-good (c ∷ cs) g ok = yields-good cs (after g c) (after-good g ok c)
+
+-- a graph that some list of calls yields is valid
+pub good-of : (g : Graph) → Reached g → Good g
+good-of g r = rw (r .1) at (yields-good (r .0) fresh fresh-good)

@@ -1,0 +1,8 @@
+-- Laws that several proofs cite.
+pub mod Validity
+pub mod Keeping
+pub mod Filling
+pub mod Passing
+pub mod Exactness
+pub mod Verdicts
+pub mod Examples

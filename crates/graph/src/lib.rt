@@ -1,0 +1,396 @@
+// The factor graph as a plain value, and the calls that register its variables and factors.
+pub mod answer;
+mod checks;
+pub mod refusal;
+
+use answer::KeySize;
+use answer::KeySymbol;
+use answer::SymbolKey;
+use checks::counts_fit;
+use checks::same;
+use checks::scalar;
+use checks::size_fits;
+use factor::Factor;
+use factor::Weighed;
+use factor::limits::FACTORS;
+use factor::limits::KEYS;
+use factor::limits::TOTAL;
+use factor::limits::VARIABLES;
+use refusal::Refusal;
+ghost use mathlib.Core.Path.{_≡_};
+ghost use mathlib.Core.Bool.{true};
+ghost use mathlib.Core.Logic.{_↔_};
+ghost use Prim.Native.Nat.{ℕ, _*_, _<_, _≤_};
+ghost use lib.ListN.{length};
+ghost use Rattle.factor.specs.Limits.{max-variables, max-factors, max-keys, most-numbers};
+ghost use Rattle.factor.specs.Factor.{fits};
+ghost use Rattle.graph.specs.Record as spec;
+ghost use Rattle.graph.specs.Registration as calls;
+ghost use Rattle.graph.specs.Reached.{Reached};
+
+// The name of a variable: a letter and an index.
+pub struct Symbol(pub u32, pub u32);
+
+// The variables in order of registration, which is their key, and the factors. Unused places hold zeros, and nothing is kept that can be worked out: equal graphs are equal records.
+pub struct Graph {
+    pub symbols: [Symbol; VARIABLES],
+    pub sizes: [u8; VARIABLES],
+    pub variables: usize,
+    pub factors: [Factor; FACTORS],
+    pub count: usize,
+}
+
+// The key of a new variable, the number of a new factor, or a refusal.
+pub enum Outcome {
+    Key(usize),
+    Number(usize),
+    Refused(Refusal),
+}
+
+// What a registering call answers: the graph with its new state, and the outcome.
+pub struct Added {
+    pub graph: Graph,
+    pub outcome: Outcome,
+}
+
+impl Graph {
+    // No variables and no factors.
+    pub fn new() -> Graph
+        ensures { λ r. ⌜ r ≡ spec.fresh ⌝ }
+    {
+        let none = Factor {
+            prior: false,
+            touched: 0,
+            rows: 0,
+            keys: [0; KEYS],
+        };
+        Graph {
+            symbols: [Symbol(0, 0); VARIABLES],
+            sizes: [0; VARIABLES],
+            variables: 0,
+            factors: [none; FACTORS],
+            count: 0,
+        }
+    }
+
+    pub fn n_keys(self) -> usize
+        ensures { λ r. ⌜ r ≡ self .variables ⌝ }
+    {
+        self.variables
+    }
+
+    pub fn n_factors(self) -> usize
+        ensures { λ r. ⌜ r ≡ self .count ⌝ }
+    {
+        self.count
+    }
+
+    // A key is a position of registration; no record has more than there is room for.
+    pub fn has_key(self, key: usize) -> bool
+        ensures { λ r. ⌜ r ≡ spec.hasKey self key ⌝ }
+    {
+        key < self.variables && key < VARIABLES
+    }
+
+    pub fn size(self, key: usize) -> KeySize
+        ensures { λ r. ⌜ r ≡ spec.sizeOfKey self key ⌝ }
+    {
+        if !self.has_key(key) {
+            return KeySize::Absent;
+        }
+        let sizes = self.sizes;
+        KeySize::Is(factor::size_of(sizes, key))
+    }
+
+    pub fn symbol(self, key: usize) -> KeySymbol
+        ensures { λ r. ⌜ r ≡ spec.symbolOfKey self key ⌝ }
+    {
+        if !self.has_key(key) {
+            return KeySymbol::Absent;
+        }
+        let name = self.symbols[key];
+        KeySymbol::Is(name)
+    }
+
+    // The key of a name.
+    pub fn key(self, name: Symbol) -> SymbolKey
+        ensures { λ r. ⌜ r ≡ spec.keyOf self name ⌝ }
+    {
+        for key in 0..VARIABLES {
+            if !self.has_key(key) {
+                return SymbolKey::Absent;
+            }
+            let here = self.symbols[key];
+            if same(here, name) {
+                return SymbolKey::Is(key);
+            }
+        }
+        SymbolKey::Absent
+    }
+
+    // None of the first n variables has the name.
+    fn free(self, n: usize, name: Symbol) -> bool
+        requires { ⌜ n ≤ max-variables ⌝ }
+        ensures { λ r. ⌜ r ≡ spec.free self n name ⌝ }
+    {
+        for key in 0..n {
+            let other = self.symbols[key];
+            if same(other, name) {
+                return false;
+            }
+        }
+        true
+    }
+
+    // All sizes, added up.
+    fn total(self) -> usize
+        ensures { λ r. ⌜ r ≡ spec.total self ⌝ }
+    {
+        let sizes = self.sizes;
+        let mut sum = 0;
+        for key in 0..VARIABLES {
+            sum += factor::size_of(sizes, key);
+        }
+        sum
+    }
+
+    // The place of a key holds a variable.
+    fn registered(self, key: usize) -> bool
+        requires { ⌜ key < max-variables ⌝ }
+        ensures { λ r. ⌜ r ≡ spec.registered self key ⌝ }
+    {
+        let name = self.symbols[key];
+        if !scalar(name.0) {
+            return false;
+        }
+        let sizes = self.sizes;
+        if !size_fits(factor::size_of(sizes, key)) {
+            return false;
+        }
+        self.free(key, name)
+    }
+
+    // The place of a key holds nothing.
+    fn clear(self, key: usize) -> bool
+        requires { ⌜ key < max-variables ⌝ }
+        ensures { λ r. ⌜ r ≡ spec.clear self key ⌝ }
+    {
+        let name = self.symbols[key];
+        same(name, Symbol(0, 0)) && self.sizes[key] == 0
+    }
+
+    fn place(self, key: usize) -> bool
+        requires { ⌜ key < max-variables ⌝ }
+        ensures { λ r. ⌜ r ≡ spec.place self key ⌝ }
+    {
+        if key < self.variables {
+            self.registered(key)
+        } else {
+            self.clear(key)
+        }
+    }
+
+    // A place of the factors holds a factor of registered keys, or nothing.
+    fn factor_place(self, number: usize) -> bool
+        requires { ⌜ number < max-factors ⌝ }
+        ensures { λ r. ⌜ (r ≡ spec.factorPlace self number) × (length (spec.factorAt self number .keys) ≡ max-keys) ⌝ }
+    {
+        let f = self.factors[number];
+        let sizes = self.sizes;
+        if number < self.count {
+            f.fits(sizes, self.variables)
+        } else {
+            f.is_clear()
+        }
+    }
+
+    fn variables_fit(self) -> bool
+        ensures { λ r. ⌜ r ≡ spec.variablesFit self ⌝ }
+    {
+        for key in 0..VARIABLES {
+            if !self.place(key) {
+                return false;
+            }
+        }
+        true
+    }
+
+    fn factors_fit(self) -> bool
+        ensures { λ r. ⌜ r ≡ spec.factorsFit self ⌝ }
+        ensures { λ r. ⌜ (r ≡ true → (i : ℕ) → i < max-factors → length (spec.factorAt self i .keys) ≡ max-keys) ⌝ }
+    {
+        for number in 0..FACTORS {
+            if !self.factor_place(number) {
+                return false;
+            }
+        }
+        true
+    }
+
+    // The record is one that some list of registering calls yields.
+    pub fn valid(self) -> bool
+        ensures { λ r. ⌜ (r ≡ spec.valid self) × ((r ≡ true) ↔ Reached self) ⌝ }
+    {
+        if VARIABLES < self.variables {
+            return false;
+        }
+        if FACTORS < self.count {
+            return false;
+        }
+        if !self.variables_fit() {
+            return false;
+        }
+        if TOTAL < self.total() {
+            return false;
+        }
+        self.factors_fit()
+    }
+
+    // Where the numbers of a factor begin in the factor store; at the count of factors, where the next one's will.
+    pub fn offset(self, number: usize) -> usize
+        requires { ⌜ (spec.valid self ≡ true) × (number ≤ self .count) ⌝ }
+        ensures { λ r. ⌜ (r ≡ spec.offset self number) × (r ≤ most-numbers * max-factors) ⌝ }
+    {
+        let sizes = self.sizes;
+        let mut sum = 0;
+        for i in 0..number {
+            let f = self.factors[i];
+            sum += f.numbers(sizes);
+        }
+        sum
+    }
+
+    // The graph as it came, and why.
+    fn refused(self, why: Refusal) -> Added
+        ensures { λ r. ⌜ r ≡ calls.refused self why ⌝ }
+    {
+        Added {
+            graph: self,
+            outcome: Outcome::Refused(why),
+        }
+    }
+
+    // A variable gets the next key.
+    pub fn add_variable(mut self, name: Symbol, size: usize) -> Added
+        ensures { λ r. ⌜ r ≡ calls.addVariable self name size ⌝ }
+    {
+        if !self.valid() {
+            return self.refused(Refusal::NoSuchGraph);
+        }
+        if !scalar(name.0) {
+            return self.refused(Refusal::NotALetter);
+        }
+        if !size_fits(size) {
+            return self.refused(Refusal::SizeOutside);
+        }
+        let n = self.variables;
+        if !self.free(n, name) {
+            return self.refused(Refusal::NameTaken);
+        }
+        if VARIABLES <= n {
+            return self.refused(Refusal::PastLimit);
+        }
+        if TOTAL < self.total() + size {
+            return self.refused(Refusal::PastLimit);
+        }
+        self.symbols[n] = name;
+        self.sizes[n] = size as u8;
+        self.variables = n + 1;
+        Added {
+            graph: self,
+            outcome: Outcome::Key(n),
+        }
+    }
+
+    // A factor gets the next number, and its numbers follow the last one's. The checks from the lengths on are those of priors and observations alike.
+    fn add_factor(
+        mut self,
+        f: Factor,
+        a: &[f64],
+        mean: &[f64],
+        variance: &[f64],
+        store: &mut [f64],
+    ) -> Added
+        requires { ⌜ (spec.valid self ≡ true) × (fits (self .sizes) (self .variables) f ≡ true) ⌝ }
+        ensures { λ r. ⌜ r ≡ calls.settle self f (calls.factorVerdict self f (now (a .entry)) (now (mean .entry)) (now (variance .entry)) (now (store .entry))) ⌝ }
+        ensures { λ _. ⌜ now (store .exit) ≡ calls.stored self (now (store .entry)) (calls.factorVerdict self f (now (a .entry)) (now (mean .entry)) (now (variance .entry)) (now (store .entry))) ⌝ }
+    {
+        let sizes = self.sizes;
+        if !f.lengths_fit(sizes, a.len(), mean.len(), variance.len()) {
+            return self.refused(Refusal::LengthUnlike);
+        }
+        let n = self.count;
+        if FACTORS <= n {
+            return self.refused(Refusal::PastLimit);
+        }
+        let start = self.offset(n);
+        if store.len() < start + f.numbers(sizes) {
+            return self.refused(Refusal::FactorStoreShort);
+        }
+        if !factor::given_finite(a, mean, variance) {
+            return self.refused(Refusal::NotFinite);
+        }
+        match factor::store_factor(store, start, a, mean, variance, mean.len()) {
+            Weighed::Done => {}
+            Weighed::Pivot => return self.refused(Refusal::VariancePivot),
+            Weighed::Unbounded => return self.refused(Refusal::NotFinite),
+        }
+        self.factors[n] = f;
+        self.count = n + 1;
+        Added {
+            graph: self,
+            outcome: Outcome::Number(n),
+        }
+    }
+
+    // A prior on a key: xi and W are stored.
+    pub fn add_prior(
+        mut self,
+        key: usize,
+        mean: &[f64],
+        variance: &[f64],
+        store: &mut [f64],
+    ) -> Added
+        ensures { λ r. ⌜ r ≡ calls.addPrior self key (now (mean .entry)) (now (variance .entry)) (now (store .entry)) ⌝ }
+        ensures { λ _. ⌜ now (store .exit) ≡ calls.priorStore self key (now (mean .entry)) (now (variance .entry)) (now (store .entry)) ⌝ }
+    {
+        if !self.valid() {
+            return self.refused(Refusal::NoSuchGraph);
+        }
+        if self.variables <= key {
+            return self.refused(Refusal::NoSuchKey);
+        }
+        let sizes = self.sizes;
+        let f = factor::prior_of(key, factor::size_of(sizes, key));
+        self.add_factor(f, &mean[0..0], mean, variance, store)
+    }
+
+    // An observation of keys, rising, by rows of A: A, xi and W are stored.
+    pub fn add_observation(
+        mut self,
+        keys: &[usize],
+        rows: usize,
+        a: &[f64],
+        mean: &[f64],
+        variance: &[f64],
+        store: &mut [f64],
+    ) -> Added
+        ensures { λ r. ⌜ r ≡ calls.addObservation self (now (keys .entry)) rows (now (a .entry)) (now (mean .entry)) (now (variance .entry)) (now (store .entry)) ⌝ }
+        ensures { λ _. ⌜ now (store .exit) ≡ calls.observationStore self (now (keys .entry)) rows (now (a .entry)) (now (mean .entry)) (now (variance .entry)) (now (store .entry)) ⌝ }
+    {
+        if !self.valid() {
+            return self.refused(Refusal::NoSuchGraph);
+        }
+        if !counts_fit(keys.len(), rows) {
+            return self.refused(Refusal::CountOutside);
+        }
+        if !factor::rising(keys) {
+            return self.refused(Refusal::KeysNotRising);
+        }
+        if !factor::known(self.variables, keys) {
+            return self.refused(Refusal::NoSuchKey);
+        }
+        let f = factor::observation_of(keys, rows);
+        self.add_factor(f, a, mean, variance, store)
+    }
+}

@@ -1,0 +1,54 @@
+// Why a call is turned back.
+ghost use mathlib.Core.Path.{_≡_};
+ghost use Rattle.graph.specs.Refusals.{numberOf};
+
+pub enum Refusal {
+    NeitherKeptNorCleared,
+    NotALetter,
+    SizeOutside,
+    KeysNotRising,
+    CountOutside,
+    LengthUnlike,
+    NotFinite,
+    VariancePivot,
+    BadRecord,
+    KeptAndCleared,
+    NameTaken,
+    NoSuchKey,
+    PastLimit,
+    FactorStoreShort,
+    StoreShort,
+    ClearedPivot,
+    MarginalPivot,
+    ResultNotFinite,
+    CountedTwice,
+    NoSuchGraph,
+}
+
+// The number that the paper gives a refusal.
+pub fn code(why: Refusal) -> usize
+    ensures { λ r. ⌜ r ≡ numberOf why ⌝ }
+{
+    match why {
+        Refusal::NeitherKeptNorCleared => 0,
+        Refusal::NotALetter => 1,
+        Refusal::SizeOutside => 2,
+        Refusal::KeysNotRising => 3,
+        Refusal::CountOutside => 4,
+        Refusal::LengthUnlike => 5,
+        Refusal::NotFinite => 6,
+        Refusal::VariancePivot => 7,
+        Refusal::BadRecord => 8,
+        Refusal::KeptAndCleared => 9,
+        Refusal::NameTaken => 10,
+        Refusal::NoSuchKey => 11,
+        Refusal::PastLimit => 12,
+        Refusal::FactorStoreShort => 13,
+        Refusal::StoreShort => 14,
+        Refusal::ClearedPivot => 15,
+        Refusal::MarginalPivot => 16,
+        Refusal::ResultNotFinite => 17,
+        Refusal::CountedTwice => 18,
+        Refusal::NoSuchGraph => 30,
+    }
+}

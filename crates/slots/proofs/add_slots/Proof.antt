@@ -1,0 +1,74 @@
+-- `slots::add_slots` meets its contract. The loop's invariant: the sums and the row after the slots passed. Assumes nothing.
+use Prim.Native.Nat.{_-_, _≤_}
+use mathlib.Core.Path.{_≡_, refl, _∙_}
+use native.Mathlib.Omega.{arith}
+use borrow.Author.Needs.{needs}
+use lib.ListN.{length}
+use Rattle.workspace.specs.Sums.{turns}
+use Rattle.workspace.specs.Frames.{cut}
+use Rattle.workspace.proofs.Cuts.{relaid}
+use Rattle.slots.specs.Views.{rowsOfAll, withViews}
+use Rattle.slots.specs.Tables.{viewAt}
+use Rattle.slots.proofs.Reading.{re-ready, rows-more, views-more}
+use Rattle.slots.proofs.add_slots.Statement.{statement}
+use Rattle.slots.proofs.add_slots.Tie as tie
+
+abbrev Inv-loop : tie.InvT-loop
+Inv-loop work₀ t₀ f z layout factors messages keys heads slots row₀ i₀ i-end work t row i =
+    (i ≤ i-end) × (i-end ≡ length slots) × (length work ≡ length work₀) × (length t ≡ length t₀) × (row ≡ rowsOfAll layout (viewAt factors messages keys heads slots) i)
+    × (cut f work ≡ withViews z f layout (viewAt factors messages keys heads slots) (cut f work₀) i)
+
+abbrev μ-loop : tie.MeasureT-loop
+μ-loop work₀ t₀ f z layout factors messages keys heads slots row₀ i₀ i-end work t row i = i-end - i
+
+loop-holds : tie.Need-loop-holds Inv-loop μ-loop
+unfolding rowsOfAll withViews turns
+loop-holds c = (omega arith, refl, refl, refl, refl, refl)
+
+mul-head-at : tie.Need-mul-head-at Inv-loop μ-loop
+mul-head-at c = omega (arith, c .loop-test .taken, c .before .loop .inv .1)
+
+shared-slice-read-head-at : tie.Need-shared-slice-read-head-at Inv-loop μ-loop
+shared-slice-read-head-at c = omega (arith, c .before .loop-test .taken, c .before .before .loop .inv .1)
+
+head-at-requires : tie.Need-head-at-requires Inv-loop μ-loop
+head-at-requires c κs = c .before .before .before .before .before .before .before .before .before .before .pre .1 .0 .headed (c .before .before .loop .i) (omega (arith, c .before .loop-test .taken, c .before .before .loop .inv .1))
+
+add-slot-requires : tie.Need-add-slot-requires Inv-loop μ-loop
+add-slot-requires c κs = (relaid (c .before .before .before .before .before .before .before .before .before .before .before .before .before .args .f) (c .before .before .before .before .before .loop .inv .2) (c .before .before .before .before .before .before .before .before .before .before .before .before .before .pre .0), re-ready (c .before .before .before .before .before .loop .inv .4) (c .before .before .before .before .before .loop .inv .3) (c .before .before .head-at .ensures) (c .before .before .before .before .before .before .before .before .before .before .before .before .before .pre .1 .1 (c .before .before .before .before .before .loop .i) (omega (arith, c .before .before .before .before .loop-test .taken, c .before .before .before .before .before .loop .inv .1))))
+
+add-i : tie.Need-add-i Inv-loop μ-loop
+add-i c = omega (arith, c .before .before .before .before .before .before .before .before .before .loop-test .taken, c .before .before .before .before .before .before .before .before .before .before .loop .inv .1, c .before .before .before .before .before .before .before .before .before .before .before .before .before .before .before .before .before .before .pre .1 .0 .few)
+
+loop-less : tie.Need-loop-less Inv-loop μ-loop
+loop-less c = omega arith
+
+loop-again : tie.Need-loop-again Inv-loop μ-loop
+loop-again c = (omega (arith, c .before .before .before .before .before .before .before .before .before .loop-test .taken), omega (arith, c .before .before .before .before .before .before .before .before .before .before .loop .inv .1), c .before .before .before .before .add-slot .kept .0 ∙ c .before .before .before .before .before .before .before .before .before .before .loop .inv .2, c .before .before .before .before .add-slot .kept .1 .0 ∙ c .before .before .before .before .before .before .before .before .before .before .loop .inv .3, rows-more (c .before .before .before .before .before .before .before .before .before .before .before .before .before .before .before .before .before .before .args .layout) (c .before .before .before .before .before .before .before .before .before .before .before .before .before .before .before .before .before .before .args .factors .now) (c .before .before .before .before .before .before .before .before .before .before .before .before .before .before .before .before .before .before .args .messages .now) (c .before .before .before .before .before .before .before .before .before .before .before .before .before .before .before .before .before .before .args .keys .now) (c .before .before .before .before .before .before .before .before .before .before .before .before .before .before .before .before .before .before .args .heads .now) (c .before .before .before .before .before .before .before .before .before .before .before .before .before .before .before .before .before .before .args .slots .now) (c .before .before .before .before .before .before .before .before .before .before .loop .i) _ _ (c .before .before .before .before .before .before .before .head-at .ensures) (c .before .before .before .before .before .before .before .before .before .before .loop .inv .4) _ (c .before .before .before .before .add-slot .ensures .0), views-more (c .before .before .before .before .before .before .before .before .before .before .before .before .before .before .before .before .before .before .args .layout) (c .before .before .before .before .before .before .before .before .before .before .before .before .before .before .before .before .before .before .args .factors .now) (c .before .before .before .before .before .before .before .before .before .before .before .before .before .before .before .before .before .before .args .messages .now) (c .before .before .before .before .before .before .before .before .before .before .before .before .before .before .before .before .before .before .args .keys .now) (c .before .before .before .before .before .before .before .before .before .before .before .before .before .before .before .before .before .before .args .heads .now) (c .before .before .before .before .before .before .before .before .before .before .before .before .before .before .before .before .before .before .args .slots .now) (c .before .before .before .before .before .before .before .before .before .before .loop .i) _ _ (c .before .before .before .before .before .before .before .head-at .ensures) (c .before .before .before .before .before .before .before .before .before .before .loop .inv .4) (c .before .before .before .before .before .before .before .before .before .before .before .before .before .before .before .before .before .before .args .z) (c .before .before .before .before .before .before .before .before .before .before .before .before .before .before .before .before .before .before .args .f) _ _ _ (c .before .before .before .before .before .before .before .before .before .before .loop .inv .5) (c .before .before .before .before .add-slot .ensures .1))
+
+same-length : tie.Need-same-length Inv-loop μ-loop
+same-length c = search needs
+
+same-length-2 : tie.Need-same-length-2 Inv-loop μ-loop
+same-length-2 c = search needs
+
+returns : tie.Need-returns Inv-loop μ-loop
+returns c = let e : c .before .loop .i ≡ length (c .before .before .before .before .before .before .before .before .before .args .slots .now) = omega (arith, c .before .loop .inv .1) in rw (← e) (c .before .loop .inv .5)
+
+pub add-slots-spec : {M : Type 1} → statement M
+add-slots-spec =
+    tie.close
+    (tie.spec
+    Inv-loop
+    μ-loop
+    loop-holds
+    mul-head-at
+    shared-slice-read-head-at
+    head-at-requires
+    add-slot-requires
+    add-i
+    loop-less
+    loop-again
+    same-length
+    same-length-2
+    returns)

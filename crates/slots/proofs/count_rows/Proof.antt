@@ -1,0 +1,63 @@
+-- `slots::count_rows` meets its contract. The loop's invariant: the rows of the slots passed, at most 32 each. Assumes nothing.
+use Prim.Native.Nat.{_-_, _*_, _≤_}
+use mathlib.Core.Path.{_≡_, refl}
+use native.Mathlib.Omega.{arith}
+use lib.ListN.{length}
+use Rattle.slots.specs.Tables.{rowsByAll}
+use Rattle.slots.proofs.Reading.{count-more, rows-bound}
+use Rattle.slots.proofs.count_rows.Statement.{statement}
+use Rattle.slots.proofs.count_rows.Tie as tie
+
+abbrev Inv-loop : tie.InvT-loop
+Inv-loop layout keys heads slots rows₀ i₀ i-end rows i = (i ≤ i-end) × (i-end ≡ length slots) × (rows ≡ rowsByAll layout keys heads slots i) × (rows ≤ 32 * i)
+
+abbrev μ-loop : tie.MeasureT-loop
+μ-loop layout keys heads slots rows₀ i₀ i-end rows i = i-end - i
+
+loop-holds : tie.Need-loop-holds Inv-loop μ-loop
+unfolding rowsByAll
+loop-holds c = (omega arith, refl, refl, omega arith)
+
+mul-head-at : tie.Need-mul-head-at Inv-loop μ-loop
+mul-head-at c = omega arith
+
+shared-slice-read-head-at : tie.Need-shared-slice-read-head-at Inv-loop μ-loop
+shared-slice-read-head-at c = omega arith
+
+head-at-requires : tie.Need-head-at-requires Inv-loop μ-loop
+head-at-requires c κs = c .before .before .before .before .before .before .pre .headed (c .before .before .loop .i) (omega (arith, c .before .loop-test .taken, c .before .before .loop .inv .1))
+
+rows-of-requires : tie.Need-rows-of-requires Inv-loop μ-loop
+rows-of-requires c κs = rw (c .head-at .ensures) (c .before .before .before .before .before .before .before .pre .counted (c .before .before .before .loop .i) (omega (arith, c .before .before .loop-test .taken, c .before .before .before .loop .inv .1)) .of-prior)
+
+add-rows : tie.Need-add-rows Inv-loop μ-loop
+add-rows c = omega (arith, c .before .before .before .loop-test .taken, c .before .before .before .before .loop .inv .1, c .before .before .before .before .loop .inv .3, c .before .before .before .before .before .before .before .before .pre .few, c .rows-of .ensures, rows-bound (c .before .before .before .before .before .before .before .before .args .layout) (c .before .before .before .before .before .before .before .before .args .keys .now) (c .before .head-at .result) (rw (c .before .head-at .ensures) (c .before .before .before .before .before .before .before .before .pre .counted (c .before .before .before .before .loop .i) (omega (arith, c .before .before .before .loop-test .taken, c .before .before .before .before .loop .inv .1)) .rows)))
+
+add-i : tie.Need-add-i Inv-loop μ-loop
+add-i c = omega (arith, c .before .before .before .loop-test .taken, c .before .before .before .before .loop .inv .1, c .before .before .before .before .before .before .before .before .pre .few)
+
+loop-less : tie.Need-loop-less Inv-loop μ-loop
+loop-less c = omega arith
+
+loop-again : tie.Need-loop-again Inv-loop μ-loop
+loop-again c = (omega (arith, c .before .before .before .loop-test .taken), omega (arith, c .before .before .before .before .loop .inv .1), count-more (c .before .before .before .before .before .before .before .before .args .layout) (c .before .before .before .before .before .before .before .before .args .keys .now) (c .before .before .before .before .before .before .before .before .args .heads .now) (c .before .before .before .before .before .before .before .before .args .slots .now) (c .before .before .before .before .loop .i) _ _ _ (c .before .before .before .before .loop .inv .2) (c .before .head-at .ensures) (c .rows-of .ensures), omega (arith, c .before .before .before .before .loop .inv .3, c .rows-of .ensures, rows-bound (c .before .before .before .before .before .before .before .before .args .layout) (c .before .before .before .before .before .before .before .before .args .keys .now) (c .before .head-at .result) (rw (c .before .head-at .ensures) (c .before .before .before .before .before .before .before .before .pre .counted (c .before .before .before .before .loop .i) (omega (arith, c .before .before .before .loop-test .taken, c .before .before .before .before .loop .inv .1)) .rows))))
+
+returns : tie.Need-returns Inv-loop μ-loop
+returns c = let e : c .before .loop .i ≡ length (c .before .before .before .before .before .args .slots .now) = omega (arith, c .before .loop .inv .1) in rw (← e) (c .before .loop .inv .2)
+
+pub count-rows-spec : {M : Type 1} → statement M
+count-rows-spec =
+    tie.close
+    (tie.spec
+    Inv-loop
+    μ-loop
+    loop-holds
+    mul-head-at
+    shared-slice-read-head-at
+    head-at-requires
+    rows-of-requires
+    add-rows
+    add-i
+    loop-less
+    loop-again
+    returns)

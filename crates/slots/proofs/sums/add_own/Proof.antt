@@ -1,0 +1,80 @@
+-- `slots::sums::add_own` meets its contract: by the branch, and by whether the key is cleared. Assumes nothing.
+use native.Mathlib.Omega.{arith}
+use borrow.Author.Needs.{needs}
+use lib.ListN.{length}
+use Rattle.matrix.proofs.Dense.{dense}
+use Rattle.workspace.specs.Blocks.{corner}
+use Rattle.workspace.specs.declared.Part.the-variants.{H, G, A, Xi}
+use Rattle.workspace.proofs.Cuts.{relaid}
+use Rattle.slots.proofs.Adding.{small, corner-fits, own-cleared-x, own-cleared-z, own-kept-z, own-kept-x}
+use Rattle.slots.proofs.sums.add_own.Statement.{statement}
+use Rattle.slots.proofs.sums.add_own.Tie as tie
+
+corner-requires : tie.Need-corner-requires
+corner-requires c κs = let l = (c .before .before .before .before .before .pre .0) in (l .few-cleared, omega (arith, small (c .before .before .before .before .before .args .f) (length (c .before .before .before .before .before .args .work .now)) (c .before .before .before .before .before .args .k) (c .before .before .before .before .before .pre .0) (c .before .before .before .before .before .pre .1 .0 .1)), omega arith)
+
+times-at-requires : tie.Need-times-at-requires
+times-at-requires c κs = let l = (c .before .before .before .before .before .before .before .pre .0) in (l, (corner-fits (c .before .before .before .before .before .before .before .args .f) H (c .before .before .before .before .before .before .before .args .f .cleared) 1 _ (c .before .before .before .before .before .before .before .args .k .at) 0 (c .before .before .before .before .before .before .before .args .k .size) 1 (omega arith) (c .before .corner .ensures) (rw (c .before .before .if1 .taken) at (c .before .before .before .before .before .before .before .pre .1 .0 .1)) (omega arith), (c .before .before .before .before .before .before .before .pre .1 .1 .0, omega (arith, c .before .before .before .before .before .before .before .pre .1 .1 .1))))
+
+corner-requires-2 : tie.Need-corner-requires-2
+corner-requires-2 c κs = let l = (c .before .before .before .before .before .before .before .before .before .before .before .pre .0) in (l .few-cleared, omega (arith, small (c .before .before .before .before .before .before .before .before .before .before .before .args .f) (length (c .before .before .before .before .before .before .before .before .before .before .before .args .work .now)) (c .before .before .before .before .before .before .before .before .before .before .before .args .k) (c .before .before .before .before .before .before .before .before .before .before .before .pre .0) (c .before .before .before .before .before .before .before .before .before .before .before .pre .1 .0 .1)), omega (arith, (c .before .before .before .before .before .before .before .before .before .before .before .pre .1 .0 .0) .inside (c .if2 .taken), l .few-rows))
+
+times-at-requires-2 : tie.Need-times-at-requires-2
+times-at-requires-2 c κs = let l = (c .before .before .before .before .before .before .before .before .before .before .before .before .before .pre .0) in (relaid (c .before .before .before .before .before .before .before .before .before .before .before .before .before .args .f) (c .before .before .before .before .before .times-at .kept .0) l, (corner-fits (c .before .before .before .before .before .before .before .before .before .before .before .before .before .args .f) G (c .before .before .before .before .before .before .before .before .before .before .before .before .before .args .f .cleared) (c .before .before .before .before .before .before .before .before .before .before .before .before .before .args .f .rows) _ (c .before .before .before .before .before .before .before .before .before .before .before .before .before .args .k .at) (c .before .before .before .before .before .before .before .before .before .before .before .before .before .args .row) (c .before .before .before .before .before .before .before .before .before .before .before .before .before .args .k .size) (c .before .before .before .before .before .before .before .before .before .before .before .before .before .args .y) (omega arith) (c .before .corner2 .ensures) (rw (c .before .before .before .before .before .before .before .before .if1 .taken) at (c .before .before .before .before .before .before .before .before .before .before .before .before .before .pre .1 .0 .1)) ((c .before .before .before .before .before .before .before .before .before .before .before .before .before .pre .1 .0 .0) .inside (c .before .before .if2 .taken)), (c .before .before .before .before .before .before .before .before .before .before .before .before .before .pre .1 .1 .0, c .before .before .before .before .before .before .before .before .before .before .before .before .before .pre .1 .1 .2)))
+
+same-length : tie.Need-same-length
+same-length c = search needs
+
+returns : tie.Need-returns
+returns c = own-cleared-z _ _ _ _ _ _ _ _ _ _ _ _ _ (c .before .before .before .before .before .before .before .before .before .before .before .if1 .taken) (c .before .before .before .before .before .if2 .taken) (c .before .before .before .before .before .before .before .before .before .before .corner .ensures) (c .before .before .before .before .corner2 .ensures) (c .before .before .before .before .before .before .before .before .times-at .ensures) (c .before .before .times-at2 .ensures)
+
+same-length-2 : tie.Need-same-length-2
+same-length-2 c = search needs
+
+returns-2 : tie.Need-returns-2
+returns-2 c = own-cleared-x _ _ _ _ _ _ _ _ _ _ _ (c .before .before .before .before .before .before .if1 .taken) (c .if2 .left) (c .before .before .before .before .before .corner .ensures) (c .before .before .before .times-at .ensures)
+
+corner-requires-3 : tie.Need-corner-requires-3
+corner-requires-3 c κs = let l = (c .before .before .before .before .before .before .pre .0) in (l .few-rows, omega (arith, (c .before .before .before .before .before .before .pre .1 .0 .0) .inside (c .if3 .taken), l .few-rows), omega (arith, small (c .before .before .before .before .before .before .args .f) (length (c .before .before .before .before .before .before .args .work .now)) (c .before .before .before .before .before .before .args .k) (c .before .before .before .before .before .before .pre .0) (c .before .before .before .before .before .before .pre .1 .0 .1)))
+
+stamp-at-requires : tie.Need-stamp-at-requires
+stamp-at-requires c κs = let l = (c .before .before .before .before .before .before .before .before .pre .0) in (l, (corner-fits (c .before .before .before .before .before .before .before .before .args .f) A (c .before .before .before .before .before .before .before .before .args .f .rows) (c .before .before .before .before .before .before .before .before .args .f .kept) _ (c .before .before .before .before .before .before .before .before .args .row) (c .before .before .before .before .before .before .before .before .args .k .at) (c .before .before .before .before .before .before .before .before .args .y) (c .before .before .before .before .before .before .before .before .args .k .size) (omega arith) (c .before .corner3 .ensures) ((c .before .before .before .before .before .before .before .before .pre .1 .0 .0) .inside (c .before .before .if3 .taken)) (rw (c .before .before .before .if1 .left) at (c .before .before .before .before .before .before .before .before .pre .1 .0 .1)), λ i j hi hj. dense (c .before .before .before .before .before .before .before .before .args .y) (c .before .before .before .before .before .before .before .before .args .k .size) _ (c .before .before .before .before .before .before .before .before .pre .1 .1 .0) i j hi hj))
+
+same-length-3 : tie.Need-same-length-3
+same-length-3 c = search needs
+
+returns-3 : tie.Need-returns-3
+returns-3 c = own-kept-z _ _ _ _ _ _ _ _ _ _ _ (c .before .before .before .before .before .before .if1 .left) (c .before .before .before .before .before .if3 .taken) (c .before .before .before .before .corner3 .ensures) (c .before .before .stamp-at .ensures)
+
+corner-requires-4 : tie.Need-corner-requires-4
+corner-requires-4 c κs = let l = (c .before .before .before .before .before .before .pre .0) in (l .few-rows, omega (arith, small (c .before .before .before .before .before .before .args .f) (length (c .before .before .before .before .before .before .args .work .now)) (c .before .before .before .before .before .before .args .k) (c .before .before .before .before .before .before .pre .0) (c .before .before .before .before .before .before .pre .1 .0 .1)), omega arith)
+
+times-at-requires-3 : tie.Need-times-at-requires-3
+times-at-requires-3 c κs = let l = (c .before .before .before .before .before .before .before .before .pre .0) in (l, (corner-fits (c .before .before .before .before .before .before .before .before .args .f) Xi (c .before .before .before .before .before .before .before .before .args .f .rows) 1 _ (c .before .before .before .before .before .before .before .before .args .k .at) 0 (c .before .before .before .before .before .before .before .before .args .k .size) 1 (omega arith) (c .before .corner4 .ensures) (omega (arith, rw (c .before .before .before .if1 .left) at (c .before .before .before .before .before .before .before .before .pre .1 .0 .1), (c .before .before .before .before .before .before .before .before .pre .1 .0 .0) .square (c .before .before .if3 .left))) (omega arith), (c .before .before .before .before .before .before .before .before .pre .1 .1 .0, omega (arith, c .before .before .before .before .before .before .before .before .pre .1 .1 .1))))
+
+same-length-4 : tie.Need-same-length-4
+same-length-4 c = search needs
+
+returns-4 : tie.Need-returns-4
+returns-4 c = own-kept-x _ _ _ _ _ _ _ _ _ _ _ (c .before .before .before .before .before .before .if1 .left) (c .before .before .before .before .before .if3 .left) (c .before .before .before .before .corner4 .ensures) (c .before .before .times-at3 .ensures)
+
+pub add-own-spec : {M : Type 1} → statement M
+add-own-spec =
+    tie.close
+    (tie.spec
+    corner-requires
+    times-at-requires
+    corner-requires-2
+    times-at-requires-2
+    same-length
+    returns
+    same-length-2
+    returns-2
+    corner-requires-3
+    stamp-at-requires
+    same-length-3
+    returns-3
+    corner-requires-4
+    times-at-requires-3
+    same-length-4
+    returns-4)

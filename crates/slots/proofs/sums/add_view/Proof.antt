@@ -1,0 +1,182 @@
+-- `slots::sums::add_view` meets its contract: the three parts of the numbers are A, xi and W. Assumes nothing.
+use mathlib.Core.Path.{refl, _∙_}
+use native.Mathlib.Omega.{arith}
+use borrow.Author.Needs.{needs}
+use Rattle.workspace.proofs.Cuts.{relaid}
+use Rattle.slots.proofs.Adding.{scratch}
+use Rattle.slots.proofs.OneFactor.{view-prior, view-other, branch-prior, branch-other, wide-other, offsets, part-sizes, prior-sizes}
+use Rattle.slots.proofs.sums.add_view.Statement.{statement}
+use Rattle.slots.proofs.sums.add_view.Tie as tie
+
+mul-p : tie.Need-mul-p
+mul-p c = let b = offsets (c .before .before .before .before .pre .1) in omega (arith, c .before .before .before .before .pre .1 .rows)
+
+add-q : tie.Need-add-q
+add-q c = let b = offsets (c .before .before .before .before .pre .1) in omega (arith, c .before .before .before .before .pre .1 .rows)
+
+mul-e : tie.Need-mul-e
+mul-e c = let b = offsets (c .before .before .before .before .pre .1) in omega (arith, c .before .before .before .before .pre .1 .rows)
+
+add-e : tie.Need-add-e
+add-e c = let b = offsets (c .before .before .before .before .pre .1) in omega (arith, c .before .before .before .before .pre .1 .rows)
+
+shared-slice-read-find : tie.Need-shared-slice-read-find
+shared-slice-read-find c = c .before .before .before .before .before .before .pre .1 .some (c .before .if1 .taken)
+
+find-requires : tie.Need-find-requires
+find-requires c κs = c .before .before .before .before .before .before .pre .1 .known 0 (c .before .before .before .before .before .before .pre .1 .some (c .before .if1 .taken)) .listed
+
+mul-add-prior : tie.Need-mul-add-prior
+mul-add-prior c = let b = offsets (c .before .before .before .before .before .before .before .before .pre .1) in omega (arith, c .before .before .before .before .before .before .before .before .pre .1 .rows)
+
+sub-add-prior : tie.Need-sub-add-prior
+sub-add-prior c = omega arith
+
+part-add-prior-start : tie.Need-part-add-prior-start
+part-add-prior-start c = search needs
+
+part-add-prior-end : tie.Need-part-add-prior-end
+part-add-prior-end c = search needs
+
+mul-add-prior-2 : tie.Need-mul-add-prior-2
+mul-add-prior-2 c = let b = offsets (c .before .before .before .before .before .before .before .before .before .pre .1) in omega (arith, c .before .before .before .before .before .before .before .before .before .pre .1 .rows)
+
+sub-add-prior-2 : tie.Need-sub-add-prior-2
+sub-add-prior-2 c = omega arith
+
+part-add-prior-start-2 : tie.Need-part-add-prior-start-2
+part-add-prior-start-2 c = search needs
+
+part-add-prior-end-2 : tie.Need-part-add-prior-end-2
+part-add-prior-end-2 c = search needs
+
+add-prior-requires : tie.Need-add-prior-requires
+add-prior-requires c κs = let l = (c .before .before .before .before .before .before .before .before .before .before .pre .0) in let q = prior-sizes (c .before .before .before .before .before .before .before .before .before .before .pre .1) (c .before .before .before .before .before .before .before .before .before .before .args .nums .now) _ refl (c .before .before .before .before .before .if1 .taken) (c .before .before .before .find .ensures) in (l, ((rw (c .before .before .before .find .ensures) (branch-prior (c .before .before .before .before .before .before .before .before .before .before .pre .1) (c .before .before .before .before .before .if1 .taken)), rw (c .before .before .before .find .ensures) (c .before .before .before .before .before .before .before .before .before .before .pre .1 .known 0 (c .before .before .before .before .before .before .before .before .before .before .pre .1 .some (c .before .before .before .before .before .if1 .taken)) .sits)), (q .0, q .1)))
+
+same-length : tie.Need-same-length
+same-length c = search needs
+
+returns : tie.Need-returns
+returns c = view-prior (c .before .before .before .before .before .before .before .before .before .before .before .before .before .args .z) (c .before .before .before .before .before .before .before .before .before .before .before .before .before .args .f) (c .before .before .before .before .before .before .before .before .before .before .before .before .before .args .layout) (c .before .before .before .before .before .before .before .before .before .before .before .before .before .args .row) (c .before .before .before .before .before .before .before .before .before .before .before .before .before .args .prior) (c .before .before .before .before .before .before .before .before .before .before .before .before .before .args .keys .now) (c .before .before .before .before .before .before .before .before .before .before .before .before .before .args .y) (c .before .before .before .before .before .before .before .before .before .before .before .before .before .args .d) (c .before .before .before .before .before .before .before .before .before .before .before .before .before .args .nums .now) _ _ _ (c .before .before .before .before .before .before .before .before .if1 .taken) (c .before .before .before .before .before .before .find .ensures) (c .before .before .add-prior .ensures)
+
+mul-copy-rows : tie.Need-mul-copy-rows
+mul-copy-rows c = omega arith
+
+sub-copy-rows : tie.Need-sub-copy-rows
+sub-copy-rows c = omega arith
+
+part-copy-rows-start : tie.Need-part-copy-rows-start
+part-copy-rows-start c = search needs
+
+part-copy-rows-end : tie.Need-part-copy-rows-end
+part-copy-rows-end c = search needs
+
+mul-copy-rows-2 : tie.Need-mul-copy-rows-2
+mul-copy-rows-2 c = omega arith
+
+sub-copy-rows-2 : tie.Need-sub-copy-rows-2
+sub-copy-rows-2 c = omega arith
+
+part-copy-rows-start-2 : tie.Need-part-copy-rows-start-2
+part-copy-rows-start-2 c = search needs
+
+part-copy-rows-end-2 : tie.Need-part-copy-rows-end-2
+part-copy-rows-end-2 c = search needs
+
+copy-rows-requires : tie.Need-copy-rows-requires
+copy-rows-requires c κs = let l = (c .before .before .before .before .before .before .before .before .pre .0) in (l, (branch-other (c .before .before .before .before .before .before .before .before .pre .1) (c .before .before .before .if1 .left), part-sizes (c .before .before .before .before .before .before .before .before .pre .1) (c .before .before .before .before .before .before .before .before .args .nums .now) refl .0, part-sizes (c .before .before .before .before .before .before .before .before .pre .1) (c .before .before .before .before .before .before .before .before .args .nums .now) refl .1))
+
+mul-add-keys : tie.Need-mul-add-keys
+mul-add-keys c = omega arith
+
+sub-add-keys : tie.Need-sub-add-keys
+sub-add-keys c = omega arith
+
+part-add-keys-start : tie.Need-part-add-keys-start
+part-add-keys-start c = search needs
+
+part-add-keys-end : tie.Need-part-add-keys-end
+part-add-keys-end c = search needs
+
+mul-add-keys-2 : tie.Need-mul-add-keys-2
+mul-add-keys-2 c = let b = offsets (c .before .before .before .before .before .before .before .before .before .before .before .before .before .before .pre .1) in omega (arith, c .before .before .before .before .before .before .before .before .before .before .before .before .before .before .pre .1 .rows)
+
+sub-add-keys-2 : tie.Need-sub-add-keys-2
+sub-add-keys-2 c = omega arith
+
+part-add-keys-start-2 : tie.Need-part-add-keys-start-2
+part-add-keys-start-2 c = search needs
+
+part-add-keys-end-2 : tie.Need-part-add-keys-end-2
+part-add-keys-end-2 c = search needs
+
+mul-add-keys-3 : tie.Need-mul-add-keys-3
+mul-add-keys-3 c = let b = offsets (c .before .before .before .before .before .before .before .before .before .before .before .before .before .before .before .pre .1) in omega (arith, c .before .before .before .before .before .before .before .before .before .before .before .before .before .before .before .pre .1 .rows)
+
+sub-add-keys-3 : tie.Need-sub-add-keys-3
+sub-add-keys-3 c = omega arith
+
+part-add-keys-start-3 : tie.Need-part-add-keys-start-3
+part-add-keys-start-3 c = search needs
+
+part-add-keys-end-3 : tie.Need-part-add-keys-end-3
+part-add-keys-end-3 c = search needs
+
+add-keys-requires : tie.Need-add-keys-requires
+add-keys-requires c κs = let l = (c .before .before .before .before .before .before .before .before .before .before .before .before .before .before .before .before .pre .0) in (relaid (c .before .before .before .before .before .before .before .before .before .before .before .before .before .before .before .before .args .f) (c .before .before .before .before .before .before .before .copy-rows .kept .0) l, ((branch-other (c .before .before .before .before .before .before .before .before .before .before .before .before .before .before .before .before .pre .1) (c .before .before .before .before .before .before .before .before .before .before .before .if1 .left), c .before .before .before .before .before .before .before .before .before .before .before .before .before .before .before .before .pre .1 .scratch), ((part-sizes (c .before .before .before .before .before .before .before .before .before .before .before .before .before .before .before .before .pre .1) (c .before .before .before .before .before .before .before .before .before .before .before .before .before .before .before .before .args .nums .now) refl .0, part-sizes (c .before .before .before .before .before .before .before .before .before .before .before .before .before .before .before .before .pre .1) (c .before .before .before .before .before .before .before .before .before .before .before .before .before .before .before .before .args .nums .now) refl .1), (c .before .before .before .before .before .before .before .before .before .before .before .before .before .before .before .before .pre .1 .known, wide-other (c .before .before .before .before .before .before .before .before .before .before .before .before .before .before .before .before .pre .1) _ (c .before .before .before .before .before .before .before .before .before .before .before .if1 .left) (part-sizes (c .before .before .before .before .before .before .before .before .before .before .before .before .before .before .before .before .pre .1) (c .before .before .before .before .before .before .before .before .before .before .before .before .before .before .before .before .args .nums .now) refl .2)))))
+
+same-length-2 : tie.Need-same-length-2
+same-length-2 c = c .before .before .before .before .add-keys .kept .0 ∙ c .before .before .before .before .before .before .before .before .before .before .before .before .copy-rows .kept .0
+
+same-length-3 : tie.Need-same-length-3
+same-length-3 c = search needs
+
+returns-2 : tie.Need-returns-2
+returns-2 c = view-other (c .before .before .before .before .before .before .before .before .before .before .before .before .before .before .before .before .before .before .before .before .before .args .z) (c .before .before .before .before .before .before .before .before .before .before .before .before .before .before .before .before .before .before .before .before .before .args .f) (c .before .before .before .before .before .before .before .before .before .before .before .before .before .before .before .before .before .before .before .before .before .args .layout) (c .before .before .before .before .before .before .before .before .before .before .before .before .before .before .before .before .before .before .before .before .before .args .row) (c .before .before .before .before .before .before .before .before .before .before .before .before .before .before .before .before .before .before .before .before .before .args .prior) (c .before .before .before .before .before .before .before .before .before .before .before .before .before .before .before .before .before .before .before .before .before .args .keys .now) (c .before .before .before .before .before .before .before .before .before .before .before .before .before .before .before .before .before .before .before .before .before .args .y) (c .before .before .before .before .before .before .before .before .before .before .before .before .before .before .before .before .before .before .before .before .before .args .d) (c .before .before .before .before .before .before .before .before .before .before .before .before .before .before .before .before .before .before .before .before .before .args .nums .now) _ _ _ (c .before .before .before .before .before .before .before .before .before .before .before .before .before .before .before .before .if1 .left) (c .before .before .before .before .before .before .before .before .before .before .before .before .copy-rows .ensures) (c .before .before .before .before .add-keys .ensures)
+
+pub add-view-spec : {M : Type 1} → statement M
+add-view-spec =
+    tie.close
+    (tie.spec
+    mul-p
+    add-q
+    mul-e
+    add-e
+    shared-slice-read-find
+    find-requires
+    mul-add-prior
+    sub-add-prior
+    part-add-prior-start
+    part-add-prior-end
+    mul-add-prior-2
+    sub-add-prior-2
+    part-add-prior-start-2
+    part-add-prior-end-2
+    add-prior-requires
+    same-length
+    returns
+    mul-copy-rows
+    sub-copy-rows
+    part-copy-rows-start
+    part-copy-rows-end
+    mul-copy-rows-2
+    sub-copy-rows-2
+    part-copy-rows-start-2
+    part-copy-rows-end-2
+    copy-rows-requires
+    mul-add-keys
+    sub-add-keys
+    part-add-keys-start
+    part-add-keys-end
+    mul-add-keys-2
+    sub-add-keys-2
+    part-add-keys-start-2
+    part-add-keys-end-2
+    mul-add-keys-3
+    sub-add-keys-3
+    part-add-keys-start-3
+    part-add-keys-end-3
+    add-keys-requires
+    same-length-2
+    same-length-3
+    returns-2)

@@ -1,0 +1,45 @@
+-- `slots::sums::copy_rows` meets its contract: in z two blocks are stored, in x none. Assumes nothing.
+use native.Mathlib.Omega.{arith}
+use borrow.Author.Needs.{needs}
+use borrow.Author.Tests.{not-true, not-false}
+use Rattle.matrix.proofs.Dense.{dense}
+use Rattle.workspace.specs.Blocks.{corner}
+use Rattle.workspace.specs.declared.Part.the-variants.{Xi, W}
+use Rattle.workspace.proofs.Cuts.{relaid}
+use Rattle.slots.proofs.Adding.{corner-fits}
+use Rattle.slots.proofs.OneFactor.{rows-x, rows-z}
+use Rattle.slots.proofs.sums.copy_rows.Statement.{statement}
+use Rattle.slots.proofs.sums.copy_rows.Tie as tie
+
+returns : tie.Need-returns
+returns c = rows-x _ _ _ _ _ _ _ (not-true (c .before .before .before .before .args .z) (c .if1 .taken))
+
+corner-requires : tie.Need-corner-requires
+corner-requires c κs = let l = (c .before .before .before .before .pre .0) in (l .few-rows, omega (arith, (c .before .before .before .before .pre .1 .0) .inside (not-false (c .before .before .before .before .args .z) (c .if1 .left)), l .few-rows), omega arith)
+
+stamp-at-requires : tie.Need-stamp-at-requires
+stamp-at-requires c κs = let l = (c .before .before .before .before .before .before .pre .0) in (l, (corner-fits (c .before .before .before .before .before .before .args .f) Xi (c .before .before .before .before .before .before .args .f .rows) 1 _ (c .before .before .before .before .before .before .args .row) 0 (c .before .before .before .before .before .before .args .y) 1 (omega arith) (c .before .corner .ensures) ((c .before .before .before .before .before .before .pre .1 .0) .inside (not-false (c .before .before .before .before .before .before .args .z) (c .before .before .if1 .left))) (omega arith), λ i j hi hj. dense (c .before .before .before .before .before .before .args .y) 1 _ (omega (arith, (c .before .before .before .before .before .before .pre .1 .1))) i j hi hj))
+
+corner-requires-2 : tie.Need-corner-requires-2
+corner-requires-2 c κs = let l = (c .before .before .before .before .before .before .before .before .before .pre .0) in (l .few-rows, omega (arith, (c .before .before .before .before .before .before .before .before .before .pre .1 .0) .inside (not-false (c .before .before .before .before .before .before .before .before .before .args .z) (c .before .before .before .before .before .if1 .left)), l .few-rows), omega (arith, (c .before .before .before .before .before .before .before .before .before .pre .1 .0) .inside (not-false (c .before .before .before .before .before .before .before .before .before .args .z) (c .before .before .before .before .before .if1 .left)), l .few-rows))
+
+stamp-at-requires-2 : tie.Need-stamp-at-requires-2
+stamp-at-requires-2 c κs = let l = (c .before .before .before .before .before .before .before .before .before .before .before .pre .0) in (relaid (c .before .before .before .before .before .before .before .before .before .before .before .args .f) (c .before .before .before .before .stamp-at .kept .0) l, (corner-fits (c .before .before .before .before .before .before .before .before .before .before .before .args .f) W (c .before .before .before .before .before .before .before .before .before .before .before .args .f .rows) (c .before .before .before .before .before .before .before .before .before .before .before .args .f .rows) _ (c .before .before .before .before .before .before .before .before .before .before .before .args .row) (c .before .before .before .before .before .before .before .before .before .before .before .args .row) (c .before .before .before .before .before .before .before .before .before .before .before .args .y) (c .before .before .before .before .before .before .before .before .before .before .before .args .y) (omega arith) (c .before .corner2 .ensures) ((c .before .before .before .before .before .before .before .before .before .before .before .pre .1 .0) .inside (not-false (c .before .before .before .before .before .before .before .before .before .before .before .args .z) (c .before .before .before .before .before .before .before .if1 .left))) ((c .before .before .before .before .before .before .before .before .before .before .before .pre .1 .0) .inside (not-false (c .before .before .before .before .before .before .before .before .before .before .before .args .z) (c .before .before .before .before .before .before .before .if1 .left))), λ i j hi hj. dense (c .before .before .before .before .before .before .before .before .before .before .before .args .y) (c .before .before .before .before .before .before .before .before .before .before .before .args .y) _ ((c .before .before .before .before .before .before .before .before .before .before .before .pre .1 .2)) i j hi hj))
+
+same-length : tie.Need-same-length
+same-length c = search needs
+
+returns-2 : tie.Need-returns-2
+returns-2 c = rows-z _ _ _ _ _ _ _ _ _ _ _ (not-false (c .before .before .before .before .before .before .before .before .before .before .before .before .before .before .args .z) (c .before .before .before .before .before .before .before .before .before .before .if1 .left)) (c .before .before .before .before .before .before .before .before .before .corner .ensures) (c .before .before .before .before .corner2 .ensures) (c .before .before .before .before .before .before .before .stamp-at .ensures) (c .before .before .stamp-at2 .ensures)
+
+pub copy-rows-spec : {M : Type 1} → statement M
+copy-rows-spec =
+    tie.close
+    (tie.spec
+    returns
+    corner-requires
+    stamp-at-requires
+    corner-requires-2
+    stamp-at-requires-2
+    same-length
+    returns-2)

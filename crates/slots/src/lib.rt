@@ -1,0 +1,175 @@
+// What each slot of an elimination adds to its matrices, from the numbers in the lent stores.
+pub mod layout;
+pub mod limits;
+mod sums;
+
+use layout::Layout;
+use limits::FACTORS;
+use limits::HEAD;
+use sums::add_view;
+use workspace::Frame;
+ghost use mathlib.Core.Path.{_≡_};
+ghost use mathlib.Core.Bool.{true, cond};
+ghost use Prim.Native.Nat.{ℕ, _+_, _*_, _<_, _≤_};
+ghost use lib.ListN.{length, getD};
+ghost use Rattle.matrix.specs.Views.{part};
+ghost use Rattle.workspace.specs.Frames.{cut, Laid};
+ghost use Rattle.slots.specs.Limits.{max-variables, head-numbers};
+ghost use Rattle.slots.specs.Views.{rowsOf, rowsOfAll, withView, withViews};
+ghost use Rattle.slots.specs.Tables.{slotOf, headOf, storeOf, readView, viewAt, rowsBy, rowsByAll};
+ghost use Rattle.slots.specs.Fitting.{Ready, Counted};
+
+// What a slot of an elimination is: an original factor, by its number, or a closed message, by its place among the messages.
+pub enum Slot {
+    Original(usize),
+    Closed(usize),
+}
+
+// What is known of a slot: whether it is a prior, where its numbers begin, its rows and its width, where its keys begin and how many they are. A prior has no A, so its width is 0.
+pub struct Head {
+    pub slot: Slot,
+    pub prior: bool,
+    pub at: usize,
+    pub rows: usize,
+    pub width: usize,
+    pub first: usize,
+    pub count: usize,
+}
+
+// The slot of a number: originals have their own, and messages follow.
+pub fn slot_of(number: usize) -> Slot
+    ensures { λ r. ⌜ r ≡ slotOf number ⌝ }
+{
+    if number < FACTORS {
+        return Slot::Original(number);
+    }
+    Slot::Closed(number - FACTORS)
+}
+
+// What the table of heads has for the slot of a number.
+pub fn head_at(heads: &[usize], number: usize) -> Head
+    requires { ⌜ head-numbers * number + 5 < length (now heads) ⌝ }
+    ensures { λ r. ⌜ r ≡ headOf (now (heads .entry)) number ⌝ }
+{
+    let p = HEAD * number;
+    Head {
+        slot: slot_of(number),
+        prior: heads[p] == 1,
+        at: heads[p + 1],
+        rows: heads[p + 2],
+        width: heads[p + 3],
+        first: heads[p + 4],
+        count: heads[p + 5],
+    }
+}
+
+// The numbers of a slot: a part of whichever store holds them.
+pub fn numbers<'a>(
+    factors: &'a [f64],
+    messages: &'a [f64],
+    slot: Slot,
+    at: usize,
+    n: usize,
+) -> &'a [f64]
+    requires { ⌜ at + n ≤ length (storeOf slot (now factors) (now messages)) ⌝ }
+    ensures { λ r. ⌜ now r ≡ part (storeOf slot (now (factors .entry)) (now (messages .entry))) at (at + n) ⌝ }
+{
+    match slot {
+        Slot::Original(_) => &factors[at..at + n],
+        Slot::Closed(_) => &messages[at..at + n],
+    }
+}
+
+// The rows that a slot adds: those of its head, but none for a prior on a cleared key.
+pub fn rows_of(layout: Layout, keys: &[usize], h: Head) -> usize
+    requires { ⌜ (h .prior ≡ true → (h .first < length (now keys)) × (getD (now keys) (h .first) 0 < max-variables)) ⌝ }
+    ensures { λ r. ⌜ r ≡ rowsBy layout (now (keys .entry)) h ⌝ }
+{
+    if !h.prior {
+        return h.rows;
+    }
+    let first = h.first;
+    let key = keys[first];
+    if layout.cleared[key] {
+        return 0;
+    }
+    h.rows
+}
+
+// The rows of all slots of a list of numbers.
+pub fn count_rows(layout: Layout, keys: &[usize], heads: &[usize], slots: &[usize]) -> usize
+    requires { ⌜ Counted (now keys) (now heads) (now slots) ⌝ }
+    ensures { λ r. ⌜ r ≡ rowsByAll layout (now (keys .entry)) (now (heads .entry)) (now (slots .entry)) (length (now (slots .entry))) ⌝ }
+{
+    let mut rows = 0;
+    for i in 0..slots.len() {
+        let h = head_at(heads, slots[i]);
+        rows = rows + rows_of(layout, keys, h);
+    }
+    rows
+}
+
+// A slot as its head says; the answer is the row after its own.
+fn add_slot<'a>(
+    work: &mut [f64],
+    t: &mut [f64],
+    f: Frame,
+    z: bool,
+    row: usize,
+    layout: Layout,
+    factors: &'a [f64],
+    messages: &'a [f64],
+    keys: &[usize],
+    h: Head,
+) -> usize
+    requires { ⌜ Laid f (length (now work)) ⌝ }
+    requires { ⌜ Ready f layout z row (now factors) (now messages) (now keys) (length (now t)) h ⌝ }
+    ensures { λ r. ⌜ r ≡ row + rowsOf layout (readView (now (factors .entry)) (now (messages .entry)) (now (keys .entry)) h) ⌝ }
+    ensures { λ _. ⌜ cut f (now (work .exit)) ≡ withView z f layout row (readView (now (factors .entry)) (now (messages .entry)) (now (keys .entry)) h) (cut f (now (work .entry))) ⌝ }
+{
+    let p = h.first;
+    let q = p + h.count;
+    let ks = &keys[p..q];
+    let n = h.rows * h.width + h.rows + h.rows * h.rows;
+    let slot = h.slot;
+    let nums = numbers(factors, messages, slot, h.at, n);
+    add_view(
+        work,
+        t,
+        f,
+        z,
+        row,
+        layout,
+        h.prior,
+        ks,
+        h.rows,
+        h.width,
+        nums,
+    );
+    row + rows_of(layout, keys, h)
+}
+
+// All slots of a list, in order. The slice t takes a product of a block column with its W.
+pub fn add_slots<'a>(
+    work: &mut [f64],
+    t: &mut [f64],
+    f: Frame,
+    z: bool,
+    layout: Layout,
+    factors: &'a [f64],
+    messages: &'a [f64],
+    keys: &[usize],
+    heads: &[usize],
+    slots: &[usize],
+)
+    requires { ⌜ Laid f (length (now work)) ⌝ }
+    requires { ⌜ Counted (now keys) (now heads) (now slots) ⌝ }
+    requires { ⌜ ((i : ℕ) → i < length (now slots) → Ready f layout z (rowsOfAll layout (viewAt (now factors) (now messages) (now keys) (now heads) (now slots)) i) (now factors) (now messages) (now keys) (length (now t)) (headOf (now heads) (getD (now slots) i 0))) ⌝ }
+    ensures { λ _. ⌜ cut f (now (work .exit)) ≡ withViews z f layout (viewAt (now (factors .entry)) (now (messages .entry)) (now (keys .entry)) (now (heads .entry)) (now (slots .entry))) (cut f (now (work .entry))) (length (now (slots .entry))) ⌝ }
+{
+    let mut row = 0;
+    for i in 0..slots.len() {
+        let h = head_at(heads, slots[i]);
+        row = add_slot(work, t, f, z, row, layout, factors, messages, keys, h);
+    }
+}

@@ -1,0 +1,73 @@
+-- What the answer of `plan` means, and what an outcome tells of the graph. Assumes nothing.
+use mathlib.Core.Path.{_≡_, refl, sym, ap, _∙_, subst}
+use mathlib.Core.Bool.{Bool, true, false, cond}
+use mathlib.Core.List.{List}
+use Prim.Native.Nat.{ℕ}
+use Rattle.factor.specs.Limits.{max-factors}
+use Rattle.graph.specs.Record.{valid}
+use Rattle.graph.specs.declared.Graph.{Graph}
+use Rattle.graph.specs.declared.refusal.Refusal.{Refusal}
+use Rattle.graph.specs.declared.refusal.Refusal.the-variants.{NoSuchGraph}
+use Rattle.schedule.specs.Count.{count, from}
+use Rattle.schedule.specs.Plan as lists
+use Rattle.plan.specs.Factors.{keysAt}
+use Rattle.plan.specs.Plan.{planOf, risingPlan}
+use Rattle.plan.specs.declared.factors.FactorKeys.{FactorKeys}
+use Rattle.plan.specs.declared.plan.Plan.{Plan}
+use Rattle.plan_text.specs.Text as text
+use Rattle.plan_text.specs.declared.Written.{Written}
+use Rattle.plan_text.specs.declared.Written.the-variants as written
+use Rattle.solver.specs.Plan.{graphPlan, noPlan, Answer, planned, read, Table, LaidOut}
+use Rattle.solver.specs.declared.Laid.the-variants.{Length, Short, NoPlan}
+use Rattle.solver.specs.declared.Planned.{Planned}
+use Rattle.solver.specs.declared.Outcome.the-variants.{Made, Refused}
+use Rattle.solver.proofs.Tables.{same-keys}
+
+empty-plan : (K : ℕ → List ℕ) → lists.plan 0 K (from 0 0) (from 0 0) ≡ noPlan
+unfolding lists.plan
+empty-plan K = refl
+
+pub made : (g : Graph) (table : List FactorKeys) (p : Plan) → valid g ≡ true → Table g max-factors table → planOf (g .variables) p ≡ risingPlan table (g .count) (g .variables)
+    → read (record { outcome = Made; keys = g .variables; plan = p }) ≡ planned g
+unfolding read planned graphPlan
+made g table p v t e = rw (v, e, same-keys g table v t)
+
+pub turned-back : (g : Graph) (table : List FactorKeys) (p : Plan) → valid g ≡ false → planOf 0 p ≡ risingPlan table 0 0 → read (record { outcome = Refused NoSuchGraph; keys = 0; plan = p }) ≡ planned g
+unfolding read planned
+turned-back g table p v e = rw (v, e ∙ empty-plan (keysAt table 0))
+
+-- ---- what an outcome tells of the graph
+
+outcome-is : (r : Planned) (g : Graph) → read r ≡ planned g → r .outcome ≡ cond (valid g) Made (Refused NoSuchGraph)
+unfolding read planned
+outcome-is r g e = ap (λ (a : Answer). a .outcome) e ∙ go (valid g)
+  where
+    go : (b : Bool) → cond {A = Answer} b (record { outcome = Made; keys = g .variables; plan = graphPlan g }) (record { outcome = Refused NoSuchGraph; keys = 0; plan = noPlan }) .outcome ≡ cond b Made (Refused NoSuchGraph)
+    go true = refl
+    go false = refl
+
+pub made-valid : (r : Planned) (g : Graph) → read r ≡ planned g → r .outcome ≡ Made → valid g ≡ true
+made-valid r g e h = go (valid g) refl
+  where
+    go : (b : Bool) → valid g ≡ b → valid g ≡ true
+    go true v = v
+    go false v = let z : Made ≡ Refused NoSuchGraph = sym h ∙ outcome-is r g e ∙ rw v in cc
+
+pub refused-why : (r : Planned) (g : Graph) (why : Refusal) → read r ≡ planned g → r .outcome ≡ Refused why → (valid g ≡ false) × (why ≡ NoSuchGraph)
+refused-why r g why e h = go (valid g) refl
+  where
+    go : (b : Bool) → valid g ≡ b → (valid g ≡ false) × (why ≡ NoSuchGraph)
+    go true v = let z : Refused why ≡ Made = sym h ∙ outcome-is r g e ∙ rw v in (cc, cc)
+    go false v = let z : Refused why ≡ Refused NoSuchGraph = sym h ∙ outcome-is r g e ∙ rw v in (v, cc)
+
+pub laid-not : (r : Planned) (g : Graph) (why : Refusal) (a : List ℕ) → read r ≡ planned g → r .outcome ≡ Refused why → LaidOut g a a (NoPlan why)
+unfolding LaidOut
+laid-not r g why a e h = let w = refused-why r g why e h in (w .0, w .1, refl)
+
+pub laid-whole : (r : Planned) (g : Graph) (a b : List ℕ) (m : ℕ) (w : Written) → read r ≡ planned g → r .outcome ≡ Made → text.Laid a b w → w ≡ written.Length m → LaidOut g a b (Length m)
+unfolding LaidOut text.Laid
+laid-whole r g a b m w e h l z = let p : text.Laid a b (written.Length m) = subst (λ (x : Written). text.Laid a b x) z l in (made-valid r g e h, p .0, p .1, p .2)
+
+pub laid-short : (r : Planned) (g : Graph) (a b : List ℕ) (w : Written) → read r ≡ planned g → r .outcome ≡ Made → text.Laid a b w → w ≡ written.Short → LaidOut g a b Short
+unfolding LaidOut text.Laid
+laid-short r g a b w e h l z = (made-valid r g e h, subst (λ (x : Written). text.Laid a b x) z l)

@@ -1,0 +1,41 @@
+-- Demand 3 over the plan of a valid graph: behind each key every factor stands exactly once, every other key is cleared exactly once and the key itself never. Assumes nothing.
+use mathlib.Core.Path.{_≡_, refl}
+use mathlib.Core.Bool.{Bool, true, false, cond}
+use mathlib.Core.List.{[]}
+use Prim.Native.Nat.{ℕ, _<_}
+use native.Mathlib.Omega.{arith}
+use borrow.Author.Tests.{ltb-true}
+use lib.Dec.{ltb}
+use lib.ListN.{getD, take, length-take}
+use lib.Seq.{getD-take}
+use Rattle.factor.proofs.Fitting.{fits-key}
+use Rattle.graph.specs.Record.{factorAt, valid}
+use Rattle.graph.specs.declared.Graph.{Graph}
+use Rattle.graph.proofs.Validity.{valid-factor}
+use Rattle.schedule.specs.Count.{count, In, from}
+use Rattle.schedule.specs.Gather.{Gathered}
+use Rattle.schedule.specs.Once.{Once}
+use Rattle.schedule.proofs.Demand3.{from-once, demand3}
+use Rattle.solver.specs.Plan.{keysOf, graphPlan}
+use Rattle.solver.proofs.Tables.{bounded}
+
+none-in : (j : ℕ) → In j [] → ⊥
+unfolding count
+none-in j s = omega arith
+
+-- a factor's keys are registered
+low : (g : Graph) → valid g ≡ true → (i j : ℕ) → In j (keysOf g i) → j < g .variables
+unfolding keysOf
+low g v i j = go (ltb i (g .count)) refl
+  where
+    go : (b : Bool) → ltb i (g .count) ≡ b → In j (cond b (take (factorAt g i .touched) (factorAt g i .keys)) []) → j < g .variables
+    go true e s =
+        bounded (take (factorAt g i .touched) (factorAt g i .keys)) (g .variables)
+        (λ k l. let m : k < factorAt g i .touched = omega (arith, length-take (factorAt g i .touched) (factorAt g i .keys)) in rw (getD-take (factorAt g i .touched) (factorAt g i .keys) k 0 m) (fits-key (g .sizes) (g .variables) (factorAt g i) (valid-factor g v i (ltb-true i (g .count) e)) k m))
+        j s
+    go false e s = absurd (none-in j s)
+
+pub once : (g : Graph) → valid g ≡ true → (k : ℕ) → k < g .variables → (d : Gathered)
+    → Once (g .variables) (keysOf g) (from 0 (g .count)) k (graphPlan g .forward) (graphPlan g .backward) (getD (graphPlan g .at-key) k d)
+unfolding graphPlan
+once g v k h d = demand3 (g .variables) (keysOf g) (from 0 (g .count)) (from 0 (g .variables)) (from-once (g .count)) (λ f s j u. low g v f j u) (λ j. refl) k h d

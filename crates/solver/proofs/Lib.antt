@@ -1,0 +1,4 @@
+-- Laws of the plan of a graph.
+pub mod Tables
+pub mod Answers
+pub mod GraphOnce

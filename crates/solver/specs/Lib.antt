@@ -1,0 +1,2 @@
+-- The definitions that the contracts of `solver` cite.
+pub mod Plan

@@ -1,0 +1,69 @@
+-- The plan of a graph: the schedule's plan over the keys of its factors, all of them, with keys rising. Definitions only.
+use mathlib.Core.Path.{_≡_}
+use mathlib.Core.Bool.{true, false, cond}
+use mathlib.Core.List.{List, []}
+use Prim.Native.Nat.{ℕ, _≤_, _<_}
+use lib.Dec.{ltb}
+use lib.ListN.{length, getD, take, drop}
+use Rattle.factor.specs.Limits.{max-factors, max-keys}
+use Rattle.factor.specs.declared.Factor.{Factor}
+use Rattle.graph.specs.Record.{factorAt, valid}
+use Rattle.graph.specs.declared.Graph.{Graph}
+use Rattle.graph.specs.declared.refusal.Refusal.the-variants.{NoSuchGraph}
+use Rattle.schedule.specs.Count.{from}
+use Rattle.schedule.specs.Plan as lists
+use Rattle.plan.specs.Plan.{planOf}
+use Rattle.plan.specs.Factors.{noKeys}
+use Rattle.plan.specs.declared.factors.FactorKeys.{FactorKeys}
+use Rattle.solver.specs.declared.Planned.{Planned}
+use Rattle.solver.specs.declared.Outcome.{Outcome}
+use Rattle.solver.specs.declared.Outcome.the-variants.{Made, Refused}
+use Rattle.solver.specs.declared.Laid.{Laid}
+use Rattle.solver.specs.declared.Laid.the-variants.{Length, Short, NoPlan}
+
+-- the keys of the factor i; there are none past the last factor
+unfoldable pub keysOf : Graph → ℕ → List ℕ
+keysOf g i = cond (ltb i (g .count)) (take (factorAt g i .touched) (factorAt g i .keys)) []
+
+-- the messages of both passes and what each key gathers, over all factors, with keys rising
+unfoldable pub graphPlan : Graph → lists.Plan
+graphPlan g = lists.plan (g .variables) (keysOf g) (from 0 (g .count)) (from 0 (g .variables))
+
+abbrev pub noPlan : lists.Plan
+noPlan = record { forward = []; backward = []; at-key = [] }
+
+-- What the call answers: whether a plan was made, for how many keys, and the plan.
+pub record Answer : Type 0 where
+  pub outcome : Outcome
+  pub keys : ℕ
+  pub plan : lists.Plan
+
+-- Only a record that no list of registering calls yields is refused.
+unfoldable pub planned : Graph → Answer
+planned g =
+    cond (valid g)
+    (record { outcome = Made; keys = g .variables; plan = graphPlan g })
+    (record { outcome = Refused NoSuchGraph; keys = 0; plan = noPlan })
+
+-- what the arrays of an answer hold
+unfoldable pub read : Planned → Answer
+read r = record { outcome = r .outcome; keys = r .keys; plan = planOf (r .keys) (r .plan) }
+
+-- ---- from the graph's record to the table that a plan is made from
+
+abbrev pub touchedBy : Factor → FactorKeys
+touchedBy f = record { touched = f .touched; keys = f .keys }
+
+-- the table of the first n places
+pub record Table (g : Graph) (n : ℕ) (table : List FactorKeys) : Type 0 where
+  pub whole : length table ≡ max-factors
+  pub same : (i : ℕ) → i < n → getD table i noKeys ≡ touchedBy (factorAt g i)
+  pub long : (i : ℕ) → i < n → length (factorAt g i .keys) ≡ max-keys
+
+-- ---- a plan as text
+
+-- The length answered is within the buffer, and what follows it is unchanged; a buffer that is too short may hold anything; a refusal leaves it.
+unfoldable pub LaidOut : Graph → (a b : List ℕ) → Laid → Type 0
+LaidOut g a b (Length m) = (valid g ≡ true) × (length b ≡ length a) × (m ≤ length a) × (drop m b ≡ drop m a)
+LaidOut g a b Short = (valid g ≡ true) × (length b ≡ length a)
+LaidOut g a b (NoPlan why) = (valid g ≡ false) × (why ≡ NoSuchGraph) × (b ≡ a)

@@ -1,0 +1,102 @@
+// The plan of a graph, made before any arithmetic.
+use factor::Factor;
+use factor::limits::FACTORS;
+use factor::limits::KEYS;
+use graph::Graph;
+use graph::refusal::Refusal;
+use plan::factors::FactorKeys;
+use plan::plan::Plan;
+use plan_text::Written;
+ghost use mathlib.Core.Path.{_≡_};
+ghost use Prim.Native.Nat.{_≤_};
+ghost use lib.ListN.{length};
+ghost use Rattle.factor.specs.Limits.{max-variables, max-factors, max-keys};
+ghost use Rattle.plan.specs.Plan.{Bounded};
+ghost use Rattle.solver.specs.Plan as spec;
+
+// Whether a plan was made.
+pub enum Outcome {
+    Made,
+    Refused(Refusal),
+}
+
+// The outcome, how many keys the plan is for, and the plan: empty where it was refused.
+pub struct Planned {
+    pub outcome: Outcome,
+    pub keys: usize,
+    pub plan: Plan,
+}
+
+// What a plan needs to know of a factor.
+fn touched_by(f: Factor) -> FactorKeys
+    ensures { λ r. ⌜ (r ≡ spec.touchedBy f) × (length (f .keys) ≡ max-keys) ⌝ }
+{
+    let keys = f.keys;
+    FactorKeys {
+        touched: f.touched,
+        keys: keys,
+    }
+}
+
+// The same of all places of the graph.
+fn table_of(g: Graph) -> [FactorKeys; FACTORS]
+    ensures { λ r. ⌜ spec.Table g max-factors r ⌝ }
+{
+    let none = FactorKeys {
+        touched: 0,
+        keys: [0; KEYS],
+    };
+    let mut table = [none; FACTORS];
+    for i in 0..FACTORS {
+        let f = g.factors[i];
+        table[i] = touched_by(f);
+    }
+    table
+}
+
+// The plan of a graph: for each message its pass, step, content, kept and cleared keys; for each key the messages and originals gathered, the leaves, and the keys cleared last.
+pub fn plan(g: Graph) -> Planned
+    ensures { λ r. ⌜ spec.read r ≡ spec.planned g ⌝ }
+    ensures { λ r. ⌜ (r .keys ≤ max-variables) × Bounded (r .keys) (r .plan) ⌝ }
+{
+    let table = table_of(g);
+    if !g.valid() {
+        return Planned {
+            outcome: Outcome::Refused(Refusal::NoSuchGraph),
+            keys: 0,
+            plan: plan::plan::rising_plan(table, 0, 0),
+        };
+    }
+    let n = g.variables;
+    let count = g.count;
+    Planned {
+        outcome: Outcome::Made,
+        keys: n,
+        plan: plan::plan::rising_plan(table, count, n),
+    }
+}
+
+// How the text of a plan was laid: its length, that the buffer is too short, or why there is no plan.
+pub enum Laid {
+    Length(usize),
+    Short,
+    NoPlan(Refusal),
+}
+
+// The plan of a graph as text in a lent buffer, a line for each message and a line for each key.
+pub fn lay_plan(g: Graph, buffer: &mut [u8]) -> Laid
+    ensures { λ r. ⌜ spec.LaidOut g (now (buffer .entry)) (now (buffer .exit)) r ⌝ }
+{
+    let made = plan(g);
+    let outcome = made.outcome;
+    match outcome {
+        Outcome::Refused(why) => Laid::NoPlan(why),
+        Outcome::Made => {
+            let p = made.plan;
+            match plan_text::lay_plan(p, made.keys, buffer) {
+                Written::Length(size) => Laid::Length(size),
+                Written::Short => Laid::Short,
+            }
+        }
+    }
+}

@@ -1,0 +1,28 @@
+-- `workspace::subtract_at` meets its contract: a product in one list is the product of its parts. Assumes nothing.
+use Prim.Native.Nat.{_*_}
+use native.Mathlib.Omega.{arith}
+use borrow.Author.Needs.{needs}
+use Rattle.matrix.proofs.Dense.{dense}
+use Rattle.workspace.proofs.Cuts.{bounds}
+use Rattle.workspace.proofs.InPlace.{subtract-at-is}
+use Rattle.workspace.proofs.subtract_at.Statement.{statement}
+use Rattle.workspace.proofs.subtract_at.Tie as tie
+
+begin-requires : tie.Need-begin-requires
+begin-requires c κs = search needs
+
+begin-requires-2 : tie.Need-begin-requires-2
+begin-requires-2 c κs = search needs
+
+subtract-in-requires : tie.Need-subtract-in-requires
+subtract-in-requires c κs = let b = bounds (c .before .before .before .before .pre .0) (c .before .before .before .before .args .which) in (λ i j hi hj. omega (arith, c .before .before .begin .ensures, dense (c .before .before .before .before .args .f .rows) (c .before .before .before .before .args .w) _ (c .before .before .before .before .pre .1 .0 .1) i j hi hj), (λ i j hi hj. omega (arith, dense (c .before .before .before .before .args .f .cleared) (c .before .before .before .before .args .f .rows) (c .before .before .before .before .args .f .cleared * c .before .before .before .before .args .f .rows) (omega arith) j i hj hi), λ i j hi hj. omega (arith, c .before .begin2 .ensures, dense (c .before .before .before .before .args .f .cleared) (c .before .before .before .before .args .w) _ (c .before .before .before .before .pre .1 .1 .1) i j hi hj)))
+
+same-length : tie.Need-same-length
+same-length c = search needs
+
+returns : tie.Need-returns
+returns c = subtract-at-is (c .before .before .before .before .before .before .before .args .f) (c .before .before .before .before .before .before .before .args .work .now) _ (c .before .before .before .before .before .before .before .args .which) (c .before .before .before .before .before .before .before .args .right) _ _ _ (c .before .before .before .before .before .before .before .pre .0) (c .before .before .before .before .before .before .before .pre .1 .0 .0) (c .before .before .before .before .before .before .before .pre .1 .0 .1) (c .before .before .before .before .before .before .before .pre .1 .1 .0) (c .before .before .before .before .before .before .before .pre .1 .1 .1) (c .before .before .before .before .before .begin .ensures) (c .before .before .before .before .begin2 .ensures) (c .before .before .subtract-in .ensures)
+
+pub subtract-at-spec : {M : Type 1} → statement M
+subtract-at-spec =
+    tie.close (tie.spec begin-requires begin-requires-2 subtract-in-requires same-length returns)
