@@ -11,11 +11,18 @@ fn main() {
     for name in ["gaussian", "solver"] {
         let path = from.join(format!("{name}.rs"));
         println!("cargo:rerun-if-changed={}", path.display());
-        let text = fs::read_to_string(&path).unwrap_or_else(|e| panic!("{}: {e}; set ORIGINAL to the folder of the original's sources", path.display()));
+        let text = fs::read_to_string(&path).unwrap_or_else(|e| {
+            panic!("{}: {e}; set ORIGINAL to the folder of the original's sources", path.display())
+        });
         let child = here.join(format!("src/{name}_shown.rs"));
         let hung = format!("{text}\n#[path = {:?}]\npub mod shown;\n", child.display().to_string());
         fs::write(to.join(format!("{name}.rs")), hung).unwrap();
     }
-    let modules = ["gaussian", "solver"].map(|name| format!("#[allow(dead_code, unused)]\n#[path = {:?}]\npub mod {name};\n", to.join(format!("{name}.rs")).display().to_string()));
+    let modules = ["gaussian", "solver"].map(|name| {
+        format!(
+            "#[allow(dead_code, unused, clippy::all)]\n#[path = {:?}]\npub mod {name};\n",
+            to.join(format!("{name}.rs")).display().to_string()
+        )
+    });
     fs::write(to.join("original.rs"), modules.concat()).unwrap();
 }

@@ -1,4 +1,4 @@
-//! A stand-in for the error crate: an error is its outermost message.
+//! A stand-in for the error crate: an error is its messages, outermost first.
 
 pub struct Error(pub String);
 

@@ -1,0 +1,126 @@
+//! Recorded jobs: what `strips` must print for each, in one readable file.
+//!
+//! A line begins with what it is: `=` the name of the next case, `<` a record of its job in hexadecimal, `>` a line that is
+//! printed, `#` a remark. A case ends where the next begins.
+mod graphs;
+mod limits;
+mod pairs;
+mod random;
+mod reading;
+mod refusals;
+mod registration;
+mod writer;
+
+pub use graphs::any_graph;
+pub use random::{Random, two_to};
+pub use writer::{Job, identity};
+
+use crate::run::expected;
+
+pub struct Case {
+    pub name: String,
+    pub records: Vec<Vec<u8>>,
+    pub prints: String,
+}
+
+impl Case {
+    pub fn job(&self) -> Vec<u8> {
+        self.records.concat()
+    }
+}
+
+/// Cases under way, and the random numbers they draw.
+pub struct Cases {
+    all: Vec<Case>,
+    random: Random,
+}
+
+impl Cases {
+    /// A job that is in the domain.
+    fn add(&mut self, name: impl Into<String>, job: Job) {
+        let name = name.into();
+        let prints = expected(&job.bytes()).unwrap_or_else(|outside| panic!("{name}: {outside}"));
+        self.all.push(Case { name, records: job.records, prints });
+    }
+
+    /// The first job drawn that is in the domain and prints what is wanted.
+    fn draw(&mut self, name: impl Into<String>, make: impl Fn(&mut Random) -> Job, wanted: impl Fn(&str) -> bool) {
+        let name = name.into();
+        for _ in 0..DRAWS {
+            let job = make(&mut self.random);
+            if let Ok(prints) = expected(&job.bytes())
+                && wanted(&prints)
+            {
+                self.all.push(Case { name, records: job.records, prints });
+                return;
+            }
+        }
+        panic!("{name}: not found in {DRAWS} draws");
+    }
+}
+
+const DRAWS: usize = 20_000;
+const SEED: u64 = 20_491;
+
+/// Marginals were printed.
+fn succeeds(prints: &str) -> bool {
+    !prints.is_empty() && !prints.starts_with("refused")
+}
+
+/// Every case, always the same.
+pub fn all() -> Vec<Case> {
+    let mut cases = Cases { all: Vec::new(), random: Random::new(SEED) };
+    pairs::add(&mut cases);
+    reading::add(&mut cases);
+    registration::add(&mut cases);
+    limits::add(&mut cases);
+    graphs::add(&mut cases);
+    refusals::add(&mut cases);
+    cases.all
+}
+
+pub fn write(cases: &[Case]) -> String {
+    let mut text = String::from("# = name, < record of the job in hexadecimal, > line printed\n");
+    for case in cases {
+        text += &format!("= {}\n", case.name);
+        for record in &case.records {
+            let digits: String = record.iter().map(|byte| format!("{byte:02x}")).collect();
+            text += &format!("< {digits}\n");
+        }
+        case.prints.lines().for_each(|line| text += &format!("> {line}\n"));
+    }
+    text
+}
+
+/// Reads what `write` writes; none where a line isn't one of its lines.
+pub fn read(text: &str) -> Option<Vec<Case>> {
+    let mut cases: Vec<Case> = Vec::new();
+    for line in text.lines() {
+        let (kind, rest) = line.split_at_checked(2)?;
+        match kind {
+            "# " => {}
+            "= " => cases.push(Case { name: rest.to_string(), records: Vec::new(), prints: String::new() }),
+            "< " => cases.last_mut()?.records.push(record(rest)?),
+            "> " => cases.last_mut()?.prints += &format!("{rest}\n"),
+            _ => return None,
+        }
+    }
+    Some(cases)
+}
+
+fn record(digits: &str) -> Option<Vec<u8>> {
+    let byte = |at: usize| u8::from_str_radix(digits.get(at..at + 2)?, 16).ok();
+    (0..digits.len()).step_by(2).map(byte).collect()
+}
+
+/// How many cases print marginals, nothing, or each refusal at each stage.
+pub fn figures(cases: &[Case]) -> Vec<(String, usize)> {
+    let kind = |case: &Case| match case.prints.split(' ').collect::<Vec<_>>()[..] {
+        ["refused", number, stage, _] => format!("refused {number:>2} at stage {stage}"),
+        [""] => "nothing printed".to_string(),
+        _ => "marginals".to_string(),
+    };
+    let mut kinds: Vec<String> = cases.iter().map(kind).collect();
+    kinds.sort();
+    kinds.chunk_by(|a, b| a == b).map(|same| (same[0].clone(), same.len())).collect()
+}

@@ -1,0 +1,143 @@
+//! The job file: its records in turn, each handed to the original's registering calls once document 01's checks have passed.
+use nalgebra::{DMatrix, DVector};
+
+use crate::gaussian::shown::{self, Shown};
+use crate::gaussian::{Factor, FactorGraph, Symbol};
+use crate::refusal::{Reason, Refusal, Stage};
+
+pub const VARIABLES: usize = 32;
+pub const TOTAL_SIZE: usize = 32;
+pub const SIZES: std::ops::RangeInclusive<usize> = 1..=6;
+pub const FACTORS: usize = 64;
+pub const KEYS: usize = 8;
+pub const ROWS: std::ops::RangeInclusive<usize> = 1..=12;
+
+/// The stores of the program `strips`, in numbers.
+pub const FACTOR_STORE: usize = 2048;
+pub const MESSAGE_STORE: usize = 3072;
+
+/// The graph as far as the job was accepted, and the refusal that ended the reading.
+pub struct Read {
+    pub graph: FactorGraph<f64>,
+    pub refusal: Option<Refusal>,
+}
+
+/// Reads a job to its end or to its first refused record.
+pub fn read(job: &[u8]) -> Read {
+    let mut graph = FactorGraph::new();
+    let mut bytes = Bytes(job);
+    let mut record = 0;
+    while !bytes.0.is_empty() {
+        if let Err(reason) = register(&mut graph, &mut bytes) {
+            return Read { graph, refusal: Some(Refusal { reason, stage: Stage::Reading, place: record }) };
+        }
+        record += 1;
+    }
+    Read { graph, refusal: None }
+}
+
+/// What is left of the job. A part that is cut is refusal 8.
+struct Bytes<'a>(&'a [u8]);
+
+impl<'a> Bytes<'a> {
+    fn take(&mut self, count: usize) -> Result<&'a [u8], Reason> {
+        let (taken, left) = self.0.split_at_checked(count).ok_or(Reason::Malformed)?;
+        self.0 = left;
+        Ok(taken)
+    }
+
+    fn numbers(&mut self, count: usize) -> Result<Vec<f64>, Reason> {
+        let taken = self.take(8 * count)?;
+        Ok(taken.chunks_exact(8).map(|eight| f64::from_le_bytes(eight.try_into().unwrap())).collect())
+    }
+}
+
+fn register(graph: &mut FactorGraph<f64>, bytes: &mut Bytes) -> Result<(), Reason> {
+    match bytes.take(2)? {
+        b"VA" => variable(graph, bytes.take(9)?),
+        b"PR" => prior(graph, bytes),
+        b"OB" => observation(graph, bytes),
+        _ => Err(Reason::Malformed),
+    }
+}
+
+fn check(holds: bool, reason: Reason) -> Result<(), Reason> {
+    if holds { Ok(()) } else { Err(reason) }
+}
+
+fn variable(graph: &mut FactorGraph<f64>, record: &[u8]) -> Result<(), Reason> {
+    let word = |at: usize| u32::from_le_bytes(record[at..at + 4].try_into().unwrap());
+    let letter = char::from_u32(word(0)).ok_or(Reason::Letter)?;
+    let symbol = Symbol(letter, word(4) as usize);
+    let size = record[8] as usize;
+    check(SIZES.contains(&size), Reason::Size)?;
+    check(graph.key(&symbol).is_none(), Reason::NameTaken)?;
+    check(graph.n_keys() < VARIABLES && total_size(graph) + size <= TOTAL_SIZE, Reason::PastLimit)?;
+    graph.add_variable(symbol, size).expect("the original refuses a name only where it is taken");
+    Ok(())
+}
+
+fn prior(graph: &mut FactorGraph<f64>, bytes: &mut Bytes) -> Result<(), Reason> {
+    let key = bytes.take(1)?[0] as usize;
+    let size = graph.size(key).ok_or(Reason::NoSuchKey)?;
+    let given = bytes.numbers(size + size * size)?;
+    check_factor(graph, given.len(), &given)?;
+    let mean = DVector::from_column_slice(&given[..size]);
+    let variance = DMatrix::from_column_slice(size, size, &given[size..]);
+    graph.add_prior(key, mean, variance).map_err(|_| Reason::VariancePivot)?;
+    check_computed(graph)
+}
+
+fn observation(graph: &mut FactorGraph<f64>, bytes: &mut Bytes) -> Result<(), Reason> {
+    let header = bytes.take(3)?;
+    let (count, rows, flag) = (header[0] as usize, header[1] as usize, header[2]);
+    check(flag <= 1, Reason::Malformed)?;
+    check(count <= KEYS && ROWS.contains(&rows), Reason::Count)?;
+    let keys: Vec<usize> = bytes.take(count)?.iter().map(|&key| key as usize).collect();
+    check(keys.windows(2).all(|pair| pair[0] < pair[1]), Reason::KeysNotRising)?;
+    check(keys.iter().all(|&key| graph.has_key(key)), Reason::NoSuchKey)?;
+    let width: usize = keys.iter().map(|&key| graph.size(key).unwrap()).sum();
+    let with_variance = if flag == 1 { rows * rows } else { 0 };
+    let given = bytes.numbers(rows * width + rows + with_variance)?;
+    check_factor(graph, rows * width + rows + rows * rows, &given)?;
+    let (a, rest) = given.split_at(rows * width);
+    let (mean, variance) = rest.split_at(rows);
+    let a = DMatrix::from_column_slice(rows, width, a);
+    let mean = DVector::from_column_slice(mean);
+    let variance = match flag {
+        1 => DMatrix::from_column_slice(rows, rows, variance),
+        _ => DMatrix::identity(rows, rows),
+    };
+    graph.add_observation(keys, a, mean, variance).map_err(|_| Reason::VariancePivot)?;
+    check_computed(graph)
+}
+
+/// What registration checks of a factor of whole numbers before any arithmetic.
+fn check_factor(graph: &FactorGraph<f64>, takes: usize, given: &[f64]) -> Result<(), Reason> {
+    check(graph.n_factors() < FACTORS, Reason::PastLimit)?;
+    check(stored(graph) + takes <= FACTOR_STORE, Reason::FactorStoreShort)?;
+    check(given.iter().all(|x| x.is_finite()), Reason::NumberNotFinite)
+}
+
+/// The original stores what isn't finite; document 01 refuses it.
+fn check_computed(graph: &FactorGraph<f64>) -> Result<(), Reason> {
+    let newest = graph.factors().last().unwrap();
+    check(numbers(newest).all(|x| x.is_finite()), Reason::NumberNotFinite)
+}
+
+fn total_size(graph: &FactorGraph<f64>) -> usize {
+    graph.keys().map(|key| graph.size(key).unwrap()).sum()
+}
+
+/// Numbers that the graph's factors take in the factor store.
+pub fn stored(graph: &FactorGraph<f64>) -> usize {
+    graph.factors().iter().map(|factor| numbers(factor).count()).sum()
+}
+
+fn numbers(factor: &Factor<f64>) -> impl Iterator<Item = &f64> {
+    let (a, xi, w): (&[f64], _, _) = match shown::factor(factor) {
+        Shown::Prior { xi, w, .. } => (&[], xi, w),
+        Shown::Likelihood { a, xi, w, .. } => (a, xi, w),
+    };
+    a.iter().chain(xi).chain(w)
+}

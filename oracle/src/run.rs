@@ -1,0 +1,248 @@
+//! The run, carried out elimination by elimination through the original's own functions, so that the first refusal shows
+//! with its stage and key. The original's whole passes and whole run must agree with it bit by bit; a panic says they don't.
+use std::fmt;
+
+use crate::gaussian::shown::{self, Shown};
+use crate::gaussian::{FactorGraph, FactorView, Likelihood, Marginal};
+use crate::job::{self, MESSAGE_STORE};
+use crate::plan::{Elimination, Gathered, Message, Plan, Shapes};
+use crate::refusal::{Reason, Refusal, Stage};
+use crate::solver::shown as passes;
+use crate::solver::{ClosedFactor, Slot, Smoother};
+
+/// An elimination outside the domain of equality: the original's answer wouldn't be document 01's.
+#[derive(Debug, Clone, Copy, PartialEq, Eq)]
+pub struct Outside {
+    pub stage: Stage,
+    pub key: usize,
+}
+
+impl fmt::Display for Outside {
+    fn fmt(&self, f: &mut fmt::Formatter<'_>) -> fmt::Result {
+        let Outside { stage, key } = *self;
+        write!(f, "outside the domain of equality at stage {}, key {key}: ", stage as u32)?;
+        f.write_str("in the z branch, a factor with two or more cleared keys that aren't all of size 1")
+    }
+}
+
+/// Why there are no marginals.
+#[derive(Debug, Clone, Copy, PartialEq, Eq)]
+pub enum End {
+    Refused(Refusal),
+    Outside(Outside),
+}
+
+/// As far as a run came.
+pub struct Run {
+    pub plan: Plan,
+    pub forward: Vec<ClosedFactor<f64>>,
+    pub backward: Vec<ClosedFactor<f64>>,
+    pub marginals: Vec<Marginal<f64>>,
+    pub end: Option<End>,
+}
+
+/// What `strips` prints for a job; none where an elimination outside the domain stands before the answer.
+pub fn expected(job: &[u8]) -> Result<String, Outside> {
+    let job::Read { graph, refusal } = job::read(job);
+    if let Some(refusal) = refusal {
+        return Ok(format!("{refusal}\n"));
+    }
+    let order: Vec<usize> = graph.keys().collect();
+    let run = run(&graph, &order);
+    agrees_with_smoother(&run, graph);
+    match run.end {
+        Some(End::Refused(refusal)) => Ok(format!("{refusal}\n")),
+        Some(End::Outside(outside)) => Err(outside),
+        None => Ok(lines(&run.marginals)),
+    }
+}
+
+/// A line a key: mean, then covariance column by column.
+pub fn lines(marginals: &[Marginal<f64>]) -> String {
+    let line = |m: &Marginal<f64>| format!("{}{}{}\n", m.key, digits(&m.mean.data), digits(&m.cov.data));
+    marginals.iter().map(line).collect()
+}
+
+/// Each number as a space and 16 hexadecimal digits.
+pub fn digits(numbers: &[f64]) -> String {
+    numbers.iter().map(|x| format!(" {:016X}", x.to_bits())).collect()
+}
+
+/// Both passes and every marginal, with the keys taken in this order.
+pub fn run(graph: &FactorGraph<f64>, order: &[usize]) -> Run {
+    let shapes = Shapes::of(graph);
+    let plan = Plan::new(&shapes, order);
+    let mut run = Run { plan, forward: Vec::new(), backward: Vec::new(), marginals: Vec::new(), end: None };
+    run.end = carry_out(graph, &mut run).err();
+    agrees_with_passes(graph, &run, order);
+    run
+}
+
+fn carry_out(graph: &FactorGraph<f64>, run: &mut Run) -> Result<(), End> {
+    if run.plan.figure() > MESSAGE_STORE {
+        return Err(refused(Reason::MessageStoreShort, Stage::Forward, 0));
+    }
+    for message in &run.plan.forward {
+        run.forward.push(close(graph, message, &run.forward, Stage::Forward)?);
+    }
+    for message in &run.plan.backward {
+        run.backward.push(close(graph, message, &run.backward, Stage::Backward)?);
+    }
+    for gathered in &run.plan.gathered {
+        run.marginals.push(marginal(graph, gathered, &run.forward, &run.backward)?);
+    }
+    Ok(())
+}
+
+fn refused(reason: Reason, stage: Stage, place: usize) -> End {
+    End::Refused(Refusal { reason, stage, place })
+}
+
+/// One message of a pass.
+fn close(
+    graph: &FactorGraph<f64>,
+    message: &Message,
+    before: &[ClosedFactor<f64>],
+    stage: Stage,
+) -> Result<ClosedFactor<f64>, End> {
+    let view = |slot: &Slot| match *slot {
+        Slot::Original(i) => FactorView::from(&graph.factors()[i]),
+        Slot::Closed(j) => FactorView::from(&before[j].factor),
+    };
+    let slots: Vec<FactorView<f64>> = message.content.iter().map(view).collect();
+    let factor = eliminate(graph, &slots, &message.work, stage, message.key)?;
+    Ok(ClosedFactor { factor, content: message.content.clone(), step: message.step })
+}
+
+/// One key: 18, then 15 and 17 of the last elimination, then 16 and 17 of the marginal.
+fn marginal(
+    graph: &FactorGraph<f64>,
+    gathered: &Gathered,
+    forward: &[ClosedFactor<f64>],
+    backward: &[ClosedFactor<f64>],
+) -> Result<Marginal<f64>, End> {
+    let key = gathered.key;
+    let refuse = |reason| refused(reason, Stage::Marginals, key);
+    if has_repeat(&gathered.leaves) {
+        return Err(refuse(Reason::CountedTwice));
+    }
+    let mut slots: Vec<FactorView<f64>> = Vec::new();
+    slots.extend(gathered.forward.iter().map(|&j| FactorView::from(&forward[j].factor)));
+    slots.extend(gathered.backward.iter().map(|&j| FactorView::from(&backward[j].factor)));
+    slots.extend(gathered.originals.iter().map(|&i| FactorView::from(&graph.factors()[i])));
+    let likelihood = eliminate(graph, &slots, &gathered.work, Stage::Marginals, key)?;
+    let marginal = Marginal::from(key, None, &likelihood).map_err(|_| refuse(Reason::MarginalPivot))?;
+    if !marginal.mean.data.iter().chain(&marginal.cov.data).all(|x| x.is_finite()) {
+        return Err(refuse(Reason::ResultNotFinite));
+    }
+    Ok(marginal)
+}
+
+fn has_repeat(leaves: &[usize]) -> bool {
+    (1..leaves.len()).any(|at| leaves[..at].contains(&leaves[at]))
+}
+
+/// The original's elimination. It fails only on a refused pivot, so what it computes is looked at here.
+fn eliminate(
+    graph: &FactorGraph<f64>,
+    slots: &[FactorView<f64>],
+    work: &Elimination,
+    stage: Stage,
+    key: usize,
+) -> Result<Likelihood<f64>, End> {
+    if !work.in_domain {
+        return Err(End::Outside(Outside { stage, key }));
+    }
+    let size_of = |key: usize| graph.size(key).unwrap();
+    let result = Likelihood::eliminate(slots.iter().copied(), &work.kept, &work.cleared, size_of);
+    let likelihood = result.map_err(|_| refused(Reason::ClearedPivot, stage, key))?;
+    assert_eq!(likelihood.dim_y(), work.rows, "rows of the original and of the plan");
+    let (a, xi, w) = parts(&likelihood);
+    if !a.iter().chain(xi).chain(w).all(|x| x.is_finite()) {
+        return Err(refused(Reason::ResultNotFinite, stage, key));
+    }
+    Ok(likelihood)
+}
+
+/// A, xi and W.
+pub fn parts(likelihood: &Likelihood<f64>) -> (&[f64], &[f64], &[f64]) {
+    match shown::likelihood(likelihood) {
+        Shown::Likelihood { a, xi, w, .. } => (a, xi, w),
+        Shown::Prior { .. } => unreachable!("a likelihood is shown as one"),
+    }
+}
+
+/// Holds the replay against the original's passes and gathering.
+fn agrees_with_passes(graph: &FactorGraph<f64>, run: &Run, order: &[usize]) {
+    let reversed: Vec<usize> = order.iter().rev().copied().collect();
+    agrees_with_pass(graph, order, &run.plan.forward, &run.forward, ended_by_pivot(run, Stage::Forward));
+    agrees_with_pass(graph, &reversed, &run.plan.backward, &run.backward, ended_by_pivot(run, Stage::Backward));
+    if run.end.is_none() {
+        run.plan.gathered.iter().for_each(|gathered| agrees_with_gathering(run, gathered, order));
+    }
+}
+
+fn ended_by_pivot(run: &Run, at: Stage) -> bool {
+    matches!(run.end, Some(End::Refused(Refusal { reason: Reason::ClearedPivot, stage, .. })) if stage == at)
+}
+
+/// A whole pass runs through messages that aren't finite and may panic outside the domain, so what it shows is: the plan
+/// wherever it succeeds, the numbers of the messages that the replay finished, and a failure exactly at a refused pivot.
+fn agrees_with_pass(
+    graph: &FactorGraph<f64>,
+    order: &[usize],
+    planned: &[Message],
+    done: &[ClosedFactor<f64>],
+    ended_by_pivot: bool,
+) {
+    if !planned.iter().all(|message| message.work.in_domain) {
+        return;
+    }
+    match passes::pass(graph, order) {
+        Ok(messages) => {
+            assert!(!ended_by_pivot, "the original's pass goes on past a refused pivot");
+            assert_eq!(messages.len(), planned.len(), "messages of the original and of the plan");
+            assert!(messages.iter().zip(planned).all(|(m, p)| follows(m, p)), "the original's pass isn't the plan's");
+            assert!(messages.iter().zip(done).all(|(m, d)| same(m, d)), "the original's messages aren't the replay's");
+        }
+        Err(error) => assert!(done.len() < planned.len(), "the original's pass fails without cause: {error:?}"),
+    }
+}
+
+fn follows(message: &ClosedFactor<f64>, planned: &Message) -> bool {
+    message.step == planned.step && message.content == planned.content && message.keys() == planned.work.kept
+}
+
+fn same(left: &ClosedFactor<f64>, right: &ClosedFactor<f64>) -> bool {
+    let ((a, xi, w), (b, eta, v)) = (parts(&left.factor), parts(&right.factor));
+    digits(a) == digits(b) && digits(xi) == digits(eta) && digits(w) == digits(v)
+}
+
+/// The original's own gathering over the finished messages.
+fn agrees_with_gathering(run: &Run, gathered: &Gathered, order: &[usize]) {
+    let place = order.iter().position(|&key| key == gathered.key).unwrap();
+    let mut covered = vec![false; gathered.leaves.len()];
+    let both = [(&run.forward, &gathered.forward, place), (&run.backward, &gathered.backward, order.len() - 1 - place)];
+    for (messages, roots, steps) in both {
+        assert_eq!(&passes::alive(messages, steps), roots, "messages that the original gathers");
+        for &root in roots {
+            passes::leaves(messages, root, &mut covered).expect("the original covers an original twice");
+        }
+    }
+    let uncovered: Vec<usize> = (0..covered.len()).filter(|&i| !covered[i]).collect();
+    assert_eq!(uncovered, gathered.originals, "originals that the original leaves uncovered");
+}
+
+/// The original's whole run must give the same marginals, and fail where a pivot was refused.
+fn agrees_with_smoother(run: &Run, graph: FactorGraph<f64>) {
+    match run.end {
+        None => {
+            let marginals = Smoother::new(graph).run().expect("the original's run goes through");
+            assert_eq!(lines(&marginals), lines(&run.marginals), "the original's marginals aren't the replay's");
+        }
+        Some(End::Refused(Refusal { reason: Reason::ClearedPivot | Reason::MarginalPivot, .. })) => {
+            assert!(Smoother::new(graph).run().is_err(), "the original's run goes on past a refused pivot");
+        }
+        Some(_) => {}
+    }
+}

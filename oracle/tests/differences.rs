@@ -1,0 +1,95 @@
+//! Where the original leaves document 01: smallest inputs, with what each of the two says.
+use nalgebra::{DMatrix, DVector};
+use oracle::cases::Job;
+use oracle::gaussian::{FactorGraph, Symbol};
+use oracle::job;
+use oracle::refusal::Stage;
+use oracle::run::{Outside, expected, parts};
+use oracle::solver::shown::pass;
+
+/// Keys of these sizes and of size 1, a prior of this variance on all but the last, and one row 1, 2, 3, ... across them.
+fn row_across(sizes: &[usize], variance: f64) -> Job {
+    let keys: Vec<usize> = (0..=sizes.len()).collect();
+    let width = sizes.iter().sum::<usize>() + 1;
+    let a: Vec<f64> = (1..=width).map(|at| at as f64).collect();
+    let job = Job::with(&[sizes, &[1]].concat());
+    let held = (0..sizes.len()).fold(job, |job, key| job.plain_prior(key, variance));
+    held.unit_observation(&keys, &a, &[0.0])
+}
+
+/// W of the original's forward message. By document 01, with b the cleared part of the row and v the priors' variance,
+/// it is 1 / (1 + v b'b) but for rounding.
+fn forward_w(job: &Job) -> anyhow::Result<f64> {
+    let graph = job::read(&job.bytes()).graph;
+    let order: Vec<usize> = graph.keys().collect();
+    Ok(parts(&pass(&graph, &order)?[0].factor).2[0])
+}
+
+fn near(x: f64, y: f64) -> bool {
+    (x - y).abs() < 1e-12
+}
+
+const AT_KEY_2: Outside = Outside { stage: Stage::Forward, key: 2 };
+
+/// Two cleared keys of size 2 under one factor in z: block (1, 0) stays untransposed in the original. Under narrow priors
+/// its W differs.
+#[test]
+fn cleared_keys_of_equal_size_differ() {
+    let job = row_across(&[2, 2], 1.0 / 64.0);
+    assert_eq!(expected(&job.bytes()), Err(AT_KEY_2));
+    assert!(!near(forward_w(&job).unwrap(), 1.0 / (1.0 + 30.0 / 64.0)));
+}
+
+/// Under unit priors the original even refuses a pivot, where document 01 has W = 1/31.
+#[test]
+fn cleared_keys_of_equal_size_fail() {
+    let job = row_across(&[2, 2], 1.0);
+    assert_eq!(expected(&job.bytes()), Err(AT_KEY_2));
+    assert!(forward_w(&job).is_err());
+}
+
+/// Cleared keys of sizes 2 and 1: the original's blocks don't fit, and it panics.
+#[test]
+fn cleared_keys_of_unequal_size_panic() {
+    let job = row_across(&[2, 1], 1.0);
+    assert_eq!(expected(&job.bytes()), Err(AT_KEY_2));
+    assert!(std::panic::catch_unwind(|| forward_w(&job)).is_err());
+}
+
+/// With cleared keys of size 1 a block is its own transpose.
+#[test]
+fn cleared_keys_of_size_1_agree() {
+    let job = row_across(&[1, 1], 1.0);
+    assert!(expected(&job.bytes()).is_ok());
+    assert!(near(forward_w(&job).unwrap(), 1.0 / 6.0));
+}
+
+/// A refusal that comes before the elimination outside the domain is printed all the same.
+#[test]
+fn an_earlier_refusal_stands() {
+    let job = Job::with(&[1, 2, 2, 1]).unit_observation(&[1, 2, 3], &[1.0; 5], &[0.0]);
+    assert_eq!(expected(&job.bytes()), Ok("refused 15 1 1\n".to_string()));
+}
+
+/// Document 01 refuses repeated keys (3) and size 0 (2); the original takes both.
+#[test]
+fn repeated_keys_and_size_0() {
+    let mut graph: FactorGraph<f64> = FactorGraph::new();
+    graph.add_variable(Symbol('a', 0), 1).unwrap();
+    assert_eq!(graph.add_variable(Symbol('a', 1), 0).unwrap(), 1);
+    let (a, mean) = (DMatrix::from_column_slice(1, 2, &[1.0, 1.0]), DVector::zeros(1));
+    assert_eq!(graph.add_observation(vec![0, 0], a, mean, DMatrix::identity(1, 1)).unwrap(), 0);
+    let repeated = Job::with(&[1]).unit_observation(&[0, 0], &[1.0, 1.0], &[0.0]);
+    assert_eq!(expected(&repeated.bytes()), Ok("refused 3 0 1\n".to_string()));
+    assert_eq!(expected(&Job::with(&[1, 0]).bytes()), Ok("refused 2 0 1\n".to_string()));
+}
+
+/// The original stores and hands on what isn't finite; document 01 refuses it with 6 and 17.
+#[test]
+fn numbers_that_are_not_finite() {
+    let mut graph: FactorGraph<f64> = FactorGraph::new();
+    graph.add_variable(Symbol('a', 0), 1).unwrap();
+    let (mean, variance) = (DVector::zeros(1), DMatrix::from_column_slice(1, 1, &[5e-324]));
+    assert_eq!(graph.add_prior(0, mean, variance).unwrap(), 0);
+    assert_eq!(expected(&Job::with(&[1]).prior(0, &[0.0], &[5e-324]).bytes()), Ok("refused 6 0 1\n".to_string()));
+}

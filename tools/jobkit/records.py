@@ -1,0 +1,83 @@
+"""The job file: records to bytes and back. Numbers are 64 bits; matrices stand column by column."""
+
+import struct
+from collections import namedtuple
+
+Variable = namedtuple("Variable", "letter index size")
+Factor = namedtuple("Factor", "kind keys rows parts")  # parts: name to numbers, as in shapes
+Raw = namedtuple("Raw", "data")
+
+VARIABLE, PRIOR, OBSERVATION = b"VA", b"PR", b"OB"
+OMITTED, GIVEN = 0, 1  # flag of an observation: is there a variance?
+
+
+def shapes(kind, rows, width):
+    """The matrices of a factor in the order of the file, each with its rows and columns."""
+    if kind == PRIOR:
+        return {"mean": (1, width), "variance": (width, width)}
+    return {"A": (rows, width), "mean": (1, rows), "variance": (rows, rows)}
+
+
+def encode(record):
+    if isinstance(record, Raw):
+        return record.data
+    if isinstance(record, Variable):
+        return VARIABLE + struct.pack("<IIB", *record)
+    kind, keys, rows, parts = record
+    numbers = [bits for part in parts.values() for bits in part]
+    head = [] if kind == PRIOR else [len(keys), rows, GIVEN if "variance" in parts else OMITTED]
+    return kind + bytes(head + keys) + struct.pack(f"<{len(numbers)}Q", *numbers)
+
+
+class Unreadable(Exception):
+    """The record at hand is cut, or its length can't be known."""
+
+
+class Decoder:
+    """Reads record after record; sizes[k] is the size of key k, the k-th variable."""
+
+    def __init__(self, data):
+        self.data, self.at, self.sizes = data, 0, []
+
+    def take(self, form):
+        start, self.at = self.at, self.at + struct.calcsize(form)
+        if self.at > len(self.data):
+            raise Unreadable
+        return list(struct.unpack(form, self.data[start:self.at]))
+
+    def variable(self):
+        record = Variable(*self.take("<IIB"))
+        self.sizes.append(record.size)
+        return record
+
+    def factor(self, kind):
+        count, rows, flag = (1, 0, GIVEN) if kind == PRIOR else self.take("<3B")
+        keys = self.take(f"<{count}B")
+        if flag not in (OMITTED, GIVEN) or max(keys, default=-1) >= len(self.sizes):
+            raise Unreadable
+        parts = shapes(kind, rows, sum(self.sizes[key] for key in keys))
+        if flag == OMITTED:
+            del parts["variance"]
+        return Factor(kind, keys, rows, {name: self.take(f"<{down * across}Q") for name, (down, across) in parts.items()})
+
+    def record(self):
+        mark = bytes(self.take("<2B"))
+        if mark not in (VARIABLE, PRIOR, OBSERVATION):
+            raise Unreadable
+        return self.variable() if mark == VARIABLE else self.factor(mark)
+
+
+def decode(data):
+    """The records; what can't be read on is one Raw at the end."""
+    decoder, found = Decoder(data), []
+    while decoder.at < len(data):
+        start = decoder.at
+        try:
+            found.append(decoder.record())
+        except Unreadable:
+            return found + [Raw(data[start:])]
+    return found
+
+
+def only(kind, records):
+    return [record for record in records if isinstance(record, kind)]
