@@ -1,5 +1,5 @@
 -- The branch that the rows choose is the definition's, and what is asked for holds in it. Assumes nothing.
-use Prim.Native.Nat.{ℕ, _+_, _-_, _*_, _≤_, _<_}
+use Prim.Native.Nat.{ℕ, _+_, _-_, _≤_, _<_}
 use mathlib.Core.Path.{_≡_, ap, _∙_, subst}
 use mathlib.Core.Bool.{Bool, cond}
 use mathlib.Core.List.{List}
@@ -7,18 +7,26 @@ use native.Mathlib.Omega.{arith}
 use lib.Dec.{leb}
 use lib.ListN.{length, getD}
 use lib.Ieee.{Float}
-use Rattle.workspace.specs.Frames.{frameOf}
+use Rattle.matrix.specs.Views.{part, splice}
+use Rattle.workspace.specs.Frames.{frameOf, work-numbers}
 use Rattle.workspace.specs.declared.Frame.{Frame}
+use Rattle.workspace.proofs.Cuts.{frame-laid}
+use Rattle.factor.specs.Limits.{max-total}
+use Rattle.slots.specs.Limits.{scratch-numbers}
 use Rattle.slots.specs.Views.{rowsOfAll}
-use Rattle.slots.specs.Tables.{headOf, viewAt, rowsByAll}
+use Rattle.slots.specs.Tables.{headOf, numbersOf, viewAt, rowsByAll}
 use Rattle.slots.specs.Fitting.{Ready}
 use Rattle.slots.specs.declared.layout.Layout.{Layout}
-use Rattle.gaussian.specs.Elimination.{run, branched}
-use Rattle.gaussian.specs.Answers.{answer, stored, branchedAt}
+use Rattle.gaussian.specs.Elimination.{Outcome, run, branched}
+use Rattle.gaussian.specs.Answers.{answer, numbersIn, leftIn, branchedAt}
 use Rattle.gaussian.specs.Asked.{Whole, frameFor}
 use Rattle.gaussian.specs.declared.Eliminated.{Eliminated}
 
-module _ {u d : ℕ} {m : Layout} {factors messages : List Float} {work : ℕ} {keys heads slots : List ℕ} {to : ℕ} (q : Whole u d m factors messages work keys heads slots to)
+-- the same dimensions and the same outcome
+pub left-same : (u v d e : ℕ) (t : List Float) (o p : Outcome) → u ≡ v → d ≡ e → o ≡ p → leftIn u d t o ≡ numbersIn o → leftIn v e t p ≡ numbersIn p
+left-same u v d e t o p eu ed eo h = rw (eu, ed, eo) at h
+
+module _ {u d : ℕ} {m : Layout} {factors messages : List Float} {work : ℕ} {keys heads slots : List ℕ} (q : Whole u d m factors messages work keys heads slots)
     {y r : ℕ} {z : Bool} {f : Frame} (ey : y ≡ rowsByAll m keys heads slots (length slots)) (ez : leb y d ≡ z) (er : cond z y d ≡ r) (ef : f ≡ frameOf u r d) where
   same-z : leb (rowsByAll m keys heads slots (length slots)) d ≡ z
   same-z = rw (← ey) ez
@@ -26,25 +34,48 @@ module _ {u d : ℕ} {m : Layout} {factors messages : List Float} {work : ℕ} {
   same-f : frameFor u d (rowsByAll m keys heads slots (length slots)) ≡ f
   same-f = rw (← ey, ez, er, ef)
 
-  pub room-is : to + (f .end - f .a) ≤ length messages
-  unfolding frameOf
-  room-is = let h : to + (r * d + r + r * r) ≤ length messages = rw (← ey, ez, er) at (q .room) in rw ef (omega arith)
-
-  pub ready-is : (i : ℕ) → i < length slots → Ready f m z (rowsOfAll m (viewAt factors messages keys heads slots) i) factors messages keys 192 (headOf heads (getD slots i 0))
+  pub ready-is : (i : ℕ) → i < length slots → Ready f m z (rowsOfAll m (viewAt factors messages keys heads slots) i) factors messages keys scratch-numbers (headOf heads (getD slots i 0))
   ready-is i h =
-      subst (λ (g : Frame). Ready g m z (rowsOfAll m (viewAt factors messages keys heads slots) i) factors messages keys 192 (headOf heads (getD slots i 0))) same-f
-      (subst (λ (b : Bool). Ready (frameFor u d (rowsByAll m keys heads slots (length slots))) m b (rowsOfAll m (viewAt factors messages keys heads slots) i) factors messages keys 192 (headOf heads (getD slots i 0))) same-z (q .ready i h))
+      subst (λ (g : Frame). Ready g m z (rowsOfAll m (viewAt factors messages keys heads slots) i) factors messages keys scratch-numbers (headOf heads (getD slots i 0))) same-f
+      (subst (λ (b : Bool). Ready (frameFor u d (rowsByAll m keys heads slots (length slots))) m b (rowsOfAll m (viewAt factors messages keys heads slots) i) factors messages keys scratch-numbers (headOf heads (getD slots i 0))) same-z (q .ready i h))
 
   run-is : run z f m (viewAt factors messages keys heads slots) (length slots) ≡ branchedAt u d m factors messages keys heads slots
   unfolding branchedAt branched
   run-is = rw (← q .rows, same-z, ← same-f, same-z)
 
-  pub branch-is : (a : Eliminated) (l x : List Float) → a ≡ answer (run z f m (viewAt factors messages keys heads slots) (length slots))
-      → x ≡ stored l to (run z f m (viewAt factors messages keys heads slots) (length slots))
-      → (a ≡ answer (branchedAt u d m factors messages keys heads slots)) × (x ≡ stored l to (branchedAt u d m factors messages keys heads slots))
-  branch-is a l x ea ex = (ea ∙ ap answer run-is, ex ∙ ap (stored l to) run-is)
+  cleared-is : f .cleared ≡ u
+  unfolding frameOf
+  cleared-is = rw ef
+
+  kept-is : f .kept ≡ d
+  unfolding frameOf
+  kept-is = rw ef
+
+  pub branch-is : (a : Eliminated) (t : List Float) → a ≡ answer (run z f m (viewAt factors messages keys heads slots) (length slots))
+      → leftIn (f .cleared) (f .kept) t (run z f m (viewAt factors messages keys heads slots) (length slots)) ≡ numbersIn (run z f m (viewAt factors messages keys heads slots) (length slots))
+      → (a ≡ answer (branchedAt u d m factors messages keys heads slots)) × (leftIn u d t (branchedAt u d m factors messages keys heads slots) ≡ numbersIn (branchedAt u d m factors messages keys heads slots))
+  branch-is a t ea et = (ea ∙ ap answer run-is, left-same _ _ _ _ t _ _ cleared-is kept-is run-is et)
 
 -- in x there are as many rows as kept columns
 pub frame-square : (u d : ℕ) (f : Frame) → f ≡ frameOf u d d → f .rows ≡ f .kept
 unfolding frameOf
 frame-square u d f e = rw e
+
+-- ---- where the message stands in the work store
+
+-- the frame's end by the message's rows and columns, and within any work store
+pub record Spans (r d : ℕ) (f : Frame) : Type 0 where
+  pub ends : f .end ≡ f .a + numbersOf r d
+  pub within : f .end ≤ work-numbers
+
+pub spans : (u r d : ℕ) (f : Frame) → f ≡ frameOf u r d → u + d ≤ max-total → r ≤ d → Spans r d f
+unfolding frameOf
+spans u r d f e s h = rw e (record { ends = omega arith; within = frame-laid u r d work-numbers s h (omega arith) .fits })
+
+span-is : (u r d : ℕ) (f : Frame) → f ≡ frameOf u r d → f .end - f .a ≡ numbersOf r d
+unfolding frameOf
+span-is u r d f e = rw e (omega arith)
+
+pub sent-is : (u r d to e : ℕ) (f : Frame) (l t x : List Float) → f ≡ frameOf u r d → e ≡ to + (f .end - f .a) → x ≡ part t (f .a) (f .end)
+    → splice l to e x ≡ splice l to (to + numbersOf r d) (part t (frameOf u r d .a) (frameOf u r d .end))
+sent-is u r d to e f l t x ef ee ex = let g : e ≡ to + numbersOf r d = ee ∙ ap (λ (k : ℕ). to + k) (span-is u r d f ef) in rw (ex, g, ef)

@@ -6,7 +6,6 @@ use lib.IntN.{pos, negsuc}
 use lib.Ieee.{Float, binary64, ofBits, fin}
 use Rattle.workspace.specs.Frames.{frameOf}
 use Rattle.slots.specs.Layouts.{layoutOf}
-use Rattle.slots.specs.Views as views
 use Rattle.slots.specs.Views.{FactorView, prior, likelihood, rowsOfAll, withViews}
 use Rattle.gaussian.proofs.Computing.{computed}
 use Rattle.gaussian.specs.Elimination.{eliminate, branched, run, begun, nth, pivot, unbounded, message}

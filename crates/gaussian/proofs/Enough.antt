@@ -11,6 +11,7 @@ use lib.Seq.{getD-take, getD-drop}
 use lib.Ieee.{Float}
 use Rattle.matrix.specs.Views.{part}
 use Rattle.workspace.specs.Frames.{frameOf}
+use Rattle.slots.specs.Limits.{scratch-numbers}
 use Rattle.slots.specs.Layouts.{member, dimOf, firstOf, layoutOf}
 use Rattle.slots.specs.Views.{FactorView, rowsOf, rowsOfAll}
 use Rattle.slots.specs.Tables.{headOf, keysAt, storeOf, numbersOf, viewOf, viewAt, rowsBy, rowsByAll}
@@ -29,7 +30,7 @@ sits-by f₁ f₂ s u d true k hc hk h = hc refl
 sits-by f₁ f₂ s u d false k hc hk h = hk h
 
 module _ (kept cleared sizes : List ℕ) (len : length sizes ≡ 32) where
-  cleared-at : (key : ℕ) → key < 32 → getD (layoutOf kept cleared sizes .cleared) key false ≡ member key cleared
+  pub cleared-at : (key : ℕ) → key < 32 → getD (layoutOf kept cleared sizes .cleared) key false ≡ member key cleared
   unfolding layoutOf
   cleared-at key h = getD-table (λ k. member k cleared) 0 (length sizes) key false (rw len h) ∙ ap (λ (k : ℕ). member k cleared) (omega arith)
 
@@ -70,7 +71,7 @@ module _ (kept cleared sizes : List ℕ) (len : length sizes ≡ 32) where
     prior-size : h .prior ≡ true → getD (layoutOf kept cleared sizes .size) (getD (keysAt keys h) 0 0) 0 ≡ h .rows
     prior-size e = rw (size-is, first-key e) (k .of-prior e .1)
 
-    counted-head : CountedHead keys h
+    pub counted-head : CountedHead keys h
     counted-head =
         record {
           rows = k .rows;
@@ -83,7 +84,7 @@ module _ (kept cleared sizes : List ℕ) (len : length sizes ≡ 32) where
     rows-are t = rows-of-view (layoutOf kept cleared sizes) (h .prior) (keysAt keys h) (getD keys (h .first) 0) (h .rows) (h .width) t prior-size first-key
 
     fitted : (z : Bool) (r row : ℕ) → (z ≡ false → r ≡ dimOf sizes kept) → (z ≡ true → row + rowsBy (layoutOf kept cleared sizes) keys h ≤ r)
-        → Fitted (frameOf (dimOf sizes cleared) r (dimOf sizes kept)) (layoutOf kept cleared sizes) z row (h .prior) (keysAt keys h) (h .rows) (h .width) 192 (numbersOf (h .rows) (h .width))
+        → Fitted (frameOf (dimOf sizes cleared) r (dimOf sizes kept)) (layoutOf kept cleared sizes) z row (h .prior) (keysAt keys h) (h .rows) (h .width) scratch-numbers (numbersOf (h .rows) (h .width))
     unfolding frameOf
     fitted z r row hx hz =
         record {
@@ -111,8 +112,8 @@ rows-rise m view (suc n) i h = go (decLt i n) (rows-rise m view n i)
     go (yes p) ih = omega (arith, ih p)
     go (no p) ih = let e : i ≡ n = omega arith in rw e (omega arith)
 
-module _ {kept cleared sizes : List ℕ} {factors messages : List Float} {work : ℕ} {keys heads slots : List ℕ} {to : ℕ} (len : length sizes ≡ 32)
-    (q : Asked kept cleared sizes factors messages work keys heads slots to) where
+module _ {kept cleared sizes : List ℕ} {factors messages : List Float} {work : ℕ} {keys heads slots : List ℕ} (len : length sizes ≡ 32)
+    (q : Asked kept cleared sizes factors messages work keys heads slots) where
   rows-all : (n : ℕ) → n ≤ length slots → (rowsByAll (layoutOf kept cleared sizes) keys heads slots n ≡ rowsOfAll (layoutOf kept cleared sizes) (viewAt factors messages keys heads slots) n)
       × (rowsByAll (layoutOf kept cleared sizes) keys heads slots n ≤ 32 * n)
   unfolding rowsByAll rowsOfAll viewAt
@@ -134,7 +135,7 @@ module _ {kept cleared sizes : List ℕ} {factors messages : List Float} {work :
       rw (rows-are kept cleared sizes len keys _ k (q .fits i h) (part (storeOf (k .slot) factors messages) (k .at) (k .at + numbersOf (k .rows) (k .width))), rows-all (length slots) (omega arith) .0)
       (rows-rise (layoutOf kept cleared sizes) (viewAt factors messages keys heads slots) (length slots) i h)
 
-  pub enough : Whole (dimOf sizes cleared) (dimOf sizes kept) (layoutOf kept cleared sizes) factors messages work keys heads slots to
+  pub enough : Whole (dimOf sizes cleared) (dimOf sizes kept) (layoutOf kept cleared sizes) factors messages work keys heads slots
   enough =
       record {
         total = q .total;
@@ -145,14 +146,13 @@ module _ {kept cleared sizes : List ℕ} {factors messages : List Float} {work :
               counted = λ i h. counted-head kept cleared sizes len keys _ (headOf heads (getD slots i 0)) (q .fits i h);
             };
         rows = rows-all (length slots) (omega arith) .0;
-        room = q .room;
         ready = ready;
         enough = q .enough;
       }
     where
       ready : (i : ℕ) → i < length slots
           → Ready (frameFor (dimOf sizes cleared) (dimOf sizes kept) (rowsByAll (layoutOf kept cleared sizes) keys heads slots (length slots))) (layoutOf kept cleared sizes)
-          (leb (rowsByAll (layoutOf kept cleared sizes) keys heads slots (length slots)) (dimOf sizes kept)) (rowsOfAll (layoutOf kept cleared sizes) (viewAt factors messages keys heads slots) i) factors messages keys 192 (headOf heads (getD slots i 0))
+          (leb (rowsByAll (layoutOf kept cleared sizes) keys heads slots (length slots)) (dimOf sizes kept)) (rowsOfAll (layoutOf kept cleared sizes) (viewAt factors messages keys heads slots) i) factors messages keys scratch-numbers (headOf heads (getD slots i 0))
       ready i h =
           let k = q .fits i h in
           let b = rows-all i (omega arith) in

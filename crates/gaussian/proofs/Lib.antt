@@ -5,6 +5,8 @@ pub mod Sending
 pub mod Branches
 pub mod Enough
 pub mod Listing
+pub mod Lengths
+pub mod Outcomes
 pub mod Moments
 pub mod Computing
 pub mod Cases

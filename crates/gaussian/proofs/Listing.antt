@@ -15,8 +15,9 @@ use Rattle.slots.specs.Views.{FactorView, rowsOfAll, withViews}
 use Rattle.slots.specs.Tables.{headOf, readView, viewAt}
 use Rattle.slots.specs.declared.layout.Layout.{Layout}
 use Rattle.gaussian.specs.Elimination.{begun, finished, outcome, run, branched, nth, eliminate}
-use Rattle.gaussian.specs.Answers.{answer, stored, viewsOf, branchedAt}
+use Rattle.gaussian.specs.Answers.{answer, numbersIn, leftIn, viewsOf, branchedAt}
 use Rattle.gaussian.specs.declared.Eliminated.{Eliminated}
+use Rattle.gaussian.proofs.Branches.{left-same}
 
 getD-map : (g : ℕ → FactorView) (l : List ℕ) (i : ℕ) (d : FactorView) → i < length l → getD (map g l) i d ≡ g (getD l i 0)
 getD-map g [] i d h = absurd (omega arith)
@@ -51,9 +52,17 @@ module _ (factors messages : List Float) (keys heads slots kept cleared sizes : 
       (branched-same m (viewAt factors messages keys heads slots) (nth (map g slots)) (dimOf sizes cleared) (dimOf sizes kept)
       (rowsOfAll m (viewAt factors messages keys heads slots) (length slots)) (length slots) e)
 
-  pub slots-are : (u d : ℕ) (m : Layout) (to : ℕ) (a : Eliminated) (l x : List Float) → u ≡ dimOf sizes cleared → d ≡ dimOf sizes kept → m ≡ layoutOf kept cleared sizes
-      → a ≡ answer (branchedAt u d m factors messages keys heads slots) → x ≡ stored l to (branchedAt u d m factors messages keys heads slots)
-      → (a ≡ answer (eliminate (viewsOf factors messages keys heads slots) kept cleared sizes)) × (x ≡ stored l to (eliminate (viewsOf factors messages keys heads slots) kept cleared sizes))
-  slots-are u d m to a l x eu ed em ea ex =
+  pub slots-are : (u d : ℕ) (m : Layout) (a : Eliminated) (t : List Float) → u ≡ dimOf sizes cleared → d ≡ dimOf sizes kept → m ≡ layoutOf kept cleared sizes
+      → a ≡ answer (branchedAt u d m factors messages keys heads slots) → leftIn u d t (branchedAt u d m factors messages keys heads slots) ≡ numbersIn (branchedAt u d m factors messages keys heads slots)
+      → (a ≡ answer (eliminate (viewsOf factors messages keys heads slots) kept cleared sizes))
+      × (leftIn (dimOf sizes cleared) (dimOf sizes kept) t (eliminate (viewsOf factors messages keys heads slots) kept cleared sizes) ≡ numbersIn (eliminate (viewsOf factors messages keys heads slots) kept cleared sizes))
+  slots-are u d m a t eu ed em ea et =
       let g : branchedAt u d m factors messages keys heads slots ≡ eliminate (viewsOf factors messages keys heads slots) kept cleared sizes = rw (eu, ed, em) listed-is in
-      (ea ∙ ap answer g, ex ∙ ap (stored l to) g)
+      (ea ∙ ap answer g, left-same _ _ _ _ t _ _ eu ed g et)
+
+  pub rows-listed : rowsOfAll (layoutOf kept cleared sizes) (viewAt factors messages keys heads slots) (length slots)
+      ≡ rowsOfAll (layoutOf kept cleared sizes) (nth (viewsOf factors messages keys heads slots)) (length (viewsOf factors messages keys heads slots))
+  unfolding viewsOf viewAt
+  rows-listed =
+      let g : ℕ → FactorView = λ number. readView factors messages keys (headOf heads number) in
+      rw (length-map slots g) (rows-same (layoutOf kept cleared sizes) (viewAt factors messages keys heads slots) (nth (map g slots)) (length slots) (λ i h. sym (getD-map g slots i _ h)))

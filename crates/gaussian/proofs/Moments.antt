@@ -9,6 +9,7 @@ use lib.Ieee.{Float}
 use Rattle.matrix.specs.Views.{columns, part, splice}
 use Rattle.matrix.specs.Sums.{plus-zero}
 use Rattle.matrix.specs.Finite.{allFinite}
+use Rattle.factor.specs.Limits.{max-size}
 use Rattle.workspace.proofs.Parts.{part-replicate}
 use Rattle.cholesky.specs.Factor as chol
 use Rattle.cholesky.specs.Factor.{Left, whole, stuck, factor, listOf}
@@ -17,8 +18,9 @@ use Rattle.cholesky.specs.declared.Factored.{Factored}
 use Rattle.cholesky.specs.declared.Factored.the-variants as factored
 use Rattle.gaussian.specs.Marginals.{noPivot, bounded, momentsBy, solvedMoments, momentsOf, told, padded, marginalAt, refusedAs, answerOf, marginalOf}
 use Rattle.gaussian.specs.declared.marginal.Answer.{Answer}
-use Rattle.gaussian.specs.declared.marginal.Ending.{Ending}
-use Rattle.gaussian.specs.declared.marginal.Ending.the-variants.{Done, Pivot, Unbounded}
+use Rattle.gaussian.specs.declared.marginal.Ending.the-variants as ending
+use Rattle.gaussian.specs.declared.marginal.Solved.{Solved}
+use Rattle.gaussian.specs.declared.marginal.Solved.the-variants.{Done, Pivot, Unbounded}
 
 module _ (s : ℕ) (xi : List Float) where
   whole-by : (F : Left) → chol.answerOf F ≡ factored.Done
@@ -74,17 +76,17 @@ padded-is n s t e =
     let d : n - (s - 0) ≡ n - length t = omega arith in
     ap (λ (l : List Float). t ++ l) (drop-replicate n (s - 0) ∙ ap (λ (k : ℕ). replicate k plus-zero) d)
 
-module _ (key s y : ℕ) (message mean covariance : List Float) (r : Ending)
+module _ (key s y : ℕ) (message mean covariance : List Float) (r : Solved)
     (em : momentsOf y s (part message 0 (y * s)) (part message (y * s) (y * s + y)) (part message (y * s + y) (y * s + y + y * y)) ≡ told r mean covariance) where
   pub from-done : length mean ≡ s → length covariance ≡ s * s → r ≡ Done
-      → record { ending = Done; marginal = marginalAt key s (splice (replicate 6 plus-zero) 0 s mean) (splice (replicate 36 plus-zero) 0 (s * s) covariance) } ≡ marginalOf key s y message
+      → record { ending = ending.Done; marginal = marginalAt key s (splice (replicate max-size plus-zero) 0 s mean) (splice (replicate (max-size * max-size) plus-zero) 0 (s * s) covariance) } ≡ marginalOf key s y message
   unfolding marginalOf answerOf told
-  from-done lm lc e = rw (em, e, padded-is 6 s mean lm, padded-is 36 (s * s) covariance lc)
+  from-done lm lc e = rw (em, e, padded-is max-size s mean lm, padded-is (max-size * max-size) (s * s) covariance lc)
 
-  pub from-pivot : (a : Answer) → a ≡ refusedAs key s Pivot → r ≡ Pivot → a ≡ marginalOf key s y message
+  pub from-pivot : (a : Answer) → a ≡ refusedAs key s ending.Pivot → r ≡ Pivot → a ≡ marginalOf key s y message
   unfolding marginalOf answerOf told
   from-pivot a ea e = ea ∙ rw (em, e)
 
-  pub from-unbounded : (a : Answer) → a ≡ refusedAs key s Unbounded → r ≡ Unbounded → a ≡ marginalOf key s y message
+  pub from-unbounded : (a : Answer) → a ≡ refusedAs key s ending.Unbounded → r ≡ Unbounded → a ≡ marginalOf key s y message
   unfolding marginalOf answerOf told
   from-unbounded a ea e = ea ∙ rw (em, e)

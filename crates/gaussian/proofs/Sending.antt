@@ -1,33 +1,34 @@
--- The answer and the message store after one branch: a refused pivot, a message that is not finite, or the message. Assumes nothing.
-use Prim.Native.Nat.{ℕ, _+_, _-_}
+-- The answer and the work store after one branch: a refused pivot, a message that is not finite, or the message. Assumes nothing.
+use Prim.Native.Nat.{ℕ}
 use mathlib.Core.Path.{_≡_, refl}
 use mathlib.Core.Bool.{Bool, true, false}
 use mathlib.Core.List.{List, _++_}
 use native.Mathlib.Omega.{arith}
 use lib.ListN.{length}
 use lib.Ieee.{Float}
-use Rattle.matrix.specs.Views.{part, splice}
+use Rattle.matrix.specs.Views.{part}
 use Rattle.matrix.specs.Finite.{allFinite}
 use Rattle.cholesky.specs.declared.Factored.{Factored}
 use Rattle.cholesky.specs.declared.Factored.the-variants.{Done, Stopped}
 use Rattle.workspace.specs.Sums.{Sums}
-use Rattle.workspace.specs.Frames.{cut, Laid}
+use Rattle.workspace.specs.Frames.{cut, Laid, frameOf}
 use Rattle.workspace.specs.declared.Frame.{Frame}
-use Rattle.workspace.proofs.Parts.{length-part, part-join}
+use Rattle.workspace.proofs.Parts.{part-join}
 use Rattle.slots.specs.Views.{FactorView, withViews}
 use Rattle.slots.specs.declared.layout.Layout.{Layout}
 use Rattle.gaussian.specs.Elimination.{refused, done, begun, finished, outcome, run}
-use Rattle.gaussian.specs.Answers.{endedAs, answer, stored}
+use Rattle.gaussian.specs.Answers.{endedAs, answer, numbersIn, leftIn}
 use Rattle.gaussian.specs.declared.Eliminated.the-variants.{Rows, Pivot, Unbounded}
 
 -- the sums from those before the first factor
 pub views-from : (z : Bool) (f : Frame) (m : Layout) (view : ℕ → FactorView) (n : ℕ) (σ₀ : Sums) → σ₀ ≡ begun z f → (σ₁ : Sums) → σ₁ ≡ withViews z f m view σ₀ n → σ₁ ≡ withViews z f m view (begun z f) n
 views-from z f m view n σ₀ e σ₁ g = rw e at g
 
-module _ (z : Bool) (f : Frame) (m : Layout) (view : ℕ → FactorView) (n : ℕ) (σ : Sums) (es : σ ≡ withViews z f m view (begun z f) n) (r : Factored) (l : List Float) (to : ℕ) where
-  pub pivot-is : (σ′ : Sums) → finished z f σ ≡ endedAs r σ′ → r ≡ Stopped → (Pivot ≡ answer (run z f m view n)) × (l ≡ stored l to (run z f m view n))
-  unfolding run outcome endedAs answer stored
-  pivot-is σ′ ef er =
+module _ (z : Bool) (f : Frame) (m : Layout) (view : ℕ → FactorView) (n : ℕ) (σ : Sums) (es : σ ≡ withViews z f m view (begun z f) n) (r : Factored) where
+  pub pivot-is : (t : List Float) → finished z f σ ≡ endedAs r (cut f t) → r ≡ Stopped
+      → (Pivot ≡ answer (run z f m view n)) × (leftIn (f .cleared) (f .kept) t (run z f m view n) ≡ numbersIn (run z f m view n))
+  unfolding run outcome endedAs answer leftIn numbersIn
+  pivot-is t ef er =
       let g : finished z f (withViews z f m view (begun z f) n) ≡ refused = rw (← es, ef, er) in
       rw g (refl, refl)
 
@@ -41,11 +42,19 @@ module _ (z : Bool) (f : Frame) (m : Layout) (view : ℕ → FactorView) (n : �
     in-order =
         rw (part-join t (f .xi) (f .w) (f .end) (omega arith) (omega arith)) (part-join t (f .a) (f .xi) (f .end) (omega arith) (omega arith))
 
-    pub unbounded-is : b ≡ false → (Unbounded ≡ answer (run z f m view n)) × (l ≡ stored l to (run z f m view n))
-    unfolding run outcome answer stored
+    -- the frame is the one of its dimensions
+    a-at : frameOf (f .cleared) (f .rows) (f .kept) .a ≡ f .a
+    unfolding frameOf
+    a-at = omega arith
+
+    end-at : frameOf (f .cleared) (f .rows) (f .kept) .end ≡ f .end
+    unfolding frameOf
+    end-at = omega arith
+
+    pub unbounded-is : b ≡ false → (Unbounded ≡ answer (run z f m view n)) × (leftIn (f .cleared) (f .kept) t (run z f m view n) ≡ numbersIn (run z f m view n))
+    unfolding run outcome answer leftIn numbersIn
     unbounded-is h = rw (done-is, in-order, ← eb, h) (refl, refl)
 
-    pub message-is : b ≡ true → (e : ℕ) (u : List Float) → e ≡ to + (f .end - f .a) → u ≡ part t (f .a) (f .end)
-        → (Rows (f .rows) ≡ answer (run z f m view n)) × (splice l to e u ≡ stored l to (run z f m view n))
-    unfolding run outcome answer stored
-    message-is h e u ee eu = rw (done-is, in-order, ← eb, h, in-order, eu, ee, length-part t (f .a) (f .end) (omega arith)) (refl, refl)
+    pub message-is : b ≡ true → (Rows (f .rows) ≡ answer (run z f m view n)) × (leftIn (f .cleared) (f .kept) t (run z f m view n) ≡ numbersIn (run z f m view n))
+    unfolding run outcome answer leftIn numbersIn
+    message-is h = rw (done-is, in-order, ← eb, h, in-order, a-at, end-at) (refl, refl)

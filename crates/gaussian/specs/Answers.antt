@@ -1,12 +1,13 @@
 -- What the code answers for an outcome, and what the message store then holds. Definitions only.
 use Prim.Native.Nat.{ℕ, _+_}
-use mathlib.Core.List.{List, _++_, map}
+use mathlib.Core.List.{List, [], _++_, map}
 use lib.ListN.{length}
 use lib.Ieee.{Float}
-use Rattle.matrix.specs.Views.{splice}
+use Rattle.matrix.specs.Views.{part, splice}
 use Rattle.cholesky.specs.declared.Factored.{Factored}
 use Rattle.cholesky.specs.declared.Factored.the-variants.{Done, Stopped}
 use Rattle.workspace.specs.Sums.{Sums}
+use Rattle.workspace.specs.Frames.{frameOf}
 use Rattle.slots.specs.Views.{FactorView, rowsOfAll}
 use Rattle.slots.specs.Tables.{headOf, readView, viewAt}
 use Rattle.slots.specs.declared.layout.Layout.{Layout}
@@ -25,6 +26,18 @@ unfoldable pub stored : List Float → ℕ → Outcome → List Float
 stored l to pivot = l
 stored l to unbounded = l
 stored l to (message r a xi w) = splice l to (to + length (a ++ (xi ++ w))) (a ++ (xi ++ w))
+
+-- the numbers of a message: A, xi and W one after the other; a refusal has none
+unfoldable pub numbersIn : Outcome → List Float
+numbersIn pivot = []
+numbersIn unbounded = []
+numbersIn (message r a xi w) = a ++ (xi ++ w)
+
+-- where the work store t then holds them, for u cleared and d kept columns
+unfoldable pub leftIn : ℕ → ℕ → List Float → Outcome → List Float
+leftIn u d t pivot = []
+leftIn u d t unbounded = []
+leftIn u d t (message r a xi w) = part t (frameOf u r d .a) (frameOf u r d .end)
 
 -- the factors of a list of slot numbers
 unfoldable pub viewsOf : List Float → List Float → List ℕ → List ℕ → List ℕ → List FactorView

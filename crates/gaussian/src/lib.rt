@@ -2,13 +2,14 @@
 pub mod marginal;
 
 use cholesky::Factored;
+use factor::limits::VARIABLES;
 use matrix::View;
 use slots::add_slots;
 use slots::count_rows;
 use slots::layout::Layout;
 use slots::layout::dim_of;
 use slots::layout::layout_of;
-use slots::limits::VARIABLES;
+use slots::limits::SCRATCH;
 use workspace::Frame;
 use workspace::Part;
 use workspace::cholesky_at;
@@ -23,17 +24,19 @@ ghost use mathlib.Core.Path.{_≡_};
 ghost use mathlib.Core.Bool.{false, cond};
 ghost use Prim.Native.Nat.{ℕ, _+_, _-_, _<_, _≤_};
 ghost use lib.ListN.{length, getD};
-ghost use Rattle.matrix.specs.Views.{columns};
+ghost use Rattle.matrix.specs.Views.{columns, part, splice};
 ghost use Rattle.matrix.specs.Triangles.{filledUpper};
 ghost use Rattle.workspace.specs.Sums.{change};
-ghost use Rattle.workspace.specs.Frames.{cut, Laid};
-ghost use Rattle.slots.specs.Layouts.{layoutOf};
+ghost use Rattle.workspace.specs.Frames.{cut, Laid, frameOf, work-numbers};
+ghost use Rattle.factor.specs.Limits.{max-total};
+ghost use Rattle.slots.specs.Limits.{scratch-numbers};
+ghost use Rattle.slots.specs.Layouts.{dimOf};
 ghost use Rattle.slots.specs.Views.{rowsOfAll, withViews};
-ghost use Rattle.slots.specs.Tables.{headOf, viewAt};
+ghost use Rattle.slots.specs.Tables.{headOf, numbersOf, viewAt};
 ghost use Rattle.slots.specs.Fitting.{Ready, Counted};
 ghost use Rattle.gaussian.specs.Elimination.{begun, lost, finished, run, eliminate};
-ghost use Rattle.gaussian.specs.Answers.{endedAs, answer, stored, viewsOf, branchedAt};
-ghost use Rattle.gaussian.specs.Asked.{Asked, Whole};
+ghost use Rattle.gaussian.specs.Answers.{endedAs, answer, stored, numbersIn, leftIn, viewsOf, branchedAt};
+ghost use Rattle.gaussian.specs.Asked.{Asked, Roomy, Whole};
 
 // How an elimination ended: with a message of so many rows, at a refused pivot of the cleared block, or with a message that is not finite.
 pub enum Eliminated {
@@ -73,10 +76,10 @@ fn sum_up<'a>(
 )
     requires { ⌜ Laid f (length (now work)) × (z ≡ false → f .rows ≡ f .kept) ⌝ }
     requires { ⌜ Counted (now keys) (now heads) (now slots) ⌝ }
-    requires { ⌜ ((i : ℕ) → i < length (now slots) → Ready f layout z (rowsOfAll layout (viewAt (now factors) (now messages) (now keys) (now heads) (now slots)) i) (now factors) (now messages) (now keys) 192 (headOf (now heads) (getD (now slots) i 0))) ⌝ }
+    requires { ⌜ ((i : ℕ) → i < length (now slots) → Ready f layout z (rowsOfAll layout (viewAt (now factors) (now messages) (now keys) (now heads) (now slots)) i) (now factors) (now messages) (now keys) scratch-numbers (headOf (now heads) (getD (now slots) i 0))) ⌝ }
     ensures { λ _. ⌜ cut f (now (work .exit)) ≡ withViews z f layout (viewAt (now (factors .entry)) (now (messages .entry)) (now (keys .entry)) (now (heads .entry)) (now (slots .entry))) (begun z f) (length (now (slots .entry))) ⌝ }
 {
-    let mut t = [0.0; 192];
+    let mut t = [0.0; SCRATCH];
     begin_sums(work, f, z);
     add_slots(
         work,
@@ -129,11 +132,10 @@ fn finish(work: &mut [f64], f: Frame, z: bool) -> Factored
     }
 }
 
-// The elimination in one branch. The message goes into the message store from a place on, once its pivots and its numbers have passed.
-fn eliminate_to(
-    factors: &[f64],
-    messages: &mut [f64],
-    to: usize,
+// The elimination in one branch. The message stays in the work store, and is one once its pivots and its numbers have passed.
+fn eliminate_to<'a>(
+    factors: &'a [f64],
+    messages: &'a [f64],
     work: &mut [f64],
     f: Frame,
     z: bool,
@@ -143,22 +145,12 @@ fn eliminate_to(
     slots: &[usize],
 ) -> Eliminated
     requires { ⌜ Laid f (length (now work)) × (z ≡ false → f .rows ≡ f .kept) ⌝ }
-    requires { ⌜ Counted (now keys) (now heads) (now slots) × (to + (f .end - f .a) ≤ length (now messages)) ⌝ }
-    requires { ⌜ ((i : ℕ) → i < length (now slots) → Ready f layout z (rowsOfAll layout (viewAt (now factors) (now messages) (now keys) (now heads) (now slots)) i) (now factors) (now messages) (now keys) 192 (headOf (now heads) (getD (now slots) i 0))) ⌝ }
+    requires { ⌜ Counted (now keys) (now heads) (now slots) ⌝ }
+    requires { ⌜ ((i : ℕ) → i < length (now slots) → Ready f layout z (rowsOfAll layout (viewAt (now factors) (now messages) (now keys) (now heads) (now slots)) i) (now factors) (now messages) (now keys) scratch-numbers (headOf (now heads) (getD (now slots) i 0))) ⌝ }
     ensures { λ r. ⌜ r ≡ answer (run z f layout (viewAt (now (factors .entry)) (now (messages .entry)) (now (keys .entry)) (now (heads .entry)) (now (slots .entry))) (length (now (slots .entry)))) ⌝ }
-    ensures { λ _. ⌜ now (messages .exit) ≡ stored (now (messages .entry)) to (run z f layout (viewAt (now (factors .entry)) (now (messages .entry)) (now (keys .entry)) (now (heads .entry)) (now (slots .entry))) (length (now (slots .entry)))) ⌝ }
+    ensures { λ _. ⌜ leftIn (f .cleared) (f .kept) (now (work .exit)) (run z f layout (viewAt (now (factors .entry)) (now (messages .entry)) (now (keys .entry)) (now (heads .entry)) (now (slots .entry))) (length (now (slots .entry)))) ≡ numbersIn (run z f layout (viewAt (now (factors .entry)) (now (messages .entry)) (now (keys .entry)) (now (heads .entry)) (now (slots .entry))) (length (now (slots .entry)))) ⌝ }
 {
-    sum_up(
-        work,
-        f,
-        z,
-        layout,
-        factors,
-        &messages[..],
-        keys,
-        heads,
-        slots,
-    );
+    sum_up(work, f, z, layout, factors, messages, keys, heads, slots);
     match finish(work, f, z) {
         Factored::Done => {}
         Factored::Stopped => return Eliminated::Pivot,
@@ -168,16 +160,13 @@ fn eliminate_to(
     if !matrix::finite(&work[p..q]) {
         return Eliminated::Unbounded;
     }
-    let e = to + (q - p);
-    copy(&mut messages[to..e], &work[p..q]);
     Eliminated::Rows(f.rows)
 }
 
 // With the layout at hand: y rows at most the kept dimension d is the z branch, with y rows; otherwise the x branch, with d rows.
-fn eliminate_by(
-    factors: &[f64],
-    messages: &mut [f64],
-    to: usize,
+fn eliminate_by<'a>(
+    factors: &'a [f64],
+    messages: &'a [f64],
     work: &mut [f64],
     u: usize,
     d: usize,
@@ -186,31 +175,19 @@ fn eliminate_by(
     heads: &[usize],
     slots: &[usize],
 ) -> Eliminated
-    requires { ⌜ Whole u d layout (now factors) (now messages) (length (now work)) (now keys) (now heads) (now slots) to ⌝ }
+    requires { ⌜ Whole u d layout (now factors) (now messages) (length (now work)) (now keys) (now heads) (now slots) ⌝ }
     ensures { λ r. ⌜ r ≡ answer (branchedAt u d layout (now (factors .entry)) (now (messages .entry)) (now (keys .entry)) (now (heads .entry)) (now (slots .entry))) ⌝ }
-    ensures { λ _. ⌜ now (messages .exit) ≡ stored (now (messages .entry)) to (branchedAt u d layout (now (factors .entry)) (now (messages .entry)) (now (keys .entry)) (now (heads .entry)) (now (slots .entry))) ⌝ }
+    ensures { λ _. ⌜ leftIn u d (now (work .exit)) (branchedAt u d layout (now (factors .entry)) (now (messages .entry)) (now (keys .entry)) (now (heads .entry)) (now (slots .entry))) ≡ numbersIn (branchedAt u d layout (now (factors .entry)) (now (messages .entry)) (now (keys .entry)) (now (heads .entry)) (now (slots .entry))) ⌝ }
 {
     let y = count_rows(layout, keys, heads, slots);
     if y <= d {
         let f = frame_of(u, y, d);
-        return eliminate_to(
-            factors,
-            messages,
-            to,
-            work,
-            f,
-            true,
-            layout,
-            keys,
-            heads,
-            slots,
-        );
+        return eliminate_to(factors, messages, work, f, true, layout, keys, heads, slots);
     }
     let f = frame_of(u, d, d);
     eliminate_to(
         factors,
         messages,
-        to,
         work,
         f,
         false,
@@ -221,7 +198,42 @@ fn eliminate_by(
     )
 }
 
-// The elimination of the slots of a list, in order. Each slot is a number with a head in the table of heads; `keys` holds the keys of all heads, and `sizes` the size of each key.
+// The elimination of the slots of a list, in order; the message stays in the work store. Each slot is a number with a head in the table of heads; `keys` holds the keys of all heads, and `sizes` the size of each key.
+pub fn eliminate_in<'a>(
+    factors: &'a [f64],
+    messages: &'a [f64],
+    work: &mut [f64],
+    kept: &[usize],
+    cleared: &[usize],
+    sizes: [u8; VARIABLES],
+    keys: &[usize],
+    heads: &[usize],
+    slots: &[usize],
+) -> Eliminated
+    requires { ⌜ Asked (now kept) (now cleared) sizes (now factors) (now messages) (length (now work)) (now keys) (now heads) (now slots) ⌝ }
+    ensures { λ r. ⌜ r ≡ answer (eliminate (viewsOf (now (factors .entry)) (now (messages .entry)) (now (keys .entry)) (now (heads .entry)) (now (slots .entry))) (now (kept .entry)) (now (cleared .entry)) sizes) ⌝ }
+    ensures { λ _. ⌜ leftIn (dimOf sizes (now (cleared .entry))) (dimOf sizes (now (kept .entry))) (now (work .exit)) (eliminate (viewsOf (now (factors .entry)) (now (messages .entry)) (now (keys .entry)) (now (heads .entry)) (now (slots .entry))) (now (kept .entry)) (now (cleared .entry)) sizes) ≡ numbersIn (eliminate (viewsOf (now (factors .entry)) (now (messages .entry)) (now (keys .entry)) (now (heads .entry)) (now (slots .entry))) (now (kept .entry)) (now (cleared .entry)) sizes) ⌝ }
+{
+    let layout = layout_of(kept, cleared, sizes);
+    let u = dim_of(cleared, sizes);
+    let d = dim_of(kept, sizes);
+    eliminate_by(factors, messages, work, u, d, layout, keys, heads, slots)
+}
+
+// The message of so many rows that stands in the work store goes into the message store from a place on.
+fn send(messages: &mut [f64], to: usize, work: &[f64], u: usize, rows: usize, d: usize)
+    requires { ⌜ (u + d ≤ max-total) × (rows ≤ d) × (work-numbers ≤ length (now work)) ⌝ }
+    requires { ⌜ to + numbersOf rows d ≤ length (now messages) ⌝ }
+    ensures { λ _. ⌜ now (messages .exit) ≡ splice (now (messages .entry)) to (to + numbersOf rows d) (part (now (work .entry)) (frameOf u rows d .a) (frameOf u rows d .end)) ⌝ }
+{
+    let f = frame_of(u, rows, d);
+    let p = f.a;
+    let q = f.end;
+    let e = to + (q - p);
+    copy(&mut messages[to..e], &work[p..q]);
+}
+
+// The same elimination; the message goes into the message store from a place on.
 pub fn eliminate_slots(
     factors: &[f64],
     messages: &mut [f64],
@@ -234,23 +246,29 @@ pub fn eliminate_slots(
     heads: &[usize],
     slots: &[usize],
 ) -> Eliminated
-    requires { ⌜ Asked (now kept) (now cleared) sizes (now factors) (now messages) (length (now work)) (now keys) (now heads) (now slots) to ⌝ }
+    requires { ⌜ Asked (now kept) (now cleared) sizes (now factors) (now messages) (length (now work)) (now keys) (now heads) (now slots) ⌝ }
+    requires { ⌜ Roomy (now kept) (now cleared) sizes (now keys) (now heads) (now slots) to (length (now messages)) ⌝ }
     ensures { λ r. ⌜ r ≡ answer (eliminate (viewsOf (now (factors .entry)) (now (messages .entry)) (now (keys .entry)) (now (heads .entry)) (now (slots .entry))) (now (kept .entry)) (now (cleared .entry)) sizes) ⌝ }
     ensures { λ _. ⌜ now (messages .exit) ≡ stored (now (messages .entry)) to (eliminate (viewsOf (now (factors .entry)) (now (messages .entry)) (now (keys .entry)) (now (heads .entry)) (now (slots .entry))) (now (kept .entry)) (now (cleared .entry)) sizes) ⌝ }
 {
-    let layout = layout_of(kept, cleared, sizes);
-    let u = dim_of(cleared, sizes);
-    let d = dim_of(kept, sizes);
-    eliminate_by(
+    match eliminate_in(
         factors,
-        messages,
-        to,
+        &messages[..],
         work,
-        u,
-        d,
-        layout,
+        kept,
+        cleared,
+        sizes,
         keys,
         heads,
         slots,
-    )
+    ) {
+        Eliminated::Rows(rows) => {
+            let u = dim_of(cleared, sizes);
+            let d = dim_of(kept, sizes);
+            send(messages, to, &work[..], u, rows, d);
+            Eliminated::Rows(rows)
+        }
+        Eliminated::Pivot => Eliminated::Pivot,
+        Eliminated::Unbounded => Eliminated::Unbounded,
+    }
 }

@@ -1,17 +1,27 @@
 // The marginal of a key, from the message over that key alone.
+use crate::Eliminated;
+use crate::eliminate_in;
 use cholesky::Factored;
+use factor::limits::SIZE;
+use factor::limits::VARIABLES;
 use matrix::Update;
 use matrix::View;
+use slots::layout::dim_of;
+use slots::limits::SCRATCH;
+use workspace::frame_of;
 ghost use mathlib.Core.Path.{_≡_};
+ghost use mathlib.Core.List.{[], _∷_};
 ghost use Prim.Native.Nat.{_+_, _*_, _≤_};
-ghost use lib.ListN.{length, replicate};
+ghost use lib.ListN.{length, getD, replicate};
 ghost use Rattle.matrix.specs.Sums.{plus-zero};
+ghost use Rattle.factor.specs.Limits.{max-size, max-total};
 ghost use Rattle.slots.specs.Tables.{numbersOf};
-ghost use Rattle.gaussian.specs.Marginals.{solvedMoments, momentsOf, told, Lent, refusedAs, marginalOf};
+ghost use Rattle.gaussian.specs.Elimination.{eliminate};
+ghost use Rattle.gaussian.specs.Answers.{viewsOf};
+ghost use Rattle.gaussian.specs.Asked.{Asked};
+ghost use Rattle.gaussian.specs.Marginals.{solvedMoments, momentsOf, told, Lent, refusedAs, marginalOf, marginalFrom};
 
-// The largest size of a variable, and the numbers of a matrix of as many rows and columns.
-const SIZE: usize = 6;
-
+// The numbers of a matrix of as many rows and columns as the largest variable has.
 const SQUARE: usize = SIZE * SIZE;
 
 // A key with its size s, its mean, which has s numbers, and its covariance, which has s times s numbers, column by column. The places after those hold zeros.
@@ -22,9 +32,17 @@ pub struct Marginal {
     pub covariance: [f64; SQUARE],
 }
 
-// How the making of a marginal ended: with numbers, at a refused pivot, or with a number that is not finite.
+// How the solving for a mean and a covariance ended: with numbers, at a refused pivot, or with a number that is not finite.
+pub enum Solved {
+    Done,
+    Pivot,
+    Unbounded,
+}
+
+// How the making of a marginal ended: with numbers, at a refused pivot of the cleared block or of the message's own W, or with a number that is not finite.
 pub enum Ending {
     Done,
+    Cleared,
     Pivot,
     Unbounded,
 }
@@ -36,7 +54,7 @@ pub struct Answer {
 }
 
 // The xi in mean becomes the mean, the zeros in covariance the covariance, and the W in l its Cholesky factor.
-fn solve_moments(l: &mut [f64], s: usize, mean: &mut [f64], covariance: &mut [f64]) -> Ending
+fn solve_moments(l: &mut [f64], s: usize, mean: &mut [f64], covariance: &mut [f64]) -> Solved
     requires { ⌜ Lent s (now mean) (now l) ⌝ }
     requires { ⌜ now covariance ≡ replicate (s * s) plus-zero ⌝ }
     ensures { λ r. ⌜ solvedMoments s (now (mean .entry)) (now (l .entry)) ≡ told r (now (mean .exit)) (now (covariance .exit)) ⌝ }
@@ -47,17 +65,17 @@ fn solve_moments(l: &mut [f64], s: usize, mean: &mut [f64], covariance: &mut [f6
         across: s,
     };
     let Factored::Done = cholesky::cholesky(l, v, s) else {
-        return Ending::Pivot;
+        return Solved::Pivot;
     };
     cholesky::solve(&l[..], v, s, mean, v, 0);
     cholesky::inverse(&l[..], v, s, covariance, v);
     if !matrix::finite(&mean[..]) {
-        return Ending::Unbounded;
+        return Solved::Unbounded;
     }
     if !matrix::finite(&covariance[..]) {
-        return Ending::Unbounded;
+        return Solved::Unbounded;
     }
-    Ending::Done
+    Solved::Done
 }
 
 // The mean and the covariance of a message of y rows over s columns. The slices lent hold zeros; t takes W times A.
@@ -71,8 +89,8 @@ fn moments(
     l: &mut [f64],
     covariance: &mut [f64],
     t: &mut [f64],
-) -> Ending
-    requires { ⌜ (y * s ≤ length (now a)) × (y ≤ length (now xi)) × (y * y ≤ length (now w)) × (y * s ≤ length (now t)) × (s ≤ 6) ⌝ }
+) -> Solved
+    requires { ⌜ (y * s ≤ length (now a)) × (y ≤ length (now xi)) × (y * y ≤ length (now w)) × (y * s ≤ length (now t)) × (s ≤ max-size) ⌝ }
     requires { ⌜ (now mean ≡ replicate s plus-zero) × (now l ≡ replicate (s * s) plus-zero) × (now covariance ≡ replicate (s * s) plus-zero) ⌝ }
     ensures { λ r. ⌜ momentsOf y s (now (a .entry)) (now (xi .entry)) (now (w .entry)) ≡ told r (now (mean .exit)) (now (covariance .exit)) ⌝ }
 {
@@ -109,7 +127,7 @@ fn refused(key: usize, size: usize, ending: Ending) -> Answer
 impl Marginal {
     // The marginal of a key of size s from the message of so many rows that keeps it alone: A, xi and W stand at the start of the part lent.
     pub fn from(key: usize, size: usize, rows: usize, message: &[f64]) -> Answer
-        requires { ⌜ (size ≤ 6) × (rows ≤ 32) × (numbersOf rows size ≤ length (now message)) ⌝ }
+        requires { ⌜ (size ≤ max-size) × (rows ≤ max-total) × (numbersOf rows size ≤ length (now message)) ⌝ }
         ensures { λ r. ⌜ r ≡ marginalOf key size rows (now (message .entry)) ⌝ }
     {
         let o = 0;
@@ -120,7 +138,7 @@ impl Marginal {
         let mut mean = [0.0; SIZE];
         let mut covariance = [0.0; SQUARE];
         let mut l = [0.0; SQUARE];
-        let mut t = [0.0; 192];
+        let mut t = [0.0; SCRATCH];
         match moments(
             &message[o..p],
             &message[p..q],
@@ -132,9 +150,9 @@ impl Marginal {
             &mut covariance[0..square],
             &mut t,
         ) {
-            Ending::Done => {}
-            Ending::Pivot => return refused(key, size, Ending::Pivot),
-            Ending::Unbounded => return refused(key, size, Ending::Unbounded),
+            Solved::Done => {}
+            Solved::Pivot => return refused(key, size, Ending::Pivot),
+            Solved::Unbounded => return refused(key, size, Ending::Unbounded),
         }
         Answer {
             ending: Ending::Done,
@@ -145,5 +163,45 @@ impl Marginal {
                 covariance,
             },
         }
+    }
+}
+
+// The marginal of a key. The last elimination keeps that key alone, and its message stays in the work store.
+pub fn marginalize<'a>(
+    factors: &'a [f64],
+    messages: &'a [f64],
+    work: &mut [f64],
+    key: usize,
+    cleared: &[usize],
+    sizes: [u8; VARIABLES],
+    keys: &[usize],
+    heads: &[usize],
+    slots: &[usize],
+) -> Answer
+    requires { ⌜ Asked (key ∷ []) (now cleared) sizes (now factors) (now messages) (length (now work)) (now keys) (now heads) (now slots) ⌝ }
+    requires { ⌜ getD sizes key 0 ≤ max-size ⌝ }
+    ensures { λ r. ⌜ r ≡ marginalFrom key (getD sizes key 0) (eliminate (viewsOf (now (factors .entry)) (now (messages .entry)) (now (keys .entry)) (now (heads .entry)) (now (slots .entry))) (key ∷ []) (now (cleared .entry)) sizes) ⌝ }
+{
+    let kept = [key];
+    let size = dim_of(&kept, sizes);
+    match eliminate_in(
+        factors,
+        messages,
+        work,
+        &kept,
+        cleared,
+        sizes,
+        keys,
+        heads,
+        slots,
+    ) {
+        Eliminated::Rows(rows) => {
+            let f = frame_of(dim_of(cleared, sizes), rows, size);
+            let p = f.a;
+            let q = f.end;
+            Marginal::from(key, size, rows, &work[p..q])
+        }
+        Eliminated::Pivot => refused(key, size, Ending::Cleared),
+        Eliminated::Unbounded => refused(key, size, Ending::Unbounded),
     }
 }

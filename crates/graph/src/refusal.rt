@@ -25,7 +25,7 @@ pub enum Refusal {
     NoSuchGraph,
 }
 
-// The number that the paper gives a refusal.
+// The number of a refusal in document 01.
 pub fn code(why: Refusal) -> usize
     ensures { λ r. ⌜ r ≡ numberOf why ⌝ }
 {

@@ -7,3 +7,4 @@ pub mod Trees
 pub mod Runs
 pub mod Sides
 pub mod Demand3
+pub mod Messages

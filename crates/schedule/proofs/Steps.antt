@@ -92,7 +92,7 @@ module _ (n : ℕ) (K : ℕ → List ℕ) (N : List ℕ) (κ lv : Slot → List 
       go true u = h
       go false u = absurd u
 
-  inside : (s : Slot) → List·Memᴰ s slots → T (touches cl (κ s)) → (j : ℕ) → In j (κ s) → In j (k ∷ ak)
+  pub inside : (s : Slot) → List·Memᴰ s slots → T (touches cl (κ s)) → (j : ℕ) → In j (κ s) → In j (k ∷ ak)
   unfolding touches outside
   inside s m t j h = go (sure (outside (k ∷ ak) (κ s))) (any-some (λ i. mem i cl) (κ s) t)
     where

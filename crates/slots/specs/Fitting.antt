@@ -6,7 +6,8 @@ use mathlib.Core.List.{List, []}
 use lib.ListN.{length, getD}
 use lib.Ieee.{Float}
 use Rattle.workspace.specs.declared.Frame.{Frame}
-use Rattle.slots.specs.Limits.{max-variables, head-numbers}
+use Rattle.factor.specs.Limits.{max-variables, max-size, max-total}
+use Rattle.slots.specs.Limits.{max-slots, head-numbers}
 use Rattle.slots.specs.Layouts.{find}
 use Rattle.slots.specs.Views.{column, rowsOf}
 use Rattle.slots.specs.Tables.{headOf, keysAt, storeOf, numbersOf, viewOf}
@@ -26,7 +27,7 @@ pub record Branch (z : Bool) (f : Frame) (row y : ℕ) : Type 0 where
 -- a key has a place in the layout and a size within the limit
 pub record KnownKey (f : Frame) (m : Layout) (key : ℕ) : Type 0 where
   pub listed : key < max-variables
-  pub small : getD (m .size) key 0 ≤ 6
+  pub small : getD (m .size) key 0 ≤ max-size
   pub sits : Sits f (find m key)
 
 abbrev pub Known : Frame → Layout → List ℕ → Type 0
@@ -34,23 +35,23 @@ Known f m keys = (j : ℕ) → j < length keys → KnownKey f m (getD keys j 0)
 
 -- keys within the limits, and A of their width and y rows
 pub record Wide (sizes keys : List ℕ) (y len : ℕ) : Type 0 where
-  pub count : length keys ≤ 32
-  pub width : column sizes keys (length keys) ≤ 32
-  pub rows : y ≤ 32
+  pub count : length keys ≤ max-variables
+  pub width : column sizes keys (length keys) ≤ max-total
+  pub rows : y ≤ max-total
   pub whole : column sizes keys (length keys) * y ≤ len
 
 -- what `add_view` asks for: p tells a prior, t and len are the lengths of its working slice and of its numbers
 pub record Fitted (f : Frame) (m : Layout) (z : Bool) (row : ℕ) (p : Bool) (keys : List ℕ) (y d t len : ℕ) : Type 0 where
   pub some : p ≡ true → 0 < length keys
   pub known : Known f m keys
-  pub count : length keys ≤ 32
-  pub narrow : d ≤ 32
-  pub rows : y ≤ 32
+  pub count : length keys ≤ max-variables
+  pub narrow : d ≤ max-total
+  pub rows : y ≤ max-total
   pub square : z ≡ false → f .rows ≡ f .kept
   pub inside : z ≡ true → row + rowsOf m (viewOf p keys y d []) ≤ f .rows
   pub of-prior : p ≡ true → getD (m .size) (getD keys 0 0) 0 ≡ y
   pub of-other : p ≡ false → column (m .size) keys (length keys) ≡ d
-  pub scratch : 6 * y ≤ t
+  pub scratch : max-size * y ≤ t
   pub whole : numbersOf y d ≤ len
 
 -- what `add_slot` asks for
@@ -60,12 +61,12 @@ pub record Ready (f : Frame) (m : Layout) (z : Bool) (row : ℕ) (factors messag
   pub low : row ≤ 65536
   pub fitted : Fitted f m z row (h .prior) (keysAt keys h) (h .rows) (h .width) t (numbersOf (h .rows) (h .width))
 
--- what `count_rows` asks for: at most 128 slots, each with a head of at most 32 rows, and the key of a prior in its place
+-- what `count_rows` asks for: few slots, each with a head of few rows, and the key of a prior in its place
 pub record CountedHead (keys : List ℕ) (h : Head) : Type 0 where
-  pub rows : h .rows ≤ 32
+  pub rows : h .rows ≤ max-total
   pub of-prior : h .prior ≡ true → (h .first < length keys) × (getD keys (h .first) 0 < max-variables)
 
 pub record Counted (keys heads slots : List ℕ) : Type 0 where
-  pub few : length slots ≤ 128
+  pub few : length slots ≤ max-slots
   pub headed : (i : ℕ) → i < length slots → head-numbers * getD slots i 0 + 5 < length heads
   pub counted : (i : ℕ) → i < length slots → CountedHead keys (headOf heads (getD slots i 0))

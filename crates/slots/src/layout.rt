@@ -1,10 +1,9 @@
 // Where the columns of each key stand among the kept or the cleared keys.
-use crate::limits::VARIABLES;
+use factor::limits::VARIABLES;
 ghost use mathlib.Core.Path.{_≡_};
 ghost use mathlib.Core.Bool.{cond};
 ghost use Prim.Native.Nat.{_<_, _≤_};
-ghost use lib.ListN.{length};
-ghost use Rattle.slots.specs.Limits.{max-variables, max-total};
+ghost use Rattle.factor.specs.Limits.{max-variables, max-total};
 ghost use Rattle.slots.specs.Layouts.{member, dimOf, firstOf, layoutOf, find, Listed};
 
 // For each key: whether it is cleared, its first column among the cleared or the kept keys, and its size.

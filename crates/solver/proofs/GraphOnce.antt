@@ -16,7 +16,8 @@ use Rattle.schedule.specs.Count.{count, In, from}
 use Rattle.schedule.specs.Gather.{Gathered}
 use Rattle.schedule.specs.Once.{Once}
 use Rattle.schedule.proofs.Demand3.{from-once, demand3}
-use Rattle.solver.specs.Plan.{keysOf, graphPlan}
+use Rattle.messages.specs.Tables.{keysOf}
+use Rattle.solver.specs.Plan.{graphPlan}
 use Rattle.solver.proofs.Tables.{bounded}
 
 none-in : (j : ℕ) → In j [] → ⊥
@@ -24,7 +25,7 @@ unfolding count
 none-in j s = omega arith
 
 -- a factor's keys are registered
-low : (g : Graph) → valid g ≡ true → (i j : ℕ) → In j (keysOf g i) → j < g .variables
+pub low : (g : Graph) → valid g ≡ true → (i j : ℕ) → In j (keysOf g i) → j < g .variables
 unfolding keysOf
 low g v i j = go (ltb i (g .count)) refl
   where

@@ -2,3 +2,7 @@
 pub mod Tables
 pub mod Answers
 pub mod GraphOnce
+pub mod Carriable
+pub mod Stages
+pub mod Refused
+pub mod Figures

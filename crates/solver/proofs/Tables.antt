@@ -17,14 +17,12 @@ use Rattle.graph.specs.Record.{factorAt, valid}
 use Rattle.graph.specs.declared.Graph.{Graph}
 use Rattle.graph.proofs.Validity.{valid-variables, valid-count, valid-factor, valid-touched}
 use Rattle.schedule.specs.Count.{count, In}
-use Rattle.schedule.specs.Plan as lists
 use Rattle.schedule.proofs.Counts.{hit-cases}
 use Rattle.plan.specs.Factors.{Fits, noKeys, ifSo, keysAt}
 use Rattle.plan.specs.Plan.{Registered}
 use Rattle.plan.specs.declared.factors.FactorKeys.{FactorKeys}
-use Rattle.plan_text.specs.Text as text
-use Rattle.plan_text.specs.declared.Written.the-variants as written
-use Rattle.solver.specs.Plan.{keysOf, Table, touchedBy}
+use Rattle.messages.specs.Tables.{keysOf}
+use Rattle.solver.specs.Plan.{Table, touchedBy}
 
 -- one more place of the table
 pub filled : (g : Graph) (i : ℕ) (table : List FactorKeys) (f : Factor) (k : FactorKeys) → i < max-factors → Table g i table → f ≡ factorAt g i → k ≡ touchedBy f → length (f .keys) ≡ max-keys

@@ -1,2 +1,4 @@
 -- The definitions that the contracts of `solver` cite.
 pub mod Plan
+pub mod Run
+pub mod Stages

@@ -3,8 +3,7 @@ use mathlib.Core.Path.{_≡_}
 use mathlib.Core.Bool.{true, false, cond}
 use mathlib.Core.List.{List, []}
 use Prim.Native.Nat.{ℕ, _≤_, _<_}
-use lib.Dec.{ltb}
-use lib.ListN.{length, getD, take, drop}
+use lib.ListN.{length, getD, drop}
 use Rattle.factor.specs.Limits.{max-factors, max-keys}
 use Rattle.factor.specs.declared.Factor.{Factor}
 use Rattle.graph.specs.Record.{factorAt, valid}
@@ -15,15 +14,12 @@ use Rattle.schedule.specs.Plan as lists
 use Rattle.plan.specs.Plan.{planOf}
 use Rattle.plan.specs.Factors.{noKeys}
 use Rattle.plan.specs.declared.factors.FactorKeys.{FactorKeys}
+use Rattle.messages.specs.Tables.{keysOf}
 use Rattle.solver.specs.declared.Planned.{Planned}
 use Rattle.solver.specs.declared.Outcome.{Outcome}
 use Rattle.solver.specs.declared.Outcome.the-variants.{Made, Refused}
 use Rattle.solver.specs.declared.Laid.{Laid}
 use Rattle.solver.specs.declared.Laid.the-variants.{Length, Short, NoPlan}
-
--- the keys of the factor i; there are none past the last factor
-unfoldable pub keysOf : Graph → ℕ → List ℕ
-keysOf g i = cond (ltb i (g .count)) (take (factorAt g i .touched) (factorAt g i .keys)) []
 
 -- the messages of both passes and what each key gathers, over all factors, with keys rising
 unfoldable pub graphPlan : Graph → lists.Plan

@@ -1,4 +1,6 @@
 // The plan of a graph, made before any arithmetic.
+pub mod run;
+
 use factor::Factor;
 use factor::limits::FACTORS;
 use factor::limits::KEYS;

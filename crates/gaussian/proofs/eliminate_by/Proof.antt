@@ -4,7 +4,7 @@ use native.Mathlib.Omega.{arith}
 use borrow.Author.Needs.{needs}
 use borrow.Author.Tests.{le-leb, lt-leb}
 use Rattle.workspace.proofs.Cuts.{frame-laid}
-use Rattle.gaussian.proofs.Branches.{room-is, ready-is, branch-is, frame-square}
+use Rattle.gaussian.proofs.Branches.{ready-is, branch-is, frame-square}
 use Rattle.gaussian.proofs.eliminate_by.Statement.{statement}
 use Rattle.gaussian.proofs.eliminate_by.Tie as tie
 
@@ -15,31 +15,25 @@ frame-of-requires : tie.Need-frame-of-requires
 frame-of-requires c κs = let q = c .before .before .before .before .before .before .before .before .pre .total in (omega arith, omega arith, omega arith)
 
 eliminate-to-requires : tie.Need-eliminate-to-requires
-eliminate-to-requires c κs = ((rw (c .before .before .frame-of .ensures) (frame-laid _ _ _ _ (c .before .before .before .before .before .before .before .before .before .before .before .pre .total) (omega (arith, c .before .before .before .if1 .taken)) (c .before .before .before .before .before .before .before .before .before .before .before .pre .enough)), λ e. cc), ((c .before .before .before .before .before .before .before .before .before .before .before .pre .counted, room-is (c .before .before .before .before .before .before .before .before .before .before .before .pre) (c .before .before .before .before .count-rows .ensures) (le-leb (c .before .before .before .before .count-rows .result) (c .before .before .before .before .before .before .before .before .before .before .before .args .d) (omega (arith, c .before .before .before .if1 .taken))) refl (c .before .before .frame-of .ensures)), ready-is (c .before .before .before .before .before .before .before .before .before .before .before .pre) (c .before .before .before .before .count-rows .ensures) (le-leb (c .before .before .before .before .count-rows .result) (c .before .before .before .before .before .before .before .before .before .before .before .args .d) (omega (arith, c .before .before .before .if1 .taken))) refl (c .before .before .frame-of .ensures)))
+eliminate-to-requires c κs = ((rw (c .before .frame-of .ensures) (frame-laid _ _ _ _ (c .before .before .before .before .before .before .before .before .before .before .pre .total) (omega (arith, c .before .before .if1 .taken)) (c .before .before .before .before .before .before .before .before .before .before .pre .enough)), λ e. cc), (c .before .before .before .before .before .before .before .before .before .before .pre .counted, ready-is (c .before .before .before .before .before .before .before .before .before .before .pre) (c .before .before .before .count-rows .ensures) (le-leb (c .before .before .before .count-rows .result) (c .before .before .before .before .before .before .before .before .before .before .args .d) (omega (arith, c .before .before .if1 .taken))) refl (c .before .frame-of .ensures)))
 
 same-length : tie.Need-same-length
 same-length c = search needs
 
-same-length-2 : tie.Need-same-length-2
-same-length-2 c = search needs
-
 returns : tie.Need-returns
-returns c = branch-is (c .before .before .before .before .before .before .before .before .before .before .before .before .before .before .before .before .pre) (c .before .before .before .before .before .before .before .before .before .count-rows .ensures) (le-leb (c .before .before .before .before .before .before .before .before .before .count-rows .result) (c .before .before .before .before .before .before .before .before .before .before .before .before .before .before .before .before .args .d) (omega (arith, c .before .before .before .before .before .before .before .before .if1 .taken))) refl (c .before .before .before .before .before .before .before .frame-of .ensures) _ _ _ (c .before .before .before .before .eliminate-to .ensures .0) (c .before .before .before .before .eliminate-to .ensures .1)
+returns c = branch-is (c .before .before .before .before .before .before .before .before .before .before .before .before .before .pre) (c .before .before .before .before .before .before .count-rows .ensures) (le-leb (c .before .before .before .before .before .before .count-rows .result) (c .before .before .before .before .before .before .before .before .before .before .before .before .before .args .d) (omega (arith, c .before .before .before .before .before .if1 .taken))) refl (c .before .before .before .before .frame-of .ensures) _ _ (c .before .before .eliminate-to .ensures .0) (c .before .before .eliminate-to .ensures .1)
 
 frame-of-requires-2 : tie.Need-frame-of-requires-2
 frame-of-requires-2 c κs = let q = c .before .before .before .before .before .before .before .before .pre .total in (omega arith, omega arith, omega arith)
 
 eliminate-to-requires-2 : tie.Need-eliminate-to-requires-2
-eliminate-to-requires-2 c κs = ((rw (c .before .before .frame-of2 .ensures) (frame-laid _ _ _ _ (c .before .before .before .before .before .before .before .before .before .before .before .pre .total) (omega arith) (c .before .before .before .before .before .before .before .before .before .before .before .pre .enough)), λ e. frame-square _ _ _ (c .before .before .frame-of2 .ensures)), ((c .before .before .before .before .before .before .before .before .before .before .before .pre .counted, room-is (c .before .before .before .before .before .before .before .before .before .before .before .pre) (c .before .before .before .before .count-rows .ensures) (lt-leb (c .before .before .before .before .count-rows .result) (c .before .before .before .before .before .before .before .before .before .before .before .args .d) (omega (arith, c .before .before .before .if1 .left))) refl (c .before .before .frame-of2 .ensures)), ready-is (c .before .before .before .before .before .before .before .before .before .before .before .pre) (c .before .before .before .before .count-rows .ensures) (lt-leb (c .before .before .before .before .count-rows .result) (c .before .before .before .before .before .before .before .before .before .before .before .args .d) (omega (arith, c .before .before .before .if1 .left))) refl (c .before .before .frame-of2 .ensures)))
+eliminate-to-requires-2 c κs = ((rw (c .before .frame-of2 .ensures) (frame-laid _ _ _ _ (c .before .before .before .before .before .before .before .before .before .before .pre .total) (omega arith) (c .before .before .before .before .before .before .before .before .before .before .pre .enough)), λ e. frame-square _ _ _ (c .before .frame-of2 .ensures)), (c .before .before .before .before .before .before .before .before .before .before .pre .counted, ready-is (c .before .before .before .before .before .before .before .before .before .before .pre) (c .before .before .before .count-rows .ensures) (lt-leb (c .before .before .before .count-rows .result) (c .before .before .before .before .before .before .before .before .before .before .args .d) (omega (arith, c .before .before .if1 .left))) refl (c .before .frame-of2 .ensures)))
 
-same-length-3 : tie.Need-same-length-3
-same-length-3 c = search needs
-
-same-length-4 : tie.Need-same-length-4
-same-length-4 c = search needs
+same-length-2 : tie.Need-same-length-2
+same-length-2 c = search needs
 
 returns-2 : tie.Need-returns-2
-returns-2 c = branch-is (c .before .before .before .before .before .before .before .before .before .before .before .before .before .before .before .before .pre) (c .before .before .before .before .before .before .before .before .before .count-rows .ensures) (lt-leb (c .before .before .before .before .before .before .before .before .before .count-rows .result) (c .before .before .before .before .before .before .before .before .before .before .before .before .before .before .before .before .args .d) (omega (arith, c .before .before .before .before .before .before .before .before .if1 .left))) refl (c .before .before .before .before .before .before .before .frame-of2 .ensures) _ _ _ (c .before .before .before .before .eliminate-to2 .ensures .0) (c .before .before .before .before .eliminate-to2 .ensures .1)
+returns-2 c = branch-is (c .before .before .before .before .before .before .before .before .before .before .before .before .before .pre) (c .before .before .before .before .before .before .count-rows .ensures) (lt-leb (c .before .before .before .before .before .before .count-rows .result) (c .before .before .before .before .before .before .before .before .before .before .before .before .before .args .d) (omega (arith, c .before .before .before .before .before .if1 .left))) refl (c .before .before .before .before .frame-of2 .ensures) _ _ (c .before .before .eliminate-to2 .ensures .0) (c .before .before .eliminate-to2 .ensures .1)
 
 pub eliminate-by-spec : {M : Type 1} → statement M
 eliminate-by-spec =
@@ -49,10 +43,8 @@ eliminate-by-spec =
     frame-of-requires
     eliminate-to-requires
     same-length
-    same-length-2
     returns
     frame-of-requires-2
     eliminate-to-requires-2
-    same-length-3
-    same-length-4
+    same-length-2
     returns-2)

@@ -1,24 +1,34 @@
--- `gaussian::eliminate_slots` meets its contract: the layout and the dimensions are the definition's, and what is asked for is enough. Assumes nothing.
+-- `gaussian::eliminate_slots` meets its contract: a message is sent from the work store, and a refusal leaves the message store. Assumes nothing.
 use mathlib.Core.Path.{_≡_}
 use native.Mathlib.Omega.{arith}
 use borrow.Author.Needs.{needs}
 use lib.ListN.{length}
-use Rattle.gaussian.proofs.Enough.{enough}
-use Rattle.gaussian.proofs.Listing.{slots-are}
+use Rattle.gaussian.specs.Elimination.{eliminate}
+use Rattle.gaussian.specs.Answers.{viewsOf}
+use Rattle.gaussian.proofs.Outcomes.{pivot-stored, unbounded-stored, few-rows, has-room, message-sent}
 use Rattle.gaussian.proofs.eliminate_slots.Statement.{statement}
 use Rattle.gaussian.proofs.eliminate_slots.Tie as tie
 
-layout-of-requires : tie.Need-layout-of-requires
-layout-of-requires c κs = (c .before .before .before .before .before .before .before .before .pre .kept-listed, c .before .before .before .before .before .before .before .before .pre .cleared-listed)
+eliminate-in-requires : tie.Need-eliminate-in-requires
+eliminate-in-requires c κs = c .before .before .before .before .before .before .before .before .before .before .pre .0
+
+enum-known-rows : tie.Need-enum-known-rows
+enum-known-rows c = search needs
 
 dim-of-requires : tie.Need-dim-of-requires
-dim-of-requires c κs = c .before .before .before .before .before .before .before .before .before .pre .cleared-listed
+dim-of-requires c κs = c .before .before .before .before .before .before .before .before .before .before .before .before .before .before .before .before .pre .0 .cleared-listed
 
 dim-of-requires-2 : tie.Need-dim-of-requires-2
-dim-of-requires-2 c κs = c .before .before .before .before .before .before .before .before .before .before .pre .kept-listed
+dim-of-requires-2 c κs = c .before .before .before .before .before .before .before .before .before .before .before .before .before .before .before .before .before .pre .0 .kept-listed
 
-eliminate-by-requires : tie.Need-eliminate-by-requires
-eliminate-by-requires c κs = let n : length (c .before .before .before .before .before .before .before .before .before .before .before .before .before .args .sizes) ≡ 32 = omega arith in rw (c .before .before .before .before .layout-of .ensures, c .before .before .before .dim-of .ensures, c .before .before .dim-of2 .ensures) (enough n (c .before .before .before .before .before .before .before .before .before .before .before .before .before .pre))
+send-requires : tie.Need-send-requires
+send-requires c κs = let g = c .before .before .before .before .before .before .before .before .before .before .before .before .before .before .before .before .before .before .before .before .good in let n : length (c .before .before .before .before .before .before .before .before .before .before .before .before .before .before .before .before .before .before .before .before .args .sizes) ≡ 32 = omega arith in rw (c .before .before .before .dim-of .ensures, c .before .before .dim-of2 .ensures) ((c .before .before .before .before .before .before .before .before .before .before .before .before .before .before .before .before .before .before .before .before .pre .0 .total, few-rows n (c .before .before .before .before .before .before .before .before .before .before .before .before .before .before .before .before .before .before .before .before .pre .0) _ (c .before .before .before .before .before .before .before .before .before .eliminate-in .ensures .0) _ (c .before .before .before .before .before .rows .given .1), omega (arith, c .before .before .before .before .before .before .before .before .before .before .before .before .before .before .before .before .before .before .before .before .pre .0 .enough, c .before .before .before .before .before .before .before .before .before .eliminate-in .kept .1 .1 .0)), has-room n (c .before .before .before .before .before .before .before .before .before .before .before .before .before .before .before .before .before .before .before .before .pre .0) _ (c .before .before .before .before .before .before .before .before .before .eliminate-in .ensures .0) _ (c .before .before .before .before .before .rows .given .1) _ _ (c .before .before .before .before .before .before .before .before .before .before .before .before .before .before .before .before .before .before .before .before .pre .1))
+
+enum-told : tie.Need-enum-told
+enum-told c = search needs
+
+enum-told-2 : tie.Need-enum-told-2
+enum-told-2 c = search needs
 
 same-length : tie.Need-same-length
 same-length c = search needs
@@ -27,16 +37,43 @@ same-length-2 : tie.Need-same-length-2
 same-length-2 c = search needs
 
 returns : tie.Need-returns
-returns c = slots-are (c .before .before .before .before .before .before .before .before .before .before .before .before .before .before .before .before .before .before .args .factors .now) (c .before .before .before .before .before .before .before .before .before .before .before .before .before .before .before .before .before .before .args .messages .now) (c .before .before .before .before .before .before .before .before .before .before .before .before .before .before .before .before .before .before .args .keys .now) (c .before .before .before .before .before .before .before .before .before .before .before .before .before .before .before .before .before .before .args .heads .now) (c .before .before .before .before .before .before .before .before .before .before .before .before .before .before .before .before .before .before .args .slots .now) (c .before .before .before .before .before .before .before .before .before .before .before .before .before .before .before .before .before .before .args .kept .now) (c .before .before .before .before .before .before .before .before .before .before .before .before .before .before .before .before .before .before .args .cleared .now) (c .before .before .before .before .before .before .before .before .before .before .before .before .before .before .before .before .before .before .args .sizes) _ _ _ (c .before .before .before .before .before .before .before .before .before .before .before .before .before .before .before .before .before .before .args .to) _ (c .before .before .before .before .before .before .before .before .before .before .before .before .before .before .before .before .before .before .args .messages .now) _ (c .before .before .before .before .before .before .before .before .dim-of .ensures) (c .before .before .before .before .before .before .before .dim-of2 .ensures) (c .before .before .before .before .before .before .before .before .before .layout-of .ensures) (c .before .before .before .before .eliminate-by .ensures .0) (c .before .before .before .before .eliminate-by .ensures .1)
+returns c = let g = c .before .before .before .before .before .before .before .before .before .before .before .before .before .before .before .before .before .before .before .before .before .before .before .good in let n : length (c .before .before .before .before .before .before .before .before .before .before .before .before .before .before .before .before .before .before .before .before .before .before .before .args .sizes) ≡ 32 = omega arith in message-sent n (c .before .before .before .before .before .before .before .before .before .before .before .before .before .before .before .before .before .before .before .before .before .before .before .pre .0) _ (c .before .before .before .before .before .before .before .before .before .before .before .before .eliminate-in .ensures .0) _ (c .before .before .before .before .before .before .before .before .rows .given .1) _ (c .before .before .before .before .before .before .before .before .before .before .before .before .eliminate-in .ensures .1) _ _ (c .before .before .before .before .before .before .before .before .before .before .before .before .before .before .before .before .before .before .before .before .before .before .before .args .to) (rw (← c .before .before .before .before .before .before .dim-of .ensures, ← c .before .before .before .before .before .dim-of2 .ensures) (c .before .before .send .ensures))
+
+same-length-3 : tie.Need-same-length-3
+same-length-3 c = search needs
+
+same-length-4 : tie.Need-same-length-4
+same-length-4 c = search needs
+
+returns-2 : tie.Need-returns-2
+returns-2 c = pivot-stored (eliminate (viewsOf (c .before .before .before .before .before .before .before .before .before .before .before .before .before .before .before .args .factors .now) (c .before .before .before .before .before .before .before .before .before .before .before .before .before .before .before .args .messages .now) (c .before .before .before .before .before .before .before .before .before .before .before .before .before .before .before .args .keys .now) (c .before .before .before .before .before .before .before .before .before .before .before .before .before .before .before .args .heads .now) (c .before .before .before .before .before .before .before .before .before .before .before .before .before .before .before .args .slots .now)) (c .before .before .before .before .before .before .before .before .before .before .before .before .before .before .before .args .kept .now) (c .before .before .before .before .before .before .before .before .before .before .before .before .before .before .before .args .cleared .now) (c .before .before .before .before .before .before .before .before .before .before .before .before .before .before .before .args .sizes)) _ (c .before .before .before .before .eliminate-in .ensures .0) _ (c .before .before .before .before .before .before .before .before .before .before .before .before .before .before .before .args .to) (c .enum-told .given .1)
+
+same-length-5 : tie.Need-same-length-5
+same-length-5 c = search needs
+
+same-length-6 : tie.Need-same-length-6
+same-length-6 c = search needs
+
+returns-3 : tie.Need-returns-3
+returns-3 c = unbounded-stored (eliminate (viewsOf (c .before .before .before .before .before .before .before .before .before .before .before .before .before .before .before .args .factors .now) (c .before .before .before .before .before .before .before .before .before .before .before .before .before .before .before .args .messages .now) (c .before .before .before .before .before .before .before .before .before .before .before .before .before .before .before .args .keys .now) (c .before .before .before .before .before .before .before .before .before .before .before .before .before .before .before .args .heads .now) (c .before .before .before .before .before .before .before .before .before .before .before .before .before .before .before .args .slots .now)) (c .before .before .before .before .before .before .before .before .before .before .before .before .before .before .before .args .kept .now) (c .before .before .before .before .before .before .before .before .before .before .before .before .before .before .before .args .cleared .now) (c .before .before .before .before .before .before .before .before .before .before .before .before .before .before .before .args .sizes)) _ (c .before .before .before .before .eliminate-in .ensures .0) _ (c .before .before .before .before .before .before .before .before .before .before .before .before .before .before .before .args .to) (c .enum-told2 .given .1)
 
 pub eliminate-slots-spec : {M : Type 1} → statement M
 eliminate-slots-spec =
     tie.close
     (tie.spec
-    layout-of-requires
+    eliminate-in-requires
+    enum-known-rows
     dim-of-requires
     dim-of-requires-2
-    eliminate-by-requires
+    send-requires
+    enum-told
+    enum-told-2
     same-length
     same-length-2
-    returns)
+    returns
+    same-length-3
+    same-length-4
+    returns-2
+    same-length-5
+    same-length-6
+    returns-3)

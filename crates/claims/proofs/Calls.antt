@@ -1,0 +1,185 @@
+-- What the calls answered is what the graph holds: the keys answered are those below the count of variables, each once, the numbers those below the count of factors, and a factor has the keys that its call gave. Assumes nothing.
+use mathlib.Core.Path.{_≡_, refl, sym, ap, _∙_}
+use mathlib.Core.Bool.{Bool, true, false, not, cond}
+use mathlib.Core.List.{List, [], _∷_, _++_, List·Memᴰ, List·Memᴰ·head, List·Memᴰ·tail, List·Memᴰ·not-nil}
+use Prim.Native.Nat.{ℕ, suc, _+_, _-_, _≤_, _<_}
+use native.Mathlib.Numerals.{add-one}
+use native.Mathlib.Omega.{arith}
+use borrow.Author.Tests.{lt-ltb}
+use lib.Dec.{ltb, leb}
+use lib.ListN.{length, take, replicate}
+use lib.Seq.{getD-set-same, getD-set-other, take-append-seam}
+use Rattle.factor.specs.Limits.{max-variables, max-total, max-keys}
+use Rattle.factor.specs.Counting.{every}
+use Rattle.factor.specs.Factor.{past, priorOf, observationOf}
+use Rattle.factor.specs.declared.Factor.{Factor}
+use Rattle.graph.specs.Record.{sizeAt, factorAt, fresh, scalar, sizeFits, free, total, valid}
+use Rattle.graph.specs.Registration.{withVariable, addVariable, Verdict, accept, refuse, withFactor, settle, priorVerdict, addPrior, observationVerdict, addObservation}
+use Rattle.graph.specs.Reached.{Call, variable, prior, observation, after, yields, Reached}
+use Rattle.graph.specs.declared.Symbol.{Symbol}
+use Rattle.graph.specs.declared.Graph.{Graph}
+use Rattle.graph.specs.declared.Added.{Added}
+use Rattle.graph.specs.declared.Outcome.{Outcome}
+use Rattle.graph.specs.declared.Outcome.the-variants.{Key, Number, Refused}
+use Rattle.graph.specs.declared.refusal.Refusal.{Refusal}
+use Rattle.graph.specs.declared.refusal.Refusal.the-variants.{NotALetter, SizeOutside, NameTaken, PastLimit, NoSuchGraph}
+use Rattle.graph.proofs.Keeping.{good-of}
+use Rattle.graph.proofs.Validity.{valid-count}
+use Rattle.schedule.specs.Count.{from}
+use Rattle.messages.specs.Tables.{keysOf}
+use Rattle.claims.specs.Demand3.{outcomeOf, given, Accepted, keyIn, factorIn, registered, accepted, numbers}
+
+-- ---- one call
+
+-- a call is turned back and leaves the graph, or adds a variable, or adds a factor of the keys given
+data Did (g : Graph) (keys : List ℕ) : Outcome → Graph → Type 0 where
+  turned : (why : Refusal) → Did g keys (Refused why) g
+  named : (name : Symbol) (size : ℕ) → Did g keys (Key (g .variables)) (withVariable g name size)
+  taken : (f : Factor) → take (f .touched) (f .keys) ≡ keys → Did g keys (Number (g .count)) (withFactor g f)
+
+either : (P : Added → Type 0) (b : Bool) (x y : Added) → P x → P y → P (cond (not b) x y)
+either P true x y p q = q
+either P false x y p q = p
+
+settled : (g : Graph) (f : Factor) (keys : List ℕ) → take (f .touched) (f .keys) ≡ keys → (v : Verdict) → Did g keys (settle g f v .outcome) (settle g f v .graph)
+settled g f keys e (accept numbers) = taken f e
+settled g f keys e (refuse why) = turned why
+
+variable-did : (g : Graph) (name : Symbol) (size : ℕ) → Did g [] (addVariable g name size .outcome) (addVariable g name size .graph)
+unfolding addVariable
+variable-did g name size =
+    either P (valid g) _ _ (turned NoSuchGraph)
+    (either P (scalar (name .0)) _ _ (turned NotALetter)
+    (either P (sizeFits size) _ _ (turned SizeOutside)
+    (either P (free g (g .variables) name) _ _ (turned NameTaken)
+    (either P (every (ltb (g .variables) max-variables ∷ leb (total g + size) max-total ∷ [])) _ _ (turned PastLimit) (named name size)))))
+  where
+    P : Added → Type 0
+    P x = Did g [] (x .outcome) (x .graph)
+
+did : (g : Graph) (c : Call) → Did g (given c) (outcomeOf g c) (after g c)
+unfolding outcomeOf after given addPrior addObservation
+did g (variable name size) = variable-did g name size
+did g (prior key mean variance store) = settled g (priorOf key (sizeAt g key)) (key ∷ []) refl (priorVerdict g key mean variance store)
+did g (observation keys rows a mean variance store) = settled g (observationOf keys rows) keys (take-append-seam keys (replicate (max-keys - length keys) 0)) (observationVerdict g keys rows a mean variance store)
+
+-- ---- the calls of a list
+
+-- what the answers ks and fs have to do with the graph h that the calls yield from g
+record Read (g h : Graph) (ks : List ℕ) (fs : List Accepted) : Type 0 where
+  more-keys : ℕ
+  keys : ks ≡ from (g .variables) more-keys
+  variables : h .variables ≡ g .variables + more-keys
+  more-factors : ℕ
+  numbered : numbers fs ≡ from (g .count) more-factors
+  count : h .count ≡ g .count + more-factors
+  -- what was registered before keeps its keys
+  older : (i : ℕ) → i < g .count → keysOf h i ≡ keysOf g i
+  given : (f : Accepted) → List·Memᴰ f fs → f .keys ≡ keysOf h (f .number)
+
+-- the keys of a factor that is there
+keys-of : (g : Graph) (i : ℕ) → i < g .count → keysOf g i ≡ take (factorAt g i .touched) (factorAt g i .keys)
+unfolding keysOf
+keys-of g i l = rw (lt-ltb i (g .count) l)
+
+module _ (g : Graph) (f : Factor) where
+  new-keys : g .count < length (g .factors) → keysOf (withFactor g f) (g .count) ≡ take (f .touched) (f .keys)
+  new-keys l = keys-of (withFactor g f) (g .count) (omega arith) ∙ ap (λ (x : Factor). take (x .touched) (x .keys)) (getD-set-same (g .factors) (g .count) f past l)
+
+  old-keys : (i : ℕ) → i < g .count → keysOf (withFactor g f) i ≡ keysOf g i
+  old-keys i l =
+      keys-of (withFactor g f) i (omega arith) ∙ ap (λ (x : Factor). take (x .touched) (x .keys)) (getD-set-other (g .factors) (g .count) i f past (λ e. omega arith))
+      ∙ sym (keys-of g i l)
+
+same-keys : (g : Graph) (name : Symbol) (size i : ℕ) → keysOf (withVariable g name size) i ≡ keysOf g i
+unfolding keysOf
+same-keys g name size i = refl
+
+from-more : (a n : ℕ) → a ∷ from (a + 1) n ≡ from a (suc n)
+unfolding from
+from-more a n = ap (λ (b : ℕ). a ∷ from b n) (add-one a)
+
+-- a call before the others
+one-more : (g m h : Graph) (keys : List ℕ) (o : Outcome) (ks : List ℕ) (fs : List Accepted) → m .count ≤ length (g .factors) → Did g keys o m → Read m h ks fs → Read g h (keyIn o ++ ks) (factorIn o keys ++ fs)
+unfolding keyIn factorIn
+one-more g m h keys o ks fs room (turned why) r = r
+one-more g m h keys o ks fs room (named name size) r =
+    record {
+      more-keys = suc (r .more-keys);
+      keys = ap (λ (l : List ℕ). g .variables ∷ l) (r .keys) ∙ from-more (g .variables) (r .more-keys);
+      variables = omega (arith, r .variables);
+      more-factors = r .more-factors;
+      numbered = r .numbered;
+      count = r .count;
+      older = λ i l. r .older i l ∙ same-keys g name size i;
+      given = r .given;
+    }
+one-more g m h keys o ks fs room (taken f e) r =
+    record {
+      more-keys = r .more-keys;
+      keys = r .keys;
+      variables = r .variables;
+      more-factors = suc (r .more-factors);
+      numbered = ap (λ (l : List ℕ). g .count ∷ l) (r .numbered) ∙ from-more (g .count) (r .more-factors);
+      count = omega (arith, r .count);
+      older = λ i l. r .older i (omega arith) ∙ old-keys g f i l;
+      given = given-too;
+    }
+  where
+    own : keys ≡ keysOf h (g .count)
+    own = sym (r .older (g .count) (omega arith) ∙ new-keys g f (omega arith) ∙ e)
+
+    given-too : (a : Accepted) → List·Memᴰ a (record { number = g .count; keys = keys } ∷ fs) → a .keys ≡ keysOf h (a .number)
+    given-too a (List·Memᴰ·head q) = ap (λ (x : Accepted). x .keys) q ∙ own ∙ ap (λ (x : Accepted). keysOf h (x .number)) (sym q)
+    given-too a (List·Memᴰ·tail t) = r .given a t
+
+-- a graph that calls yield, and one call more
+yields-more : (cs : List Call) (g : Graph) (c : Call) → yields g (cs ++ (c ∷ [])) ≡ after (yields g cs) c
+unfolding yields
+yields-more [] g c = refl
+yields-more (b ∷ cs) g c = yields-more cs (after g b) c
+
+reached-more : (g : Graph) (c : Call) → Reached g → Reached (after g c)
+reached-more g c r = (r .0 ++ (c ∷ []), yields-more (r .0) fresh c ∙ ap (λ (x : Graph). after x c) (r .1))
+
+room-in : (g : Graph) (c : Call) → Reached g → after g c .count ≤ length (g .factors)
+room-in g c r = omega (arith, valid-count (after g c) (good-of (after g c) (reached-more g c r) .1), good-of g r .0 .factors)
+
+read-from : (cs : List Call) (g : Graph) → Reached g → Read g (yields g cs) (registered g cs) (accepted g cs)
+unfolding yields registered accepted from
+read-from [] g r =
+    record {
+      more-keys = 0;
+      keys = refl;
+      variables = omega arith;
+      more-factors = 0;
+      numbered = refl;
+      count = omega arith;
+      older = λ i l. refl;
+      given = λ f m. absurd (List·Memᴰ·not-nil m);
+    }
+read-from (c ∷ cs) g r =
+    one-more g (after g c) (yields (after g c) cs) (given c) (outcomeOf g c) (registered (after g c) cs) (accepted (after g c) cs)
+    (room-in g c r) (did g c) (read-from cs (after g c) (reached-more g c r))
+
+-- ---- from a fresh graph
+
+module _ (cs : List Call) where
+  abbrev g : Graph
+  g = yields fresh cs
+
+  pub reached : Reached g
+  reached = (cs, refl)
+
+  read : Read fresh g (registered fresh cs) (accepted fresh cs)
+  unfolding yields
+  read = read-from cs fresh ([], refl)
+
+  pub keys-are : registered fresh cs ≡ from 0 (g .variables)
+  keys-are = let e : read .more-keys ≡ g .variables = omega (arith, read .variables) in read .keys ∙ ap (from 0) e
+
+  pub numbers-are : numbers (accepted fresh cs) ≡ from 0 (g .count)
+  numbers-are = let e : read .more-factors ≡ g .count = omega (arith, read .count) in read .numbered ∙ ap (from 0) e
+
+  pub given-are : (f : Accepted) → List·Memᴰ f (accepted fresh cs) → f .keys ≡ keysOf g (f .number)
+  given-are = read .given

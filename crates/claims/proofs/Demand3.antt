@@ -1,0 +1,113 @@
+-- Demand 3, whole: for every list of registering calls. What the calls answered is what the graph holds (`Calls`), over the graph's plan the claim is `once`, and its counts give what a run needs (`Carrying`). Assumes nothing.
+use mathlib.Core.Path.{_≡_, refl, sym, ap, subst, _∙_}
+use mathlib.Core.Bool.{true}
+use mathlib.Core.List.{List, [], _∷_, List·Memᴰ, List·Memᴰ·head, List·Memᴰ·tail}
+use Prim.Native.Nat.{ℕ, _+_, _<_}
+use native.Mathlib.Omega.{arith}
+use lib.ListN.{length, getD, length-map}
+use Rattle.graph.specs.Record.{fresh, valid}
+use Rattle.graph.specs.Reached.{Call, yields}
+use Rattle.graph.specs.declared.Graph.{Graph}
+use Rattle.graph.proofs.Keeping.{good-of}
+use Rattle.schedule.specs.Count.{hit, count, In, from}
+use Rattle.schedule.specs.Gather.{Gathered}
+use Rattle.schedule.specs.Once.{Once}
+use Rattle.schedule.specs.Plan as lists
+use Rattle.schedule.proofs.Counts.{hit-same, hit-other, count-cons}
+use Rattle.schedule.proofs.Runs.{from-lt}
+use Rattle.schedule.proofs.Sums.{length-from}
+use Rattle.schedule.proofs.Demand3.{from-once}
+use Rattle.messages.specs.Tables.{keysOf}
+use Rattle.solver.specs.Plan.{graphPlan, Answer, planned}
+use Rattle.solver.specs.Run.{run}
+use Rattle.solver.specs.declared.Outcome.the-variants.{Made}
+use Rattle.solver.proofs.GraphOnce.{once}
+use Rattle.claims.specs.Demand3.{Accepted, registered, accepted, numbers, clearedBehind, Rests, Exact, Whole}
+use Rattle.claims.proofs.Calls.{reached, keys-are, numbers-are, given-are}
+use Rattle.claims.proofs.Carrying.{not-twice, Single, run-carries}
+
+-- ---- the plan
+
+planned-is : (g : Graph) → valid g ≡ true → planned g ≡ record { outcome = Made; keys = g .variables; plan = graphPlan g }
+unfolding planned
+planned-is g v = rw v
+
+-- one gathering for each key
+plan-length : (g : Graph) → length (graphPlan g .at-key) ≡ g .variables
+unfolding graphPlan lists.plan
+plan-length g = length-map (from 0 (g .variables)) _ ∙ length-from 0 (g .variables)
+
+single : (g : Graph) → valid g ≡ true → Single (graphPlan g)
+single g v i l d =
+    let o = once g v i (omega (arith, plan-length g)) d in
+    not-twice (getD (graphPlan g .at-key) i d .leaves) (λ f. omega (arith, o .listed f, from-once (g .count) f))
+
+-- ---- a key
+
+-- the number of an accepted factor is among the numbers
+among : (fs : List Accepted) (f : Accepted) → List·Memᴰ f fs → In (f .number) (numbers fs)
+unfolding count
+among fs f (List·Memᴰ·head {x = a} {xs = rest} e) = omega (arith, hit-same (f .number), ap (λ (x : Accepted). count (f .number) (numbers (x ∷ rest))) e)
+among fs f (List·Memᴰ·tail {x = a} {xs = rest} m) = omega (arith, among rest f m)
+
+-- the claim over keys and numbers is the claim over what the calls answered
+rests : (g : Graph) (ks : List ℕ) (fs : List Accepted) → ks ≡ from 0 (g .variables) → numbers fs ≡ from 0 (g .count) → ((f : Accepted) → List·Memᴰ f fs → f .keys ≡ keysOf g (f .number))
+    → (p : lists.Plan) (k : ℕ) (q : Gathered) → k < g .variables → Once (g .variables) (keysOf g) (from 0 (g .count)) k (p .forward) (p .backward) q → Rests ks fs p k q
+rests g ks fs ek en eg p k q l o =
+    record {
+      listed = λ f m. omega (arith, o .listed (f .number), from-once (g .count) (f .number), numbered f m);
+      no-other-leaf = λ i h. omega (arith, o .listed i, ap (count i) en);
+      others-once = λ j h d. omega (arith, split j, hit-other j k d, ap (count j) ek, from-once (g .variables) j);
+      itself-never = omega (arith, split k, hit-same k, from-once (g .variables) k);
+      no-other-key = λ j h. omega (arith, split j, ap (count j) ek);
+      forward-covers = λ i b f m j h c. o .forward i b (f .number) (numbered f m) j (touched f m j h) c;
+      backward-covers = λ i b f m j h c. o .backward i b (f .number) (numbered f m) j (touched f m j h) c;
+      last-covers = λ f m j h c. o .last (f .number) (numbered f m) j (touched f m j h) c;
+    }
+  where
+    numbered : (f : Accepted) → List·Memᴰ f fs → In (f .number) (from 0 (g .count))
+    numbered f m = subst (λ (l : List ℕ). In (f .number) l) en (among fs f m)
+
+    touched : (f : Accepted) → List·Memᴰ f fs → (j : ℕ) → In j (f .keys) → In j (keysOf g (f .number))
+    touched f m j h = subst (λ (l : List ℕ). In j l) (eg f m) h
+
+    split : (j : ℕ) → hit j k + count j (clearedBehind p q) ≡ count j (from 0 (g .variables))
+    split j = sym (count-cons j k (clearedBehind p q)) ∙ o .cleared j
+
+-- ---- the calls
+
+module _ (cs : List Call) where
+  abbrev g : Graph
+  g = yields fresh cs
+
+  sound : valid g ≡ true
+  sound = good-of g (reached cs) .1
+
+  -- with what `plan` answers in place of the plan
+  by-answer : (P : Answer → Type 0) → P (record { outcome = Made; keys = g .variables; plan = graphPlan g }) → P (planned g)
+  by-answer P h = subst P (sym (planned-is g sound)) h
+
+  empty : registered fresh cs ≡ [] → graphPlan g .at-key ≡ []
+  empty e = go (graphPlan g .at-key) (plan-length g ∙ sym (length-from 0 (g .variables)) ∙ ap length (sym (keys-are cs) ∙ e))
+    where
+      go : (qs : List Gathered) → length qs ≡ 0 → qs ≡ []
+      go [] l = refl
+      go (q ∷ qs) l = absurd (omega arith)
+
+  pub demand3 : Whole cs
+  demand3 =
+      record {
+        keys-apart = λ k. omega (arith, ap (count k) (keys-are cs), from-once (g .variables) k);
+        numbers-apart = λ i. omega (arith, ap (count i) (numbers-are cs), from-once (g .count) i);
+        made = by-answer (λ (a : Answer). a .outcome ≡ Made) refl;
+        for-each = by-answer (λ (a : Answer). length (a .plan .at-key) ≡ length (registered fresh cs)) (plan-length g ∙ sym (length-from 0 (g .variables)) ∙ ap length (sym (keys-are cs)));
+        rests =
+            λ k h d. let l : k < g .variables = from-lt k (g .variables) (subst (λ (l : List ℕ). In k l) (keys-are cs) h) in
+            by-answer (λ (a : Answer). Rests (registered fresh cs) (accepted fresh cs) (a .plan) k (getD (a .plan .at-key) k d))
+            (rests g (registered fresh cs) (accepted fresh cs) (keys-are cs) (numbers-are cs) (given-are cs) (graphPlan g) k (getD (graphPlan g .at-key) k d) l (once g sound k l d));
+        never-twice = λ factors messages work marginals. run-carries g (single g sound) factors messages work marginals .never-twice;
+        exact =
+            λ factors messages work marginals e. by-answer (λ (a : Answer). Exact g (a .plan) factors messages marginals (run g factors messages work marginals))
+            (run-carries g (single g sound) factors messages work marginals .exact e);
+        none-without-keys = λ e factors messages work marginals. run-carries g (single g sound) factors messages work marginals .bare (empty e);
+      }

@@ -1,0 +1,37 @@
+-- P1, P2, P3 and P8 as jobs, by computation. Assumes nothing.
+use mathlib.Core.Path.{_≡_, refl}
+use mathlib.Core.List.{List, [], _∷_, _++_}
+use Prim.Native.Nat.{ℕ}
+use lib.Ieee.{toBits}
+use Rattle.records.specs.Bytes.{wordAt, numberAt, listed}
+use Rattle.records.specs.Records.{variableAt, priorNumbers, priorAt, meaning, observedNumbers, observed, observationAt, markOf, recordAt, readFrom, readAll}
+use Rattle.lines.specs.Lines.{decimalBy, decimal, hexBy, numberText, numbersText, startOf, lineText, linesText, refusedWord, fieldText, refusalText}
+use Rattle.job.specs.Job.{runText, jobText}
+use Rattle.claims.specs.Pairs.{variable-bytes, prior-bytes, equal-bytes}
+use Rattle.claims.proofs.Computing.{computedRun}
+
+-- the text, opened for computing
+unfoldable pub printed : List ℕ → List ℕ
+unfolding jobText runText readAll readFrom recordAt markOf variableAt priorAt priorNumbers observationAt observed observedNumbers meaning wordAt numberAt listed linesText lineText numbersText numberText hexBy decimal decimalBy startOf refusalText fieldText toBits computedRun
+printed bytes = jobText bytes
+
+-- P1: no bytes, no lines
+pub no-bytes : jobText [] ≡ []
+unfolding printed
+no-bytes = refl
+
+-- P2: ` 16 3 0` after the word
+pub one-variable : jobText (variable-bytes 0) ≡ refusedWord ++ (32 ∷ 49 ∷ 54 ∷ 32 ∷ 51 ∷ 32 ∷ 48 ∷ 10 ∷ [])
+unfolding printed
+one-variable = refl
+
+-- P3: `0`, ` 4000000000000000` and ` 4010000000000000`
+pub one-prior : jobText (variable-bytes 0 ++ prior-bytes)
+    ≡ (48 ∷ []) ++ (32 ∷ 52 ∷ 48 ∷ 48 ∷ 48 ∷ 48 ∷ 48 ∷ 48 ∷ 48 ∷ 48 ∷ 48 ∷ 48 ∷ 48 ∷ 48 ∷ 48 ∷ 48 ∷ 48 ∷ []) ++ (32 ∷ 52 ∷ 48 ∷ 49 ∷ 48 ∷ 48 ∷ 48 ∷ 48 ∷ 48 ∷ 48 ∷ 48 ∷ 48 ∷ 48 ∷ 48 ∷ 48 ∷ 48 ∷ 48 ∷ []) ++ (10 ∷ [])
+unfolding printed
+one-prior = refl
+
+-- P8: ` 3 0 2`, since the third record is refused
+pub equal-keys : jobText (variable-bytes 0 ++ variable-bytes 1 ++ equal-bytes) ≡ refusedWord ++ (32 ∷ 51 ∷ 32 ∷ 48 ∷ 32 ∷ 50 ∷ 10 ∷ [])
+unfolding printed
+equal-keys = refl

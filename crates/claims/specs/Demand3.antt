@@ -1,0 +1,142 @@
+-- Demand 3, whole, as one claim about a list of registering calls. Keys and factors are read off what the calls answered and were given, never off the graph that they yield. Definitions only.
+use mathlib.Core.Path.{_≡_}
+use mathlib.Core.Logic.{_≢_}
+use mathlib.Core.List.{List, [], _∷_, _++_, map, List·Memᴰ}
+use Prim.Native.Nat.{ℕ, _+_, _≤_}
+use lib.ListN.{length, getD}
+use lib.Ieee.{Float}
+use Rattle.graph.specs.Record.{sizeAt, fresh}
+use Rattle.graph.specs.Registration.{addVariable, addPrior, addObservation}
+use Rattle.graph.specs.Reached.{Call, variable, prior, observation, after, yields}
+use Rattle.graph.specs.declared.Graph.{Graph}
+use Rattle.graph.specs.declared.Outcome.{Outcome}
+use Rattle.graph.specs.declared.Outcome.the-variants.{Key, Number, Refused}
+use Rattle.graph.specs.declared.refusal.Refusal.the-variants.{CountedTwice}
+use Rattle.schedule.specs.Count.{count, In}
+use Rattle.schedule.specs.Pass.{ClosedFactor, at}
+use Rattle.schedule.specs.Gather.{Gathered, leaves}
+use Rattle.schedule.specs.Once.{behind, clearedBy}
+use Rattle.schedule.specs.Plan as lists
+use Rattle.gaussian.specs.Elimination as gaussian
+use Rattle.messages.specs.Values.{none, values, stopFrom, finished, overlaid}
+use Rattle.solver.specs.Plan.{planned}
+use Rattle.marginals.specs.Marginals.{Found, foundIn, gatheredViews, missingFrom, marginalsIn}
+use Rattle.solver.specs.Run.{Verdict, run}
+use Rattle.solver.specs.declared.Outcome.the-variants as plans
+use Rattle.solver.specs.declared.run.Ended.the-variants as ended
+
+-- ---- what the calls answered
+
+-- the answer of a call that is handed the graph g
+unfoldable pub outcomeOf : Graph → Call → Outcome
+outcomeOf g (variable name size) = addVariable g name size .outcome
+outcomeOf g (prior key mean variance store) = addPrior g key mean variance store .outcome
+outcomeOf g (observation keys rows a mean variance store) = addObservation g keys rows a mean variance store .outcome
+
+-- the keys that a call gives for its factor
+unfoldable pub given : Call → List ℕ
+given (variable name size) = []
+given (prior key mean variance store) = key ∷ []
+given (observation keys rows a mean variance store) = keys
+
+-- an accepted factor: the number that its call answered, and the keys that this call gave
+pub record Accepted : Type 0 where
+  pub number : ℕ
+  pub keys : List ℕ
+
+-- the key that an answer tells, if it tells one
+unfoldable pub keyIn : Outcome → List ℕ
+keyIn (Key k) = k ∷ []
+keyIn (Number f) = []
+keyIn (Refused why) = []
+
+-- the factor that an answer to a call with these keys tells, if it tells one
+unfoldable pub factorIn : Outcome → List ℕ → List Accepted
+factorIn (Key k) keys = []
+factorIn (Number f) keys = record { number = f; keys = keys } ∷ []
+factorIn (Refused why) keys = []
+
+-- the registered keys: those that the calls answered, the first call being handed g and each other one what the call before it returned
+unfoldable pub registered : Graph → List Call → List ℕ
+registered g [] = []
+registered g (c ∷ cs) = keyIn (outcomeOf g c) ++ registered (after g c) cs
+
+-- the accepted factors, likewise
+unfoldable pub accepted : Graph → List Call → List Accepted
+accepted g [] = []
+accepted g (c ∷ cs) = factorIn (outcomeOf g c) (given c) ++ accepted (after g c) cs
+
+abbrev pub numbers : List Accepted → List ℕ
+numbers = map (λ (f : Accepted). f .number)
+
+-- ---- what is claimed of the plan at a key
+
+-- the keys that the eliminations behind a key clear: those of its gathered messages and of all messages under them, in both passes, and the last one
+abbrev pub clearedBehind : lists.Plan → Gathered → List ℕ
+clearedBehind p q = clearedBy (p .forward) (behind (p .forward) (q .forward)) ++ clearedBy (p .backward) (behind (p .backward) (q .backward)) ++ q .last
+
+-- every accepted factor that touches a key which one of these messages clears is a leaf under that message
+abbrev pub Covered : List Accepted → List ClosedFactor → List ℕ → Type 0
+Covered factors messages is =
+    (i : ℕ) → In i is → (f : Accepted) → List·Memᴰ f factors → (j : ℕ) → In j (f .keys) → In j (at messages i .cleared) → In (f .number) (leaves messages i)
+
+-- the claim at the key k, where the plan p has gathered q
+pub record Rests (keys : List ℕ) (factors : List Accepted) (p : lists.Plan) (k : ℕ) (q : Gathered) : Type 0 where
+  -- the leaves list every accepted factor exactly once, and nothing else
+  pub listed : (f : Accepted) → List·Memᴰ f factors → count (f .number) (q .leaves) ≡ 1
+  pub no-other-leaf : (i : ℕ) → In i (q .leaves) → In i (numbers factors)
+  -- in the eliminations behind k every other registered key is cleared exactly once, k never, and nothing that is not registered
+  pub others-once : (j : ℕ) → In j keys → j ≢ k → count j (clearedBehind p q) ≡ 1
+  pub itself-never : count k (clearedBehind p q) ≡ 0
+  pub no-other-key : (j : ℕ) → In j (clearedBehind p q) → In j keys
+  -- a factor that touches a cleared key is a leaf under the elimination that clears it: a forward message, a backward one, or the last one
+  pub forward-covers : Covered factors (p .forward) (behind (p .forward) (q .forward))
+  pub backward-covers : Covered factors (p .backward) (behind (p .backward) (q .backward))
+  pub last-covers : (f : Accepted) → List·Memᴰ f factors → (j : ℕ) → In j (f .keys) → In j (q .last) → In (f .number) (q .leaves)
+
+-- ---- what is claimed of a run
+
+-- what the last elimination of the key k comes to, which keeps k alone and clears the plan's other keys from what k gathered
+unfoldable pub solvedAt : Graph → List Float → lists.Plan → ℕ → Gathered → Found
+solvedAt g factors p k q =
+    foundIn (sizeAt g k) (gaussian.eliminate (gatheredViews g factors p (values g factors (p .forward)) (values g factors (p .backward)) q) (k ∷ []) (q .last) (g .sizes))
+
+-- of all keys from k on
+unfoldable pub solvedFrom : Graph → List Float → lists.Plan → ℕ → List Gathered → List Found
+solvedFrom g factors p k [] = []
+solvedFrom g factors p k (q ∷ qs) = solvedAt g factors p k q ∷ solvedFrom g factors p (k + 1) qs
+
+-- The stores after an unrefused run: no elimination of the plan is refused, and what stands in the stores is what they come to from the factor store. Past that the stores are as they were.
+pub record Exact (g : Graph) (p : lists.Plan) (factors messages marginals : List Float) (v : Verdict) : Type 0 where
+  pub forward-made : stopFrom 0 (values g factors (p .forward)) ≡ none
+  pub backward-made : stopFrom 0 (values g factors (p .backward)) ≡ none
+  pub messages-are : v .messages ≡ overlaid messages (finished (values g factors (p .forward)) ++ finished (values g factors (p .backward)))
+  pub all-found : missingFrom 0 (solvedFrom g factors p 0 (p .at-key)) ≡ none
+  pub marginals-are : v .marginals ≡ overlaid marginals (marginalsIn (solvedFrom g factors p 0 (p .at-key)))
+
+-- ---- the demand
+
+-- the graph after the calls, from a fresh one, and what `plan` answers for it
+abbrev pub graphOf : List Call → Graph
+graphOf cs = yields fresh cs
+
+abbrev pub planOf : List Call → lists.Plan
+planOf cs = planned (graphOf cs) .plan
+
+pub record Whole (cs : List Call) : Type 0 where
+  -- the calls answered no key twice, and no number twice
+  pub keys-apart : (k : ℕ) → count k (registered fresh cs) ≤ 1
+  pub numbers-apart : (i : ℕ) → count i (numbers (accepted fresh cs)) ≤ 1
+  -- the plan is made, and has one gathering for each registered key
+  pub made : planned (graphOf cs) .outcome ≡ plans.Made
+  pub for-each : length (planOf cs .at-key) ≡ length (registered fresh cs)
+  -- behind each registered key stands the whole graph, once
+  pub rests : (k : ℕ) → In k (registered fresh cs) → (d : Gathered) → Rests (registered fresh cs) (accepted fresh cs) (planOf cs) k (getD (planOf cs .at-key) k d)
+  -- no run gives the double-count refusal, whatever stores it is lent
+  pub never-twice : (factors messages : List Float) (work : ℕ) (marginals : List Float) (stage key : ℕ)
+      → run (graphOf cs) factors messages work marginals .answer .ended ≢ ended.Refused CountedTwice stage key
+  -- an unrefused run's messages, means and covariances are those that the plan's eliminations give from its factor store
+  pub exact : (factors messages : List Float) (work : ℕ) (marginals : List Float) → run (graphOf cs) factors messages work marginals .answer .ended ≡ ended.Done
+      → Exact (graphOf cs) (planOf cs) factors messages marginals (run (graphOf cs) factors messages work marginals)
+  -- where no key is registered no run gives a marginal: the marginal store is as it was
+  pub none-without-keys : registered fresh cs ≡ [] → (factors messages : List Float) (work : ℕ) (marginals : List Float) → run (graphOf cs) factors messages work marginals .marginals ≡ marginals

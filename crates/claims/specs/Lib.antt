@@ -1,0 +1,3 @@
+-- What is claimed of the whole.
+pub mod Demand3
+pub mod Pairs

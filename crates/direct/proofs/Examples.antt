@@ -1,0 +1,108 @@
+-- A few calls worked out by computation: P4's message, no slots, and refusals. Assumes nothing.
+use Prim.Native.Nat.{ℕ}
+use mathlib.Core.Path.{_≡_, refl}
+use mathlib.Core.Bool.{true, false}
+use mathlib.Core.List.{List, [], _∷_}
+use lib.IntN.{pos, negsuc}
+use lib.Ieee.{Float, fin}
+use Rattle.factor.specs.Counting.{every, all, sum}
+use Rattle.factor.specs.Factor.{above, keyFits, rowsFit, fits, isClear, firstColumn, aNumbers, numbers, priorOf, observationOf}
+use Rattle.graph.specs.Refusals.{numberOf}
+use Rattle.graph.specs.Record.{fresh, scalar, sizeFits, same, free, total, registered, clear, place, variablesFit, factorPlace, factorsFit, offset, valid}
+use Rattle.graph.specs.Registration.{withVariable, withFactor}
+use Rattle.graph.specs.declared.Graph.{Graph}
+use Rattle.graph.specs.declared.refusal.Refusal.the-variants.{NeitherKeptNorCleared, KeptAndCleared, NoSuchKey, FactorStoreShort, StoreShort, ClearedPivot}
+use Rattle.gaussian.proofs.Computing.{computed}
+use Rattle.tables.specs.Originals.{originalView}
+use Rattle.direct.specs.Direct.{countsFit, disjoint, listsFit, allKnown, factorPlaced, allPlaced, views, need, Verdict, send, refuse, sent, verdict, answerOf, storeOf}
+use Rattle.direct.specs.declared.Direct.the-variants.{Rows, Refused}
+
+abbrev zer : Float
+zer = fin false 0 (pos 0)
+
+abbrev one : Float
+one = fin false 1 (pos 0)
+
+abbrev three : Float
+three = fin false 3 (pos 0)
+
+abbrev four : Float
+four = fin false 1 (pos 2)
+
+abbrev minus-one : Float
+minus-one = fin true 1 (pos 0)
+
+abbrev three-quarters : Float
+three-quarters = fin false 3 (negsuc 1)
+
+-- P4: keys 0 and 1 of size 1, three priors on 0, and an observation of both
+abbrev pair : Graph
+pair = withVariable (withVariable fresh (97, 0) 1) (97, 1) 1
+
+abbrev four-factors : Graph
+four-factors = withFactor (withFactor (withFactor (withFactor pair (priorOf 0 1)) (priorOf 0 1)) (priorOf 0 1)) (observationOf (0 ∷ 1 ∷ []) 1)
+
+-- of each prior mean 0 and variance 1; of the observation A = (-1 1), mean 4 and variance 1
+abbrev store : List Float
+store = zer ∷ one ∷ zer ∷ one ∷ zer ∷ one ∷ minus-one ∷ one ∷ four ∷ one ∷ []
+
+-- the verdict, opened for computing
+unfoldable judged : List ℕ → List ℕ → List ℕ → List Float → ℕ → ℕ → Verdict
+unfolding verdict countsFit disjoint listsFit allKnown factorPlaced allPlaced views need sent originalView computed valid variablesFit factorsFit place registered clear same scalar sizeFits free total factorPlace isClear fits rowsFit keyFits above every all sum offset numbers aNumbers firstColumn
+judged slots kept cleared factors room work = verdict four-factors slots kept cleared factors room work
+
+p4 : judged (0 ∷ 3 ∷ 2 ∷ 1 ∷ []) (1 ∷ []) (0 ∷ []) store 3 2304 ≡ send 1 (one ∷ three ∷ three-quarters ∷ [])
+unfolding judged
+p4 = refl
+
+-- it stands at the start of the message store, and the rest is as it was
+p4-stored : storeOf (four ∷ four ∷ four ∷ minus-one ∷ []) (judged (0 ∷ 3 ∷ 2 ∷ 1 ∷ []) (1 ∷ []) (0 ∷ []) store 4 2304) ≡ one ∷ three ∷ three-quarters ∷ minus-one ∷ []
+unfolding judged storeOf
+p4-stored = refl
+
+-- no slots with nothing cleared: no rows are an answer, and refusal 0 is none
+no-slots : answerOf (judged [] [] [] store 0 2304) ≡ Rows 0
+unfolding judged answerOf
+no-slots = refl
+
+-- 0: key 0 of the observation is neither kept nor cleared
+not-listed : answerOf (judged (3 ∷ []) (1 ∷ []) [] store 3 2304) ≡ Refused NeitherKeptNorCleared
+unfolding judged answerOf
+not-listed = refl
+
+number-nought : numberOf NeitherKeptNorCleared ≡ 0
+number-nought = refl
+
+-- 9: key 0 in both lists
+in-both : judged (0 ∷ []) (0 ∷ []) (0 ∷ []) store 3 2304 ≡ refuse KeptAndCleared
+unfolding judged
+in-both = refl
+
+-- 11: there is no factor 4
+no-slot : judged (4 ∷ []) (0 ∷ []) (1 ∷ []) store 3 2304 ≡ refuse NoSuchKey
+unfolding judged
+no-slot = refl
+
+-- 13 comes before 14, and looks at all factors: the listed one would be in the store
+all-factors : judged (0 ∷ []) (0 ∷ []) [] (zer ∷ one ∷ []) 0 0 ≡ refuse FactorStoreShort
+unfolding judged
+all-factors = refl
+
+-- 14: the message of P4 has three numbers, and the work store 2304
+message-short : judged (0 ∷ 3 ∷ 2 ∷ 1 ∷ []) (1 ∷ []) (0 ∷ []) store 2 2304 ≡ refuse StoreShort
+unfolding judged
+message-short = refl
+
+work-short : judged (0 ∷ 3 ∷ 2 ∷ 1 ∷ []) (1 ∷ []) (0 ∷ []) store 3 2303 ≡ refuse StoreShort
+unfolding judged
+work-short = refl
+
+-- 15: a cleared key that no slot touches
+not-touched : judged (0 ∷ []) (0 ∷ []) (1 ∷ []) store 3 2304 ≡ refuse ClearedPivot
+unfolding judged
+not-touched = refl
+
+-- a slot listed twice is added twice
+twice : judged (0 ∷ 0 ∷ []) (0 ∷ []) [] store 3 2304 ≡ send 1 (one ∷ zer ∷ fin false 1 (pos 1) ∷ [])
+unfolding judged
+twice = refl

@@ -1,0 +1,6 @@
+-- Laws that several proofs cite.
+pub mod Checks
+pub mod Verdicts
+pub mod Asking
+pub mod Sending
+pub mod Examples

@@ -1,0 +1,67 @@
+-- `direct::check` meets its contract, by its ways out. Assumes nothing.
+use native.Mathlib.Omega.{arith}
+use borrow.Author.Needs.{needs}
+use borrow.Author.Tests.{not-false, not-true}
+use denote.Ref.{now}
+use Rattle.factor.proofs.Counting.{tells}
+use Rattle.direct.proofs.Asking.{slots-known}
+use Rattle.direct.proofs.Verdicts.{all-passed, no-graph, not-apart, not-placed, not-there, store-short, too-many}
+use Rattle.direct.proofs.check.Statement.{statement}
+use Rattle.direct.proofs.check.Tie as tie
+
+valid-requires : tie.Need-valid-requires
+valid-requires c κs = search needs
+
+returns : tie.Need-returns
+returns c = no-graph (c .before .before .before .before .before .before .args .g) (c .before .before .before .before .before .before .args .slots .now) (c .before .before .before .before .before .before .args .kept .now) (c .before .before .before .before .before .before .args .cleared .now) (c .before .before .before .before .before .before .args .factors .now) (tells (c .before .valid .ensures .0) (not-true _ (c .if1 .taken)))
+
+counts-fit-requires : tie.Need-counts-fit-requires
+counts-fit-requires c κs = search needs
+
+returns-2 : tie.Need-returns-2
+returns-2 c = too-many (c .before .before .before .before .before .before .before .before .args .g) (c .before .before .before .before .before .before .before .before .args .slots .now) (c .before .before .before .before .before .before .before .before .args .kept .now) (c .before .before .before .before .before .before .before .before .args .cleared .now) (c .before .before .before .before .before .before .before .before .args .factors .now) (tells (c .before .before .before .valid .ensures .0) (not-false _ (c .before .before .if1 .left))) (tells (c .before .counts-fit .ensures) (not-true _ (c .if2 .taken)))
+
+lists-fit-requires : tie.Need-lists-fit-requires
+lists-fit-requires c κs = search needs
+
+returns-3 : tie.Need-returns-3
+returns-3 c = not-apart (c .before .before .before .before .before .before .before .before .before .before .args .g) (c .before .before .before .before .before .before .before .before .before .before .args .slots .now) (c .before .before .before .before .before .before .before .before .before .before .args .kept .now) (c .before .before .before .before .before .before .before .before .before .before .args .cleared .now) (c .before .before .before .before .before .before .before .before .before .before .args .factors .now) (tells (c .before .before .before .before .before .valid .ensures .0) (not-false _ (c .before .before .before .before .if1 .left))) (tells (c .before .before .before .counts-fit .ensures) (not-false _ (c .before .before .if2 .left))) (tells (c .before .lists-fit .ensures) (not-true _ (c .if3 .taken)))
+
+all-known-requires : tie.Need-all-known-requires
+all-known-requires c κs = search needs
+
+returns-4 : tie.Need-returns-4
+returns-4 c = not-there (c .before .before .before .before .before .before .before .before .before .before .before .before .args .g) (c .before .before .before .before .before .before .before .before .before .before .before .before .args .slots .now) (c .before .before .before .before .before .before .before .before .before .before .before .before .args .kept .now) (c .before .before .before .before .before .before .before .before .before .before .before .before .args .cleared .now) (c .before .before .before .before .before .before .before .before .before .before .before .before .args .factors .now) (tells (c .before .before .before .before .before .before .before .valid .ensures .0) (not-false _ (c .before .before .before .before .before .before .if1 .left))) (tells (c .before .before .before .before .before .counts-fit .ensures) (not-false _ (c .before .before .before .before .if2 .left))) (tells (c .before .before .before .lists-fit .ensures) (not-false _ (c .before .before .if3 .left))) (tells (c .before .all-known .ensures) (not-true _ (c .if4 .taken)))
+
+all-placed-requires : tie.Need-all-placed-requires
+all-placed-requires c κs = ((tells (c .before .before .before .before .before .before .before .valid .ensures .0) (not-false _ (c .before .before .before .before .before .before .if1 .left))), slots-known (c .before .before .before .before .before .before .before .before .before .before .before .before .args .g) (c .before .before .before .before .before .before .before .before .before .before .before .before .args .slots .now) (c .before .before .before .before .before .before .before .before .before .before .before .before .args .kept .now) (c .before .before .before .before .before .before .before .before .before .before .before .before .args .cleared .now) (tells (c .before .all-known .ensures) (not-false _ (c .if4 .left))))
+
+returns-5 : tie.Need-returns-5
+returns-5 c = not-placed (c .before .before .before .before .before .before .before .before .before .before .before .before .before .before .args .g) (c .before .before .before .before .before .before .before .before .before .before .before .before .before .before .args .slots .now) (c .before .before .before .before .before .before .before .before .before .before .before .before .before .before .args .kept .now) (c .before .before .before .before .before .before .before .before .before .before .before .before .before .before .args .cleared .now) (c .before .before .before .before .before .before .before .before .before .before .before .before .before .before .args .factors .now) (tells (c .before .before .before .before .before .before .before .before .before .valid .ensures .0) (not-false _ (c .before .before .before .before .before .before .before .before .if1 .left))) (tells (c .before .before .before .before .before .before .before .counts-fit .ensures) (not-false _ (c .before .before .before .before .before .before .if2 .left))) (tells (c .before .before .before .before .before .lists-fit .ensures) (not-false _ (c .before .before .before .before .if3 .left))) (tells (c .before .before .before .all-known .ensures) (not-false _ (c .before .before .if4 .left))) (tells (c .before .all-placed .ensures) (not-true _ (c .if5 .taken)))
+
+offset-requires : tie.Need-offset-requires
+offset-requires c κs = ((tells (c .before .before .before .before .before .before .before .before .before .valid .ensures .0) (not-false _ (c .before .before .before .before .before .before .before .before .if1 .left))), omega arith)
+
+returns-6 : tie.Need-returns-6
+returns-6 c = store-short (c .before .before .before .before .before .before .before .before .before .before .before .before .before .before .before .before .args .g) (c .before .before .before .before .before .before .before .before .before .before .before .before .before .before .before .before .args .slots .now) (c .before .before .before .before .before .before .before .before .before .before .before .before .before .before .before .before .args .kept .now) (c .before .before .before .before .before .before .before .before .before .before .before .before .before .before .before .before .args .cleared .now) (c .before .before .before .before .before .before .before .before .before .before .before .before .before .before .before .before .args .factors .now) (tells (c .before .before .before .before .before .before .before .before .before .before .before .valid .ensures .0) (not-false _ (c .before .before .before .before .before .before .before .before .before .before .if1 .left))) (tells (c .before .before .before .before .before .before .before .before .before .counts-fit .ensures) (not-false _ (c .before .before .before .before .before .before .before .before .if2 .left))) (tells (c .before .before .before .before .before .before .before .lists-fit .ensures) (not-false _ (c .before .before .before .before .before .before .if3 .left))) (tells (c .before .before .before .before .before .all-known .ensures) (not-false _ (c .before .before .before .before .if4 .left))) (tells (c .before .before .before .all-placed .ensures) (not-false _ (c .before .before .if5 .left))) _ (c .before .offset .ensures .0) (c .if6 .taken)
+
+returns-7 : tie.Need-returns-7
+returns-7 c = all-passed (c .before .before .before .before .before .before .before .before .before .before .before .before .before .before .before .before .args .g) (c .before .before .before .before .before .before .before .before .before .before .before .before .before .before .before .before .args .slots .now) (c .before .before .before .before .before .before .before .before .before .before .before .before .before .before .before .before .args .kept .now) (c .before .before .before .before .before .before .before .before .before .before .before .before .before .before .before .before .args .cleared .now) (c .before .before .before .before .before .before .before .before .before .before .before .before .before .before .before .before .args .factors .now) (tells (c .before .before .before .before .before .before .before .before .before .before .before .valid .ensures .0) (not-false _ (c .before .before .before .before .before .before .before .before .before .before .if1 .left))) (tells (c .before .before .before .before .before .before .before .before .before .counts-fit .ensures) (not-false _ (c .before .before .before .before .before .before .before .before .if2 .left))) (tells (c .before .before .before .before .before .before .before .lists-fit .ensures) (not-false _ (c .before .before .before .before .before .before .if3 .left))) (tells (c .before .before .before .before .before .all-known .ensures) (not-false _ (c .before .before .before .before .if4 .left))) (tells (c .before .before .before .all-placed .ensures) (not-false _ (c .before .before .if5 .left))) _ (c .before .offset .ensures .0) (c .if6 .left)
+
+pub check-spec : {M : Type 1} → statement M
+check-spec =
+    tie.close
+    (tie.spec
+    valid-requires
+    returns
+    counts-fit-requires
+    returns-2
+    lists-fit-requires
+    returns-3
+    all-known-requires
+    returns-4
+    all-placed-requires
+    returns-5
+    offset-requires
+    returns-6
+    returns-7)

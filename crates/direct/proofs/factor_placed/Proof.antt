@@ -1,0 +1,71 @@
+-- `direct::factor_placed` meets its contract. The loop's invariant: each key passed is cleared or kept. Assumes nothing.
+use Prim.Native.Nat.{_-_, _≤_}
+use mathlib.Core.Bool.{true, _||_}
+use mathlib.Core.Path.{_≡_, sym}
+use native.Mathlib.Omega.{arith}
+use borrow.Author.Needs.{needs}
+use borrow.Author.Tests.{not-false, not-true}
+use denote.Ref.{now}
+use Rattle.factor.proofs.Counting.{all-fail, all-more, all-none}
+use Rattle.factor.specs.Counting.{all}
+use Rattle.factor.specs.Factor.{keyAt}
+use Rattle.slots.specs.Layouts.{member}
+use Rattle.direct.proofs.Checks.{key-tells}
+use Rattle.direct.specs.Direct.{factorPlaced}
+use Rattle.direct.proofs.factor_placed.Statement.{statement}
+use Rattle.direct.proofs.factor_placed.Tie as tie
+
+abbrev Inv-loop : tie.InvT-loop
+Inv-loop kept cleared f place₀ place-end place = (place-end ≡ f .touched) × (place ≤ place-end) × (all (λ j. member (keyAt f j) cleared || member (keyAt f j) kept) place ≡ true)
+
+abbrev μ-loop : tie.MeasureT-loop
+μ-loop kept cleared f place₀ place-end place = place-end - place
+
+wide-requires : tie.Need-wide-requires Inv-loop μ-loop
+wide-requires c κs = search needs
+
+loop-holds : tie.Need-loop-holds Inv-loop μ-loop
+loop-holds c = (c .wide .ensures, search needs, all-none _)
+
+element-copy-out-wide : tie.Need-element-copy-out-wide Inv-loop μ-loop
+element-copy-out-wide c = omega (arith, c .before .loop .inv .0, c .before .before .before .before .before .pre)
+
+wide-requires-2 : tie.Need-wide-requires-2 Inv-loop μ-loop
+wide-requires-2 c κs = search needs
+
+placed-requires : tie.Need-placed-requires Inv-loop μ-loop
+placed-requires c κs = search needs
+
+returns : tie.Need-returns Inv-loop μ-loop
+unfolding factorPlaced
+returns c = sym (all-fail (λ j. member (keyAt (c .before .before .before .before .before .before .before .before .before .args .t3) j) (c .before .before .before .before .before .before .before .before .before .args .cleared .now) || member (keyAt (c .before .before .before .before .before .before .before .before .before .args .t3) j) (c .before .before .before .before .before .before .before .before .before .args .kept .now)) _ (c .before .before .before .before .before .loop .place) (omega (arith, c .before .before .before .before .before .loop .inv .0)) (key-tells (c .before .before .before .before .before .before .before .before .before .args .kept .now) (c .before .before .before .before .before .before .before .before .before .args .cleared .now) _ (keyAt (c .before .before .before .before .before .before .before .before .before .args .t3) (c .before .before .before .before .before .loop .place)) _ _ (c .before .before .wide2 .ensures) (c .before .placed .ensures) (not-true _ (c .if1 .taken))))
+
+add-place : tie.Need-add-place Inv-loop μ-loop
+add-place c = search needs
+
+loop-less : tie.Need-loop-less Inv-loop μ-loop
+loop-less c = search needs
+
+loop-again : tie.Need-loop-again Inv-loop μ-loop
+loop-again c = (c .before .before .before .before .before .loop .inv .0, omega arith, all-more _ _ (c .before .before .before .before .before .loop .inv .2) (key-tells (c .before .before .before .before .before .before .before .before .before .args .kept .now) (c .before .before .before .before .before .before .before .before .before .args .cleared .now) _ (keyAt (c .before .before .before .before .before .before .before .before .before .args .t3) (c .before .before .before .before .before .loop .place)) _ _ (c .before .before .wide2 .ensures) (c .before .placed .ensures) (not-false _ (c .if1 .left))))
+
+returns-2 : tie.Need-returns-2 Inv-loop μ-loop
+unfolding factorPlaced
+returns-2 c = let e : c .before .loop .place ≡ c .before .before .before .before .before .args .t3 .touched = omega (arith, c .before .loop .inv .0) in sym (rw e at (c .before .loop .inv .2))
+
+pub factor-placed-spec : {M : Type 1} → statement M
+factor-placed-spec =
+    tie.close
+    (tie.spec
+    Inv-loop
+    μ-loop
+    wide-requires
+    loop-holds
+    element-copy-out-wide
+    wide-requires-2
+    placed-requires
+    returns
+    add-place
+    loop-less
+    loop-again
+    returns-2)

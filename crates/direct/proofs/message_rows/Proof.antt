@@ -1,0 +1,13 @@
+-- `direct::message_rows` meets its contract, by its two ways out. Assumes nothing.
+use borrow.Author.Tests.{le-leb, lt-leb}
+use Rattle.direct.proofs.message_rows.Statement.{statement}
+use Rattle.direct.proofs.message_rows.Tie as tie
+
+returns : tie.Need-returns
+returns c = rw (le-leb _ _ (c .if1 .taken))
+
+returns-2 : tie.Need-returns-2
+returns-2 c = rw (lt-leb _ _ (c .if1 .left))
+
+pub message-rows-spec : {M : Type 1} → statement M
+message-rows-spec = tie.close (tie.spec returns returns-2)

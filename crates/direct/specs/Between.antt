@@ -1,0 +1,34 @@
+-- What the functions of a direct elimination tell each other. Definitions only.
+use Prim.Native.Nat.{ℕ, _≤_}
+use mathlib.Core.Path.{_≡_}
+use mathlib.Core.Bool.{true, not, cond}
+use mathlib.Core.List.{List}
+use lib.Dec.{leb}
+use lib.Ieee.{Float}
+use lib.ListN.{length}
+use Rattle.graph.specs.Record.{offset, valid}
+use Rattle.graph.specs.declared.Graph.{Graph}
+use Rattle.graph.specs.declared.refusal.Refusal.the-variants.{NeitherKeptNorCleared, CountOutside, KeptAndCleared, NoSuchKey, FactorStoreShort, NoSuchGraph}
+use Rattle.direct.specs.Direct.{countsFit, listsFit, allKnown, allPlaced}
+use Rattle.direct.specs.declared.Checked.{Checked}
+use Rattle.direct.specs.declared.Checked.the-variants.{Passed, Stopped}
+
+-- the checks before 14, which look at no table
+unfoldable pub early : Graph → List ℕ → List ℕ → List ℕ → List Float → Checked
+early g slots kept cleared factors =
+    cond (not (valid g)) (Stopped NoSuchGraph)
+    (cond (not (countsFit slots kept cleared)) (Stopped CountOutside)
+    (cond (not (listsFit kept cleared)) (Stopped KeptAndCleared)
+    (cond (not (allKnown g slots kept cleared)) (Stopped NoSuchKey)
+    (cond (not (allPlaced g slots kept cleared)) (Stopped NeitherKeptNorCleared)
+    (cond (not (leb (offset g (g .count)) (length factors))) (Stopped FactorStoreShort)
+    Passed)))))
+
+-- what they let through
+pub record Admitted (g : Graph) (slots kept cleared : List ℕ) (factors : List Float) : Type 0 where
+  pub reached : valid g ≡ true
+  pub few : countsFit slots kept cleared ≡ true
+  pub apart : listsFit kept cleared ≡ true
+  pub there : allKnown g slots kept cleared ≡ true
+  pub placed : allPlaced g slots kept cleared ≡ true
+  pub stored : offset g (g .count) ≤ length factors

@@ -1,0 +1,96 @@
+-- What a direct elimination answers, and what the message store then holds: document 01, "Elimination" and "Checks in order". Definitions only.
+use Prim.Native.Nat.{ℕ}
+use mathlib.Core.Bool.{Bool, not, cond, _||_}
+use mathlib.Core.List.{List, [], _∷_, _++_, map}
+use lib.Dec.{leb}
+use lib.Ieee.{Float}
+use lib.ListN.{length, getD, drop}
+use Rattle.factor.specs.Limits.{max-variables}
+use Rattle.factor.specs.Counting.{every, all}
+use Rattle.factor.specs.Factor.{keyAt, rising, known}
+use Rattle.factor.specs.declared.Factor.{Factor}
+use Rattle.graph.specs.Record.{factorAt, offset, valid}
+use Rattle.graph.specs.declared.Graph.{Graph}
+use Rattle.graph.specs.declared.refusal.Refusal.{Refusal}
+use Rattle.graph.specs.declared.refusal.Refusal.the-variants.{NeitherKeptNorCleared, CountOutside, KeptAndCleared, NoSuchKey, FactorStoreShort, StoreShort, ClearedPivot, ResultNotFinite, NoSuchGraph}
+use Rattle.workspace.specs.Frames.{work-numbers}
+use Rattle.slots.specs.Limits.{max-slots}
+use Rattle.slots.specs.Layouts.{member, dimOf, layoutOf}
+use Rattle.slots.specs.Views.{FactorView, rowsOfAll}
+use Rattle.slots.specs.Tables.{numbersOf}
+use Rattle.gaussian.specs.Elimination.{Outcome, pivot, unbounded, message, nth, eliminate}
+use Rattle.gaussian.specs.Asked.{messageRows}
+use Rattle.tables.specs.Originals.{originalView}
+use Rattle.direct.specs.declared.Direct.{Direct}
+use Rattle.direct.specs.declared.Direct.the-variants.{Rows, Refused}
+
+-- ---- the checks
+
+-- 4: at most 128 slots, and at most 32 keys a list
+unfoldable pub countsFit : List ℕ → List ℕ → List ℕ → Bool
+countsFit slots kept cleared = every (leb (length slots) max-slots ∷ leb (length kept) max-variables ∷ leb (length cleared) max-variables ∷ [])
+
+-- 9: both lists strictly rising, and no key in both
+unfoldable pub disjoint : List ℕ → List ℕ → Bool
+disjoint kept cleared = all (λ i. not (member (getD kept i 0) cleared)) (length kept)
+
+unfoldable pub listsFit : List ℕ → List ℕ → Bool
+listsFit kept cleared = every (rising kept ∷ rising cleared ∷ disjoint kept cleared ∷ [])
+
+-- 11: all keys registered, and all slots factors of the graph
+unfoldable pub allKnown : Graph → List ℕ → List ℕ → List ℕ → Bool
+allKnown g slots kept cleared = every (known (g .variables) kept ∷ known (g .variables) cleared ∷ known (g .count) slots ∷ [])
+
+-- 0: each key of a listed factor is cleared or kept
+unfoldable pub factorPlaced : List ℕ → List ℕ → Factor → Bool
+factorPlaced kept cleared f = all (λ j. member (keyAt f j) cleared || member (keyAt f j) kept) (f .touched)
+
+unfoldable pub allPlaced : Graph → List ℕ → List ℕ → List ℕ → Bool
+allPlaced g slots kept cleared = all (λ i. factorPlaced kept cleared (factorAt g (getD slots i 0))) (length slots)
+
+-- the listed factors in their order, one listed twice standing twice
+unfoldable pub views : Graph → List ℕ → List Float → List FactorView
+views g slots factors = map (originalView g factors) slots
+
+-- 14: how many numbers the message has, by the rows of the views and the kept dimension
+unfoldable pub need : Graph → List ℕ → List ℕ → List FactorView → ℕ
+need g kept cleared vs =
+    let d = dimOf (g .sizes) kept in
+    numbersOf (messageRows (rowsOfAll (layoutOf kept cleared (g .sizes)) (nth vs) (length vs)) d) d
+
+-- ---- the verdict
+
+-- a message of so many rows, or a refusal
+pub data Verdict : Type 0 where
+  send : ℕ → List Float → Verdict
+  refuse : Refusal → Verdict
+
+-- 15 and 17; a message stands as A, xi, W
+unfoldable pub sent : Outcome → Verdict
+sent pivot = refuse ClearedPivot
+sent unbounded = refuse ResultNotFinite
+sent (message r a xi w) = send r (a ++ (xi ++ w))
+
+-- the checks in their order, over the lists, the factor store, and the lengths of the message store and the work store
+unfoldable pub verdict : Graph → List ℕ → List ℕ → List ℕ → List Float → ℕ → ℕ → Verdict
+verdict g slots kept cleared factors room work =
+    cond (not (valid g)) (refuse NoSuchGraph)
+    (cond (not (countsFit slots kept cleared)) (refuse CountOutside)
+    (cond (not (listsFit kept cleared)) (refuse KeptAndCleared)
+    (cond (not (allKnown g slots kept cleared)) (refuse NoSuchKey)
+    (cond (not (allPlaced g slots kept cleared)) (refuse NeitherKeptNorCleared)
+    (cond (not (leb (offset g (g .count)) (length factors))) (refuse FactorStoreShort)
+    (cond (not (every (leb (need g kept cleared (views g slots factors)) room ∷ leb work-numbers work ∷ []))) (refuse StoreShort)
+    (sent (eliminate (views g slots factors) kept cleared (g .sizes)))))))))
+
+-- ---- the answer and the store
+
+-- no rows are an answer too
+unfoldable pub answerOf : Verdict → Direct
+answerOf (send rows numbers) = Rows rows
+answerOf (refuse why) = Refused why
+
+-- a message stands at the start, and the rest is as it was; a refusal leaves the whole
+unfoldable pub storeOf : List Float → Verdict → List Float
+storeOf store (send rows numbers) = numbers ++ drop (length numbers) store
+storeOf store (refuse why) = store

@@ -1,0 +1,3 @@
+-- The definitions that the contracts of `direct` cite.
+pub mod Direct
+pub mod Between

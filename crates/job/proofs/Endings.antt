@@ -1,0 +1,66 @@
+-- The text of a job, by how its reading and its run ended, and that the text in a buffer is that one. Assumes nothing.
+use Prim.Native.Nat.{ℕ, _≤_}
+use mathlib.Core.Path.{_≡_, sym, ap, _∙_}
+use mathlib.Core.Bool.{true}
+use mathlib.Core.List.{List}
+use native.Mathlib.Omega.{arith}
+use lib.Ieee.{Float}
+use Rattle.factor.specs.Limits.{max-variables}
+use Rattle.factor.proofs.Counting.{sum-le}
+use Rattle.graph.specs.Record.{valid}
+use Rattle.graph.specs.Refusals.{numberOf}
+use Rattle.graph.specs.declared.Graph.{Graph}
+use Rattle.graph.specs.declared.refusal.Refusal.{Refusal}
+use Rattle.graph.proofs.Validity.{valid-variables}
+use Rattle.records.specs.Records.{readAll}
+use Rattle.records.specs.declared.answer.Read.{Read}
+use Rattle.records.specs.declared.answer.Ended.the-variants as reading
+use Rattle.workspace.specs.Frames.{work-numbers}
+use Rattle.marginals.specs.Marginals.{marginalNumbers}
+use Rattle.marginals.proofs.Rooms.{numbers-most}
+use Rattle.solver.specs.Run.{run}
+use Rattle.solver.specs.Stages.{verdict}
+use Rattle.solver.specs.declared.run.Ran.{Ran}
+use Rattle.solver.specs.declared.run.Ended.the-variants as ending
+use Rattle.lines.specs.Lines.{numbersOf, startOf, linesText, refusalText, written, laidIn}
+use Rattle.lines.specs.declared.Written.{Written}
+use Rattle.job.specs.Job.{factor-room, message-room, marginal-room, zeros, reading-stage, endedText, verdictText, runText, readText, jobText}
+
+-- what a laying answers, and how it leaves the buffer
+abbrev pub Lays : List ℕ → List ℕ → Written → List ℕ → Type 0
+Lays out text r after = (r ≡ written out text) × (after ≡ laidIn out text)
+
+-- an equal text is laid alike
+pub lays-same : (out s t : List ℕ) (r : Written) (after : List ℕ) → s ≡ t → Lays out s r after → Lays out t r after
+lays-same out s t r after e p = rw e at p
+
+-- the marginal store has room for the numbers of every graph
+pub marginals-fit : (g : Graph) → valid g ≡ true → startOf g (g .variables) ≤ marginal-room
+unfolding startOf marginalNumbers
+marginals-fit g v = omega (arith, sum-le (λ k. numbersOf g k) (g .variables) max-variables (valid-variables g v), numbers-most g v)
+
+-- ---- how the run ended
+
+module _ (g : Graph) (factors messages marginals : List Float) (ran : Ran) (is : verdict ran messages marginals ≡ run g factors (zeros message-room) work-numbers (zeros marginal-room)) where
+  ended : endedText g (ran .ended) marginals ≡ runText g factors
+  unfolding runText
+  ended = ap (verdictText g) is
+
+  pub all-done : ran .ended ≡ ending.Done → linesText g marginals (g .variables) ≡ runText g factors
+  all-done e = sym (ap (λ x. endedText g x marginals) e) ∙ ended
+
+  pub run-refused : (why : Refusal) (stage key : ℕ) → ran .ended ≡ ending.Refused why stage key → refusalText (numberOf why) stage key ≡ runText g factors
+  run-refused why stage key e = sym (ap (λ x. endedText g x marginals) e) ∙ ended
+
+-- ---- how the reading ended
+
+module _ (bytes : List ℕ) (store : List Float) (r : Read) (is : r ≡ readAll bytes (zeros factor-room) .answer) (stored : store ≡ readAll bytes (zeros factor-room) .store) where
+  read : readText (r .ended) (r .graph) store ≡ jobText bytes
+  unfolding jobText
+  read = rw (is, stored)
+
+  pub whole : r .ended ≡ reading.Whole → runText (r .graph) store ≡ jobText bytes
+  whole e = sym (ap (λ x. readText x (r .graph) store) e) ∙ read
+
+  pub reading-refused : (why : Refusal) (place : ℕ) → r .ended ≡ reading.Refused why place → refusalText (numberOf why) reading-stage place ≡ jobText bytes
+  reading-refused why place e = sym (ap (λ x. readText x (r .graph) store) e) ∙ read

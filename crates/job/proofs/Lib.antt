@@ -1,0 +1,4 @@
+-- Laws of the text of a job.
+pub mod Endings
+pub mod Refusals
+pub mod Longest

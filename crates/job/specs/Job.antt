@@ -1,0 +1,60 @@
+-- What a job prints: a line for each key, or one line that says why there are none. Definitions only.
+use Prim.Native.Nat.{ℕ}
+use mathlib.Core.List.{List}
+use lib.Ieee.{Float}
+use lib.ListN.{replicate}
+use Rattle.matrix.specs.Sums.{plus-zero}
+use Rattle.graph.specs.Refusals.{numberOf}
+use Rattle.graph.specs.declared.Graph.{Graph}
+use Rattle.records.specs.Records.{Reading, readAll}
+use Rattle.records.specs.declared.answer.Ended as records
+use Rattle.records.specs.declared.answer.Ended.the-variants as reading
+use Rattle.workspace.specs.Frames.{work-numbers}
+use Rattle.solver.specs.Run.{Verdict, run}
+use Rattle.solver.specs.declared.run.Ended as solver
+use Rattle.solver.specs.declared.run.Ended.the-variants as ending
+use Rattle.lines.specs.Lines.{linesText, refusalText}
+
+-- ---- the stores of a job, each of zeros at first
+
+-- the numbers of the factors, of the messages, and of the means and covariances; the work store has `work-numbers`
+abbrev pub factor-room : ℕ
+factor-room = 2048
+
+abbrev pub message-room : ℕ
+message-room = 3072
+
+abbrev pub marginal-room : ℕ
+marginal-room = 224
+
+abbrev pub zeros : ℕ → List Float
+zeros n = replicate n plus-zero
+
+-- ---- the text
+
+-- the stage of a refusal by reading
+abbrev pub reading-stage : ℕ
+reading-stage = 0
+
+-- how a run ended, with the marginals that it left
+abbrev pub endedText : Graph → solver.Ended → List Float → List ℕ
+endedText g ending.Done marginals = linesText g marginals (g .variables)
+endedText g (ending.Refused why stage key) marginals = refusalText (numberOf why) stage key
+
+abbrev pub verdictText : Graph → Verdict → List ℕ
+verdictText g v = endedText g (v .answer .ended) (v .marginals)
+
+-- the run of a graph whose factors stand in a store
+unfoldable pub runText : Graph → List Float → List ℕ
+runText g factors = verdictText g (run g factors (zeros message-room) work-numbers (zeros marginal-room))
+
+-- how the reading ended: a refused job isn't run
+abbrev pub readText : records.Ended → Graph → List Float → List ℕ
+readText reading.Whole g factors = runText g factors
+readText (reading.Refused why place) g factors = refusalText (numberOf why) reading-stage place
+
+abbrev pub readingText : Reading → List ℕ
+readingText r = readText (r .answer .ended) (r .answer .graph) (r .store)
+
+unfoldable pub jobText : List ℕ → List ℕ
+jobText bytes = readingText (readAll bytes (zeros factor-room))

@@ -1,0 +1,55 @@
+// A whole job in one call: its bytes are read into a graph, the graph is run, and the answer is laid as text.
+use graph::Graph;
+use lines::Written;
+use lines::lay_lines;
+use lines::lay_refusal;
+use solver::run::run;
+ghost use mathlib.Core.Path.{_≡_};
+ghost use mathlib.Core.Bool.{true};
+ghost use Rattle.graph.specs.Record.{valid};
+ghost use Rattle.lines.specs.Lines.{written, laidIn};
+ghost use Rattle.job.specs.Job as spec;
+
+// The numbers of the factor, message, work and marginal stores. No graph has more marginals.
+const FACTOR_ROOM: usize = 2048;
+
+const MESSAGE_ROOM: usize = 3072;
+
+const WORK_ROOM: usize = 2304;
+
+const MARGINAL_ROOM: usize = 224;
+
+// The stage of a refusal by reading.
+const READING: usize = 0;
+
+// The text of a graph's run. Nothing is laid before the run has ended, so a refusal stands alone.
+fn solve_graph(g: Graph, factors: &[f64], out: &mut [u8]) -> Written
+    requires { ⌜ valid g ≡ true ⌝ }
+    ensures { λ r. ⌜ r ≡ written (now (out .entry)) (spec.runText g (now (factors .entry))) ⌝ }
+    ensures { λ _. ⌜ now (out .exit) ≡ laidIn (now (out .entry)) (spec.runText g (now (factors .entry))) ⌝ }
+{
+    let mut messages = [0.0; MESSAGE_ROOM];
+    let mut work = [0.0; WORK_ROOM];
+    let mut marginals = [0.0; MARGINAL_ROOM];
+    let ran = run(g, factors, &mut messages, &mut work, &mut marginals);
+    let ended = ran.ended;
+    match ended {
+        solver::run::Ended::Done => lay_lines(g, &marginals, out),
+        solver::run::Ended::Refused(why, stage, key) => lay_refusal(why, stage, key, out),
+    }
+}
+
+// What a job prints, at the start of a lent buffer, and its length. A buffer that is too short for it is left as it was.
+pub fn solve(bytes: &[u8], out: &mut [u8]) -> Written
+    ensures { λ r. ⌜ r ≡ written (now (out .entry)) (spec.jobText (now (bytes .entry))) ⌝ }
+    ensures { λ _. ⌜ now (out .exit) ≡ laidIn (now (out .entry)) (spec.jobText (now (bytes .entry))) ⌝ }
+{
+    let mut factors = [0.0; FACTOR_ROOM];
+    let read = records::read(bytes, &mut factors);
+    let g = read.graph;
+    let ended = read.ended;
+    match ended {
+        records::answer::Ended::Whole => solve_graph(g, &factors, out),
+        records::answer::Ended::Refused(why, place) => lay_refusal(why, READING, place, out),
+    }
+}

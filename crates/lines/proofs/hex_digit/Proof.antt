@@ -1,0 +1,23 @@
+-- `lines::hex_digit` meets its contract. Assumes nothing.
+use mathlib.Core.Path.{sym, ap}
+use mathlib.Core.Bool.{Bool, cond}
+use Prim.Native.Nat.{_+_}
+use borrow.Author.Tests.{lt-ltb, le-ltb}
+use borrow.Author.Needs.{needs}
+use Rattle.lines.proofs.hex_digit.Statement.{statement}
+use Rattle.lines.proofs.hex_digit.Tie as tie
+
+add-result : tie.Need-add-result
+add-result c = search needs
+
+add-result-2 : tie.Need-add-result-2
+add-result-2 c = search needs
+
+returns : tie.Need-returns
+returns c = ap (λ (b : Bool). cond b (48 + c .before .args .d) (55 + c .before .args .d)) (sym (lt-ltb (c .before .args .d) 10 (c .if1 .taken)))
+
+returns-2 : tie.Need-returns-2
+returns-2 c = ap (λ (b : Bool). cond b (48 + c .before .args .d) (55 + c .before .args .d)) (sym (le-ltb (c .before .args .d) 10 (c .if1 .left)))
+
+pub hex-digit-spec : {M : Type 1} → statement M
+hex-digit-spec = tie.close (tie.spec add-result add-result-2 returns returns-2)

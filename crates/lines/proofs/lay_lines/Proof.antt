@@ -1,0 +1,26 @@
+-- `lines::lay_lines` meets its contract: the length is worked out first. Assumes nothing.
+use mathlib.Core.Path.{sym, _∙_}
+use Rattle.lines.proofs.Laying.{too-short, fitting}
+use Rattle.lines.proofs.Texts.{lines-long}
+use borrow.Author.Needs.{needs}
+use Rattle.lines.proofs.lay_lines.Statement.{statement}
+use Rattle.lines.proofs.lay_lines.Tie as tie
+
+lines-length-requires : tie.Need-lines-length-requires
+lines-length-requires c κs = search needs
+
+returns : tie.Need-returns
+returns c = too-short (c .before .before .before .before .args .out .now) _ _ (c .before .lines-length .ensures ∙ sym (lines-long (c .before .before .before .before .args .g) (c .before .before .before .before .args .marginals .now) (c .before .before .before .before .args .g .variables))) (c .if1 .taken)
+
+put-lines-requires : tie.Need-put-lines-requires
+put-lines-requires c κs = search needs
+
+same-length : tie.Need-same-length
+same-length c = search needs
+
+returns-2 : tie.Need-returns-2
+returns-2 c = fitting (c .before .before .before .before .before .before .before .before .args .out .now) _ _ _ (c .before .before .before .before .before .lines-length .ensures ∙ sym (lines-long (c .before .before .before .before .before .before .before .before .args .g) (c .before .before .before .before .before .before .before .before .args .marginals .now) (c .before .before .before .before .before .before .before .before .args .g .variables))) (c .before .before .before .before .if1 .left) (c .before .before .put-lines .ensures)
+
+pub lay-lines-spec : {M : Type 1} → statement M
+lay-lines-spec =
+    tie.close (tie.spec lines-length-requires returns put-lines-requires same-length returns-2)

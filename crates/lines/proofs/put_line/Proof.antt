@@ -1,0 +1,29 @@
+-- `lines::put_line` meets its contract. Assumes nothing.
+use mathlib.Core.List.{_∷_, [], _++_}
+use native.Mathlib.Omega.{arith}
+use Rattle.lines.specs.Lines.{feed, decimal, numbersText, lineText}
+use Rattle.lines.proofs.Laying.{puts-both}
+use Rattle.lines.proofs.Texts.{numbers-length}
+use borrow.Author.Needs.{needs}
+use Rattle.lines.proofs.put_line.Statement.{statement}
+use Rattle.lines.proofs.put_line.Tie as tie
+
+put-decimal-requires : tie.Need-put-decimal-requires
+put-decimal-requires c κs = search needs
+
+put-numbers-requires : tie.Need-put-numbers-requires
+put-numbers-requires c κs = (omega (arith, c .before .before .before .before .before .before .before .pre .0, c .before .before .before .put-decimal .ensures .1), c .before .before .before .before .before .before .before .pre .1)
+
+put-requires : tie.Need-put-requires
+put-requires c κs = omega (arith, c .before .before .before .before .before .before .before .before .before .before .before .pre .0, c .before .before .before .before .before .before .before .put-decimal .ensures .1, c .before .before .before .put-numbers .ensures .1, numbers-length (c .before .before .before .before .before .before .before .before .before .before .before .args .values .now) (c .before .before .before .before .before .before .before .before .before .before .before .args .from) (c .before .before .before .before .before .before .before .before .before .before .before .args .n))
+
+same-length : tie.Need-same-length
+same-length c = search needs
+
+returns : tie.Need-returns
+unfolding lineText
+returns c = puts-both (c .before .before .before .before .before .before .before .before .before .before .before .before .before .before .args .out .now) _ _ (c .before .before .before .before .before .before .before .before .before .before .before .before .before .before .args .at) _ _ (decimal (c .before .before .before .before .before .before .before .before .before .before .before .before .before .before .args .key) ++ numbersText (c .before .before .before .before .before .before .before .before .before .before .before .before .before .before .args .values .now) (c .before .before .before .before .before .before .before .before .before .before .before .before .before .before .args .from) (c .before .before .before .before .before .before .before .before .before .before .before .before .before .before .args .n)) (feed ∷ []) (omega (arith, c .before .before .before .before .before .before .before .before .before .before .before .before .before .before .pre .0)) (puts-both (c .before .before .before .before .before .before .before .before .before .before .before .before .before .before .args .out .now) _ _ (c .before .before .before .before .before .before .before .before .before .before .before .before .before .before .args .at) _ _ (decimal (c .before .before .before .before .before .before .before .before .before .before .before .before .before .before .args .key)) (numbersText (c .before .before .before .before .before .before .before .before .before .before .before .before .before .before .args .values .now) (c .before .before .before .before .before .before .before .before .before .before .before .before .before .before .args .from) (c .before .before .before .before .before .before .before .before .before .before .before .before .before .before .args .n)) (omega (arith, c .before .before .before .before .before .before .before .before .before .before .before .before .before .before .pre .0)) (c .before .before .before .before .before .before .before .before .before .before .put-decimal .ensures) (c .before .before .before .before .before .before .put-numbers .ensures)) (c .before .before .put .ensures)
+
+pub put-line-spec : {M : Type 1} → statement M
+put-line-spec =
+    tie.close (tie.spec put-decimal-requires put-numbers-requires put-requires same-length returns)

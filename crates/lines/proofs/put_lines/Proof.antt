@@ -1,0 +1,81 @@
+-- `lines::put_lines` meets its contract. The loop's invariant: the lines of the keys passed are put. Assumes nothing.
+use Prim.Native.Nat.{ℕ, _+_, _-_, _*_, _≤_, _<_}
+use mathlib.Core.Path.{_≡_, refl, sym}
+use mathlib.Core.List.{List, _++_}
+use native.Mathlib.Omega.{arith}
+use lib.Ieee.{Float}
+use lib.ListN.{length}
+use Rattle.factor.specs.Counting.{sum}
+use Rattle.factor.specs.Factor.{lay}
+use Rattle.factor.proofs.Counting.{sum-le}
+use Rattle.graph.specs.declared.Graph.{Graph}
+use Rattle.lines.specs.Lines.{Puts, decimal, numbersOf, startOf, linesText, linesLength, lineText}
+use Rattle.lines.proofs.Laying.{puts-none, puts-both, puts-same}
+use Rattle.lines.proofs.Texts.{start-more, length-more, lines-more, lines-long}
+use borrow.Author.Needs.{needs}
+use Rattle.lines.proofs.put_lines.Statement.{statement}
+use Rattle.lines.proofs.put_lines.Tie as tie
+
+abbrev Inv-loop : tie.InvT-loop
+Inv-loop out₀ g values next₀ from₀ key₀ key-end out next from key = (key-end ≡ g .variables) × (key ≤ key-end) × (length out ≡ length out₀) × (from ≡ startOf g key) × Puts out₀ out 0 next (linesText g values key)
+
+abbrev μ-loop : tie.MeasureT-loop
+μ-loop out₀ g values next₀ from₀ key₀ key-end out next from key = key-end - key
+
+-- a key's numbers and line end within those of all keys
+within : (g : Graph) (key n : ℕ) → key < n → (startOf g (key + 1) ≤ startOf g n) × (linesLength g (key + 1) ≤ linesLength g n)
+unfolding startOf linesLength
+within g key n l = (sum-le (λ i. numbersOf g i) (key + 1) n (omega arith), sum-le (λ i. length (decimal i) + 17 * numbersOf g i + 1) (key + 1) n (omega arith))
+
+begins : (g : Graph) (key from n : ℕ) → from ≡ startOf g key → n ≡ numbersOf g key → from + n ≡ startOf g (key + 1)
+begins g key from n ef en = rw (ef, en) (sym (start-more g key))
+
+grown : (g : Graph) (values : List Float) (key from n : ℕ) → from ≡ startOf g key → n ≡ numbersOf g key → linesText g values key ++ lineText key values from n ≡ linesText g values (key + 1)
+grown g values key from n ef en = rw (ef, en) (sym (lines-more g values key))
+
+done : (g : Graph) (values : List Float) (out₀ out : List ℕ) (next key n : ℕ) → key ≡ n → Puts out₀ out 0 next (linesText g values key) → out ≡ lay out₀ 0 (linesText g values n)
+done g values out₀ out next key n e p = rw e at (p .0)
+
+loop-holds : tie.Need-loop-holds Inv-loop μ-loop
+unfolding linesText startOf sum
+loop-holds c = (refl, omega arith, refl, refl, puts-none (c .before .before .args .out .now) 0)
+
+numbers-of-requires : tie.Need-numbers-of-requires Inv-loop μ-loop
+numbers-of-requires c κs = (c .before .before .before .before .pre .0, omega arith)
+
+put-line-requires : tie.Need-put-line-requires Inv-loop μ-loop
+put-line-requires c κs = (omega (arith, within (c .before .before .before .before .before .before .args .g) (c .before .before .before .loop .key) (c .before .before .before .before .before .before .args .g .variables) (omega arith) .1, length-more (c .before .before .before .before .before .before .args .g) (c .before .before .before .loop .key), c .before .numbers-of .ensures .0, c .before .before .before .loop .inv .4 .1, lines-long (c .before .before .before .before .before .before .args .g) (c .before .before .before .before .before .before .args .values .now) (c .before .before .before .loop .key), c .before .before .before .before .before .before .pre .2), omega (arith, within (c .before .before .before .before .before .before .args .g) (c .before .before .before .loop .key) (c .before .before .before .before .before .before .args .g .variables) (omega arith) .0, start-more (c .before .before .before .before .before .before .args .g) (c .before .before .before .loop .key), c .before .numbers-of .ensures .0, c .before .before .before .before .before .before .pre .1))
+
+add-from : tie.Need-add-from Inv-loop μ-loop
+add-from c = omega (arith, within (c .before .before .before .before .before .before .before .before .before .args .g) (c .before .before .before .before .before .before .loop .key) (c .before .before .before .before .before .before .before .before .before .args .g .variables) (omega arith) .0, start-more (c .before .before .before .before .before .before .before .before .before .args .g) (c .before .before .before .before .before .before .loop .key), c .before .before .before .before .numbers-of .ensures .0, c .before .before .before .before .before .before .before .before .before .pre .1)
+
+add-key : tie.Need-add-key Inv-loop μ-loop
+add-key c = search needs
+
+loop-less : tie.Need-loop-less Inv-loop μ-loop
+loop-less c = search needs
+
+loop-again : tie.Need-loop-again Inv-loop μ-loop
+loop-again c = (c .before .before .before .before .before .before .loop .inv .0, omega arith, omega arith, begins (c .before .before .before .before .before .before .before .before .before .args .g) (c .before .before .before .before .before .before .loop .key) (c .before .before .before .before .before .before .loop .from) (c .before .before .before .before .numbers-of .result) (c .before .before .before .before .before .before .loop .inv .3) (c .before .before .before .before .numbers-of .ensures .0), puts-same (c .before .before .before .before .before .before .before .before .before .args .out .now) _ 0 _ _ _ (grown (c .before .before .before .before .before .before .before .before .before .args .g) (c .before .before .before .before .before .before .before .before .before .args .values .now) (c .before .before .before .before .before .before .loop .key) (c .before .before .before .before .before .before .loop .from) (c .before .before .before .before .numbers-of .result) (c .before .before .before .before .before .before .loop .inv .3) (c .before .before .before .before .numbers-of .ensures .0)) (puts-both (c .before .before .before .before .before .before .before .before .before .args .out .now) (c .before .before .before .before .before .before .loop .out) _ 0 (c .before .before .before .before .before .before .loop .next) _ (linesText (c .before .before .before .before .before .before .before .before .before .args .g) (c .before .before .before .before .before .before .before .before .before .args .values .now) (c .before .before .before .before .before .before .loop .key)) _ (omega arith) (c .before .before .before .before .before .before .loop .inv .4) (c .before .before .put-line .ensures)))
+
+same-length : tie.Need-same-length Inv-loop μ-loop
+same-length c = c .before .loop .inv .2
+
+returns : tie.Need-returns Inv-loop μ-loop
+returns c = done (c .before .before .before .before .args .g) (c .before .before .before .before .args .values .now) (c .before .before .before .before .args .out .now) (c .before .loop .out) (c .before .loop .next) (c .before .loop .key) _ (omega arith) (c .before .loop .inv .4)
+
+pub put-lines-spec : {M : Type 1} → statement M
+put-lines-spec =
+    tie.close
+    (tie.spec
+    Inv-loop
+    μ-loop
+    loop-holds
+    numbers-of-requires
+    put-line-requires
+    add-from
+    add-key
+    loop-less
+    loop-again
+    same-length
+    returns)

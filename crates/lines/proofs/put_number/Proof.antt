@@ -1,0 +1,34 @@
+-- `lines::put_number` meets its contract. Assumes nothing.
+use Prim.Native.Nat.{ℕ}
+use mathlib.Core.Path.{_≡_}
+use mathlib.Core.List.{List, _∷_, []}
+use native.Mathlib.Omega.{arith}
+use lib.Ieee.{Float, binary64, toBits}
+use Rattle.lines.specs.Lines.{space, hexBy, numberText, Puts}
+use Rattle.lines.proofs.Laying.{puts-both}
+use borrow.Author.Needs.{needs}
+use Rattle.lines.proofs.put_number.Statement.{statement}
+use Rattle.lines.proofs.put_number.Tie as tie
+
+of-bits : (out after : List ℕ) (at next : ℕ) (x : Float) (bits : ℕ) → bits ≡ toBits binary64 x → Puts out after at next (space ∷ hexBy 16 bits) → Puts out after at next (numberText x)
+unfolding numberText
+of-bits out after at next x bits e p = rw e at p
+
+put-requires : tie.Need-put-requires
+put-requires c κs = search needs
+
+bits-of-requires : tie.Need-bits-of-requires
+bits-of-requires c κs = search needs
+
+put-hex-requires : tie.Need-put-hex-requires
+put-hex-requires c κs = search needs
+
+same-length : tie.Need-same-length
+same-length c = search needs
+
+returns : tie.Need-returns
+returns c = of-bits (c .before .before .before .before .before .before .before .before .before .before .args .out .now) _ (c .before .before .before .before .before .before .before .before .before .before .args .at) _ (c .before .before .before .before .before .before .before .before .before .before .args .x) (c .before .before .before .bits-of .result) (c .before .before .before .bits-of .ensures) (puts-both (c .before .before .before .before .before .before .before .before .before .before .args .out .now) _ _ (c .before .before .before .before .before .before .before .before .before .before .args .at) _ _ (space ∷ []) (hexBy 16 (c .before .before .before .bits-of .result)) (omega arith) (c .before .before .before .before .before .before .before .put .ensures) (c .before .before .put-hex .ensures))
+
+pub put-number-spec : {M : Type 1} → statement M
+put-number-spec =
+    tie.close (tie.spec put-requires bits-of-requires put-hex-requires same-length returns)

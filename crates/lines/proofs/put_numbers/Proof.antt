@@ -1,0 +1,70 @@
+-- `lines::put_numbers` meets its contract. The loop's invariant: the numbers passed are put. Assumes nothing.
+use Prim.Native.Nat.{ℕ, _+_, _-_, _*_, _≤_}
+use mathlib.Core.Path.{_≡_, refl, sym}
+use mathlib.Core.List.{List}
+use native.Mathlib.Omega.{arith}
+use lib.Ieee.{Float, nan}
+use lib.ListN.{length, getD}
+use Rattle.lines.specs.Lines.{Puts, numbersText}
+use Rattle.lines.proofs.Laying.{puts-none, puts-both, puts-same}
+use Rattle.lines.proofs.Texts.{numbers-more, number-length}
+use borrow.Author.Needs.{needs}
+use Rattle.lines.proofs.put_numbers.Statement.{statement}
+use Rattle.lines.proofs.put_numbers.Tie as tie
+
+abbrev Inv-loop : tie.InvT-loop
+Inv-loop out₀ at values from n next₀ i₀ out next i = (i ≤ n) × (length out ≡ length out₀) × (next ≡ at + 17 * i) × Puts out₀ out at next (numbersText values from i)
+
+abbrev μ-loop : tie.MeasureT-loop
+μ-loop out₀ at values from n next₀ i₀ out next i = n - i
+
+done : (out₀ out : List ℕ) (at next : ℕ) (values : List Float) (from i n : ℕ) → i ≡ n → Puts out₀ out at next (numbersText values from i) → Puts out₀ out at next (numbersText values from n)
+done out₀ out at next values from i n e p = rw e at p
+
+loop-holds : tie.Need-loop-holds Inv-loop μ-loop
+unfolding numbersText
+loop-holds c = (omega arith, refl, omega arith, puts-none (c .before .before .args .out .now) (c .before .before .args .at))
+
+add-put-number : tie.Need-add-put-number Inv-loop μ-loop
+add-put-number c = search needs
+
+mul-put-number : tie.Need-mul-put-number Inv-loop μ-loop
+mul-put-number c = search needs
+
+shared-slice-read-put-number : tie.Need-shared-slice-read-put-number Inv-loop μ-loop
+shared-slice-read-put-number c = search needs
+
+put-number-requires : tie.Need-put-number-requires Inv-loop μ-loop
+put-number-requires c κs = search needs
+
+add-i : tie.Need-add-i Inv-loop μ-loop
+add-i c = search needs
+
+loop-less : tie.Need-loop-less Inv-loop μ-loop
+loop-less c = search needs
+
+loop-again : tie.Need-loop-again Inv-loop μ-loop
+loop-again c = (omega arith, omega arith, omega (arith, c .before .before .put-number .ensures .1, number-length (getD (c .before .before .before .before .before .before .before .before .before .args .values .now) (c .before .before .before .before .before .before .before .before .before .args .from + c .before .before .before .before .before .before .loop .i) nan)), puts-same (c .before .before .before .before .before .before .before .before .before .args .out .now) _ (c .before .before .before .before .before .before .before .before .before .args .at) _ _ _ (sym (numbers-more (c .before .before .before .before .before .before .before .before .before .args .values .now) (c .before .before .before .before .before .before .before .before .before .args .from) (c .before .before .before .before .before .before .loop .i))) (puts-both (c .before .before .before .before .before .before .before .before .before .args .out .now) (c .before .before .before .before .before .before .loop .out) _ (c .before .before .before .before .before .before .before .before .before .args .at) (c .before .before .before .before .before .before .loop .next) _ (numbersText (c .before .before .before .before .before .before .before .before .before .args .values .now) (c .before .before .before .before .before .before .before .before .before .args .from) (c .before .before .before .before .before .before .loop .i)) _ (omega arith) (c .before .before .before .before .before .before .loop .inv .3) (c .before .before .put-number .ensures)))
+
+same-length : tie.Need-same-length Inv-loop μ-loop
+same-length c = c .before .loop .inv .1
+
+returns : tie.Need-returns Inv-loop μ-loop
+returns c = done (c .before .before .before .before .args .out .now) (c .before .loop .out) (c .before .before .before .before .args .at) (c .before .loop .next) (c .before .before .before .before .args .values .now) (c .before .before .before .before .args .from) (c .before .loop .i) (c .before .before .before .before .args .n) (omega arith) (c .before .loop .inv .3)
+
+pub put-numbers-spec : {M : Type 1} → statement M
+put-numbers-spec =
+    tie.close
+    (tie.spec
+    Inv-loop
+    μ-loop
+    loop-holds
+    add-put-number
+    mul-put-number
+    shared-slice-read-put-number
+    put-number-requires
+    add-i
+    loop-less
+    loop-again
+    same-length
+    returns)

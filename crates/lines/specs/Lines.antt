@@ -1,0 +1,105 @@
+-- What is printed, byte by byte. Definitions only.
+use mathlib.Core.Bool.{cond}
+use mathlib.Core.Path.{_≡_}
+use mathlib.Core.List.{List, [], _∷_, _++_}
+use Prim.Native.Nat.{ℕ, zero, suc, _+_, _-_, _*_, _/_, _%_, _^_}
+use lib.Dec.{ltb, leb}
+use lib.Ieee.{Float, nan, binary64, toBits}
+use lib.ListN.{length, getD}
+use Rattle.factor.specs.Counting.{sum}
+use Rattle.factor.specs.Factor.{lay}
+use Rattle.graph.specs.Record.{sizeAt}
+use Rattle.graph.specs.declared.Graph.{Graph}
+use Rattle.lines.specs.declared.Written.{Written}
+use Rattle.lines.specs.declared.Written.the-variants.{Length, Short}
+
+-- ---- numbers
+
+abbrev pub space : ℕ
+space = 32
+
+abbrev pub feed : ℕ
+feed = 10
+
+-- in decimal, without leading zeros; each turn writes a digit
+unfoldable pub decimalBy : ℕ → ℕ → List ℕ
+decimalBy zero n = []
+decimalBy (suc turns) n = cond (ltb n 10) ((48 + n) ∷ []) (decimalBy turns (n / 10) ++ ((48 + n % 10) ∷ []))
+
+-- a number above 0 has no more digits than its value
+unfoldable pub decimal : ℕ → List ℕ
+decimal n = decimalBy (suc n) n
+
+-- a hexadecimal digit in upper case
+abbrev pub hexDigit : ℕ → ℕ
+hexDigit d = cond (ltb d 10) (48 + d) (55 + d)
+
+-- the first n of the 16 digits of a pattern of 64 bits
+unfoldable pub hexBy : ℕ → ℕ → List ℕ
+hexBy zero bits = []
+hexBy (suc n) bits = hexBy n bits ++ (hexDigit (bits / 2 ^ (60 - 4 * n) % 16) ∷ [])
+
+-- a space and a float
+unfoldable pub numberText : Float → List ℕ
+numberText v = space ∷ hexBy 16 (toBits binary64 v)
+
+-- as many bytes
+abbrev pub number-bytes : ℕ
+number-bytes = 17
+
+-- n floats of a list, from a place on
+unfoldable pub numbersText : List Float → ℕ → ℕ → List ℕ
+numbersText values from zero = []
+numbersText values from (suc n) = numbersText values from n ++ numberText (getD values (from + n) nan)
+
+-- ---- a line a key
+
+-- mean and covariance of key k, and where they begin in the marginal store
+abbrev pub numbersOf : Graph → ℕ → ℕ
+numbersOf g k = sizeAt g k + sizeAt g k * sizeAt g k
+
+unfoldable pub startOf : Graph → ℕ → ℕ
+startOf g k = sum (λ i. numbersOf g i) k
+
+unfoldable pub lineText : ℕ → List Float → ℕ → ℕ → List ℕ
+lineText key values from n = decimal key ++ numbersText values from n ++ (feed ∷ [])
+
+-- the lines of the first n keys
+unfoldable pub linesText : Graph → List Float → ℕ → List ℕ
+linesText g values zero = []
+linesText g values (suc n) = linesText g values n ++ lineText n values (startOf g n) (numbersOf g n)
+
+-- as many bytes: a line has its key, the bytes of each number, and its end
+unfoldable pub linesLength : Graph → ℕ → ℕ
+linesLength g n = sum (λ k. length (decimal k) + number-bytes * numbersOf g k + 1) n
+
+-- ---- a refusal
+
+-- the word `refused`
+abbrev pub refusedWord : List ℕ
+refusedWord = 114 ∷ 101 ∷ 102 ∷ 117 ∷ 115 ∷ 101 ∷ 100 ∷ []
+
+-- a space and a number in decimal
+unfoldable pub fieldText : ℕ → List ℕ
+fieldText n = space ∷ decimal n
+
+-- number, stage and place
+unfoldable pub refusalText : ℕ → ℕ → ℕ → List ℕ
+refusalText number stage place = refusedWord ++ fieldText number ++ fieldText stage ++ fieldText place ++ (feed ∷ [])
+
+-- the bytes of it that are no digits
+abbrev pub frame-bytes : ℕ
+frame-bytes = 11
+
+-- ---- text in a lent buffer
+
+-- text put from a place on: the buffer, and the place after the text
+abbrev pub Puts : List ℕ → List ℕ → ℕ → ℕ → List ℕ → Type 0
+Puts out after at next text = (after ≡ lay out at text) × (next ≡ at + length text)
+
+-- a text that fits stands at the buffer's start; a buffer that is too short is left as it was
+unfoldable pub written : List ℕ → List ℕ → Written
+written out text = cond (leb (length text) (length out)) (Length (length text)) Short
+
+unfoldable pub laidIn : List ℕ → List ℕ → List ℕ
+laidIn out text = cond (leb (length text) (length out)) (lay out 0 text) out

@@ -1,0 +1,3 @@
+-- Laws of the lists.
+pub mod Writing
+pub mod Holding

@@ -1,0 +1,91 @@
+use native.Mathlib.Omega.{arith}
+use borrow.Author.Needs.{needs}
+use Rattle.lists.proofs.put_set.Statement.{statement}
+use Rattle.lists.proofs.put_set.Tie as tie
+use mathlib.Core.Path.{refl}
+use mathlib.Core.Logic.{⊎-elim}
+use mathlib.Core.List.{append-nil}
+use Prim.Native.Nat.{_+_, _-_}
+use lib.ListN.{take, set}
+use Rattle.plan.specs.Mask.{has}
+use Rattle.plan.proofs.Unions.{in-set, off-set, rising-zero}
+use Rattle.lists.proofs.Writing.{Put, put-in, put-off, put-done}
+
+abbrev Inv-loop : tie.InvT-loop
+Inv-loop list₀ at set shift to₀ j₀ list to j = Put (λ i. shift + i) (λ i. has i set) list₀ at list to j
+
+abbrev μ-loop : tie.MeasureT-loop
+μ-loop list₀ at set shift to₀ j₀ list to j = 32 - j
+
+-- src/lib.rt:35:5
+loop-holds : tie.Need-loop-holds Inv-loop μ-loop
+loop-holds c = let args = c .before .args in rw (rising-zero (λ i. has i (args .set)), append-nil (take (args .at) (args .list .now))) (omega arith, omega arith, refl, refl)
+
+-- src/lib.rt:36:18
+single-requires : tie.Need-single-requires Inv-loop μ-loop
+single-requires c κs = search needs
+
+-- src/lib.rt:37:24
+add-list : tie.Need-add-list Inv-loop μ-loop
+add-list c = search needs
+
+-- src/lib.rt:37:13
+mul-list : tie.Need-mul-list Inv-loop μ-loop
+mul-list c = search needs
+
+-- src/lib.rt:37:13
+slice-write-list : tie.Need-slice-write-list Inv-loop μ-loop
+slice-write-list c = search needs
+
+-- src/lib.rt:38:13
+add-to : tie.Need-add-to Inv-loop μ-loop
+add-to c = search needs
+
+-- src/lib.rt:35:9
+add-j : tie.Need-add-j Inv-loop μ-loop
+add-j c = search needs
+
+-- src/lib.rt:35:5
+loop-less : tie.Need-loop-less Inv-loop μ-loop
+loop-less c = search needs
+
+-- src/lib.rt:35:5
+loop-again : tie.Need-loop-again Inv-loop μ-loop
+loop-again c =
+    let args = c .before .before .before .before .before .args in
+    let loop = c .before .before .before .loop in
+    let single = c .before .single in
+    ⊎-elim
+    (λ w. put-in (λ i. args .shift + i) (λ i. has i (args .set)) (args .list .now) (loop .list) _ (args .at) (loop .to) (loop .j) (c .before .before .loop-test .taken) (c .before .before .before .before .before .pre .0) (loop .inv) _
+    (in-set (args .set) (loop .j) (single .result) (single .ensures) (w .0 .taken)) (w .1) (w .2))
+    (λ w. put-off (λ i. args .shift + i) (λ i. has i (args .set)) (args .list .now) (loop .list) _ (args .at) (loop .to) (loop .j) (c .before .before .loop-test .taken) (c .before .before .before .before .before .pre .0) (loop .inv) _
+    (off-set (args .set) (loop .j) (single .result) (single .ensures) (w .0 .left)) (w .1) (w .2))
+    (c .if1 .came)
+
+-- src/lib.rt:29:1
+same-length : tie.Need-same-length Inv-loop μ-loop
+same-length c = search needs
+
+-- src/lib.rt:29:1
+returns : tie.Need-returns Inv-loop μ-loop
+returns c =
+    let args = c .before .before .before .args in
+    put-done (λ i. args .shift + i) (args .set) (args .list .now) (c .before .loop .list) (args .at) (c .before .loop .to) (c .before .loop .j) (c .before .loop .inv) (omega arith)
+
+pub put-set-spec : {M : Type 1} → statement M
+put-set-spec =
+    tie.close
+    (tie.spec
+    Inv-loop
+    μ-loop
+    loop-holds
+    single-requires
+    add-list
+    mul-list
+    slice-write-list
+    add-to
+    add-j
+    loop-less
+    loop-again
+    same-length
+    returns)

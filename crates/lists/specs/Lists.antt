@@ -1,0 +1,47 @@
+-- The lists of an elimination, out of a plan's arrays. A slot's number in them: an original has its own, the forward messages follow the originals, and the backward ones follow the forward ones. Definitions only.
+use mathlib.Core.Path.{_≡_}
+use mathlib.Core.Bool.{cond}
+use mathlib.Core.List.{List, [], _∷_, _++_, map}
+use Prim.Native.Nat.{ℕ, _+_, _≤_}
+use lib.Dec.{ltb}
+use lib.ListN.{take}
+use Rattle.schedule.specs.Pass.{Slot, original, closed, ClosedFactor}
+use Rattle.schedule.specs.Gather.{Gathered}
+use Rattle.lists.specs.declared.Lists.{Lists}
+
+-- how far the backward messages' numbers stand after the forward ones'
+abbrev pub backward-shift : ℕ
+backward-shift = 32
+
+abbrev pub messageNumber : ℕ → ℕ → ℕ
+messageNumber shift j = 64 + shift + j
+
+-- the number of a slot of a pass
+unfoldable pub numberOf : ℕ → Slot → ℕ
+numberOf shift (original i) = i
+numberOf shift (closed j) = messageNumber shift j
+
+-- the same from the number that it has in the pass
+unfoldable pub raised : ℕ → ℕ → ℕ
+raised shift s = cond (ltb s 64) s (s + shift)
+
+-- the lists hold the kept keys, the cleared keys and the slots of a message
+pub record Holds (shift : ℕ) (m : ClosedFactor) (l : Lists) : Type 0 where
+  pub kept : take (l .keeps) (l .kept) ≡ m .kept
+  pub cleared : take (l .clears) (l .cleared) ≡ m .cleared
+  pub slots : take (l .count) (l .slots) ≡ map (numberOf shift) (m .content)
+  pub few-kept : l .keeps ≤ 32
+  pub few-cleared : l .clears ≤ 32
+  pub few : l .count ≤ 96
+
+-- the numbers of what a key gathers
+abbrev pub gatheredNumbers : Gathered → List ℕ
+gatheredNumbers q = map (messageNumber 0) (q .forward) ++ (map (messageNumber backward-shift) (q .backward) ++ q .originals)
+
+-- the lists hold the key alone as kept, the keys cleared last, and the slots gathered
+pub record HoldsGathered (k : ℕ) (q : Gathered) (l : Lists) : Type 0 where
+  pub kept : take (l .keeps) (l .kept) ≡ k ∷ []
+  pub cleared : take (l .clears) (l .cleared) ≡ q .last
+  pub slots : take (l .count) (l .slots) ≡ gatheredNumbers q
+  pub few-cleared : l .clears ≤ 32
+  pub few : l .count ≤ 128

@@ -1,0 +1,124 @@
+// The lists of an elimination, out of a plan's arrays: kept keys, cleared keys and slots.
+use plan::gather::Gathered;
+use plan::masks::single;
+use plan::pass::Pass;
+ghost use mathlib.Core.Path.{_≡_};
+ghost use mathlib.Core.List.{_++_, map};
+ghost use Prim.Native.Nat.{_+_, _-_, _<_, _≤_};
+ghost use lib.ListN.{length, take, drop};
+ghost use Rattle.schedule.specs.Pass.{at};
+ghost use Rattle.plan.specs.Mask.{keysIn};
+ghost use Rattle.plan.specs.Pass.{Ready, messagesOf};
+ghost use Rattle.plan.specs.Gather.{Held, gatheredOf};
+ghost use Rattle.lists.specs.Lists.{raised, Holds, HoldsGathered};
+
+// How far the backward messages' numbers stand after the forward ones'.
+pub const BACKWARD: usize = 32;
+
+// Each list in the first places of its array.
+pub struct Lists {
+    pub kept: [usize; 32],
+    pub keeps: usize,
+    pub cleared: [usize; 32],
+    pub clears: usize,
+    pub slots: [usize; 128],
+    pub count: usize,
+}
+
+// The members of a set, rising and each raised by so much, follow the first places of a list; the answer is the place after them.
+fn put_set(list: &mut [usize], at: usize, set: u32, shift: usize) -> usize
+    requires { ⌜ (at + 32 ≤ length (now list)) × (shift ≤ 96) ⌝ }
+    ensures { λ r. ⌜ take r (now (list .exit)) ≡ take at (now (list .entry)) ++ map (λ j. shift + j) (keysIn set) ⌝ }
+    ensures { λ r. ⌜ r ≤ at + 32 ⌝ }
+{
+    let mut to = at;
+    for j in 0..32 {
+        if set & single(j) != 0 {
+            list[to] = shift + j;
+            to += 1;
+        }
+    }
+    to
+}
+
+fn raised(s: u8, shift: usize) -> usize
+    requires { ⌜ shift ≤ 96 ⌝ }
+    ensures { λ r. ⌜ r ≡ raised shift s ⌝ }
+{
+    let n = s as usize;
+    if n < 64 { n } else { n + shift }
+}
+
+// The slots from one place to another follow, with the messages raised by so much.
+fn put_slots(
+    list: &mut [usize],
+    at: usize,
+    slots: &[u8],
+    from: usize,
+    to: usize,
+    shift: usize,
+) -> usize
+    requires { ⌜ (from ≤ to) × (to ≤ length (now slots)) × (at + (to - from) ≤ length (now list)) × (shift ≤ 96) ⌝ }
+    ensures { λ r. ⌜ take r (now (list .exit)) ≡ take at (now (list .entry)) ++ map (raised shift) (drop from (take to (now (slots .entry)))) ⌝ }
+    ensures { λ r. ⌜ r ≡ at + (to - from) ⌝ }
+{
+    for i in from..to {
+        let place = at + (i - from);
+        list[place] = raised(slots[i], shift);
+    }
+    at + (to - from)
+}
+
+// The lists of one message of a pass.
+pub fn message_lists(p: Pass, j: usize, shift: usize) -> Lists
+    requires { ⌜ Ready 32 p × (j < p .count) × (shift ≤ 32) ⌝ }
+    ensures { λ r. ⌜ Holds shift (at (messagesOf p) j) r ⌝ }
+{
+    let b = p.board;
+    let content = b.content;
+    let from = p.starts[j] as usize;
+    let to = p.ends[j] as usize;
+    let keeps = p.masks[64 + j];
+    let clears = p.cleared[j];
+    let mut kept = [0; 32];
+    let mut cleared = [0; 32];
+    let mut slots = [0; 128];
+    let k = put_set(&mut kept, 0, keeps, 0);
+    let c = put_set(&mut cleared, 0, clears, 0);
+    let n = put_slots(&mut slots, 0, &content, from, to, shift);
+    Lists {
+        kept: kept,
+        keeps: k,
+        cleared: cleared,
+        clears: c,
+        slots: slots,
+        count: n,
+    }
+}
+
+// The lists of the last elimination of a key.
+pub fn gathered_lists(q: Gathered, key: usize) -> Lists
+    requires { ⌜ Held q ⌝ }
+    ensures { λ r. ⌜ HoldsGathered key (gatheredOf q) r ⌝ }
+{
+    let items = q.items;
+    let last = q.last;
+    let forward = q.forward;
+    let backward = q.backward;
+    let mut kept = [0; 32];
+    let mut cleared = [0; 32];
+    let mut slots = [0; 128];
+    kept[0] = key;
+    let c = put_set(&mut cleared, 0, last, 0);
+    let f = put_set(&mut slots, 0, forward, 64);
+    let b = put_set(&mut slots, f, backward, 64 + BACKWARD);
+    let n = put_slots(&mut slots, b, &items, q.covered, q.count, 0);
+    Lists {
+        kept: kept,
+        keeps: 1,
+        cleared: cleared,
+        clears: c,
+        slots: slots,
+        count: n,
+    }
+}

@@ -1,0 +1,9 @@
+-- Laws of the marginals.
+pub mod Twice
+pub mod Laying
+pub mod Lengths
+pub mod Findings
+pub mod KeyByKey
+pub mod Rooms
+pub mod Gathering
+pub mod Searching

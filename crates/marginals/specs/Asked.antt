@@ -1,0 +1,92 @@
+-- The marginals as the tables and the stores of a run give them, and what their finding asks for. Definitions only.
+use mathlib.Core.Path.{_≡_}
+use mathlib.Core.Bool.{true, cond}
+use mathlib.Core.List.{List, [], _∷_, map}
+use Prim.Native.Nat.{ℕ, _+_, _*_, _≤_, _<_}
+use lib.Ieee.{Float}
+use lib.ListN.{length, getD, take}
+use Rattle.factor.specs.Counting as counting
+use Rattle.graph.specs.Record.{offset, valid}
+use Rattle.graph.specs.declared.Graph.{Graph}
+use Rattle.graph.specs.declared.refusal.Refusal.the-variants.{CountedTwice}
+use Rattle.schedule.specs.Count.{from}
+use Rattle.schedule.specs.Gather.{Gathered}
+use Rattle.schedule.specs.Plan as lists
+use Rattle.schedule.proofs.Messages.{Settled}
+use Rattle.plan.specs.Gather.{Held, gatheredOf}
+use Rattle.plan.specs.Plan.{noGathered}
+use Rattle.plan.specs.declared.gather.Gathered as arrays
+use Rattle.gaussian.specs.Elimination.{Outcome, eliminate}
+use Rattle.gaussian.specs.Answers.{viewsOf}
+use Rattle.gaussian.specs.Asked.{Asked}
+use Rattle.lists.specs.Lists.{backward-shift, gatheredNumbers}
+use Rattle.messages.specs.Figure.{need}
+use Rattle.messages.specs.Tables.{keysOf, Carriable, PlacedTo, Tables, Stored}
+use Rattle.messages.specs.Values.{values, overlaid}
+use Rattle.messages.specs.Asked.{stopOf}
+use Rattle.messages.specs.declared.Carried.{Carried}
+use Rattle.messages.specs.declared.Carried.the-variants.{Through}
+use Rattle.marginals.specs.Marginals.{marginalNumbers, twice, Found, missing, foundIn, marginalsFrom, missingFrom, marginalsIn}
+
+-- ---- by the tables
+
+-- what the last elimination of a key comes to, its slots read through the tables
+abbrev pub lastBy : List ℕ → List Float → List Float → List ℕ → List ℕ → ℕ → Gathered → Outcome
+lastBy sizes factors messages keys heads k q = eliminate (viewsOf factors messages keys heads (gatheredNumbers q)) (k ∷ []) (q .last) sizes
+
+unfoldable pub foundAt : List ℕ → List Float → List Float → List ℕ → List ℕ → ℕ → Gathered → Found
+foundAt sizes factors messages keys heads k q = cond (twice (q .leaves)) (missing CountedTwice) (foundIn (getD sizes k 0) (lastBy sizes factors messages keys heads k q))
+
+-- the marginals of the keys from k on
+unfoldable pub foundFrom : List ℕ → List Float → List Float → List ℕ → List ℕ → ℕ → List Gathered → List Found
+foundFrom sizes factors messages keys heads k [] = []
+foundFrom sizes factors messages keys heads k (q ∷ qs) = foundAt sizes factors messages keys heads k q ∷ foundFrom sizes factors messages keys heads (k + 1) qs
+
+-- ---- what is asked for
+
+-- the last elimination of a key
+abbrev pub AskedAt : List ℕ → List Float → List Float → ℕ → List ℕ → List ℕ → ℕ → Gathered → Type 0
+AskedAt sizes factors messages work keys heads k q = Asked (k ∷ []) (q .last) sizes factors messages work keys heads (gatheredNumbers q)
+
+-- where the numbers of a key begin
+unfoldable pub placeOf : List ℕ → ℕ → ℕ
+placeOf sizes k = counting.sum (λ i. getD sizes i 0 + getD sizes i 0 * getD sizes i 0) k
+
+pub record Findable (g : Graph) (at : List arrays.Gathered) (factors messages : List Float) (work : ℕ) (keys heads : List ℕ) (results : ℕ) : Type 0 where
+  pub sound : valid g ≡ true
+  pub long : g .variables ≤ length at
+  pub held : (k : ℕ) → k < g .variables → Held (getD at k noGathered)
+  pub asked : (k : ℕ) → k < g .variables → AskedAt (g .sizes) factors messages work keys heads k (gatheredOf (getD at k noGathered))
+  pub room : marginalNumbers g ≤ results
+
+-- ---- of a plan
+
+-- The tables and the stores are those of a run over the passes of a plan, and each key has what the plan gathers there.
+pub record Gatherable (g : Graph) (p : lists.Plan) (at : List arrays.Gathered) (factors messages : List Float) (keys heads : List ℕ) : Type 0 where
+  pub forward : Carriable g (p .forward)
+  pub backward : Carriable g (p .backward)
+  pub tables : Tables g keys heads
+  pub placed : PlacedTo g (p .forward) 0 0 keys heads (length (p .forward))
+  pub placed′ : PlacedTo g (p .backward) backward-shift (need g (p .forward)) keys heads (length (p .backward))
+  pub stored : (j : ℕ) → j < length (p .forward) → Stored g factors (p .forward) 0 messages j
+  pub stored′ : (j : ℕ) → j < length (p .backward) → Stored g factors (p .backward) (need g (p .forward)) messages j
+  pub long : g .variables ≤ length at
+  pub gathers : p .at-key ≡ map gatheredOf (take (g .variables) at)
+  pub held : (k : ℕ) → k < g .variables → Held (getD at k noGathered)
+  pub settled : (k : ℕ) → k < g .variables → Settled (g .variables) (keysOf g) (from 0 (g .count)) (p .forward) (p .backward) k (gatheredOf (getD at k noGathered))
+  pub enough : offset g (g .count) ≤ length factors
+  pub enough′ : need g (p .forward) + need g (p .backward) ≤ length messages
+
+-- the marginals of a plan
+abbrev pub planned : Graph → List Float → lists.Plan → List Found
+planned g factors p = marginalsFrom g factors p (values g factors (p .forward)) (values g factors (p .backward)) 0 (p .at-key)
+
+-- the answer tells the first key without a marginal; where there is none, the marginals are so many numbers, and stand at the start of the results
+pub record Finds (all : List Found) (numbers : ℕ) (r : Carried) (before after : List Float) : Type 0 where
+  pub tells : stopOf r ≡ missingFrom 0 all
+  pub count : r ≡ Through → length (marginalsIn all) ≡ numbers
+  pub stand : r ≡ Through → after ≡ overlaid before (marginalsIn all)
+
+-- so for every plan whose run the tables and the stores are
+abbrev pub FindsPlanned : Graph → List arrays.Gathered → List Float → List Float → List ℕ → List ℕ → Carried → List Float → List Float → Type 0
+FindsPlanned g at factors messages keys heads r before after = (p : lists.Plan) → Gatherable g p at factors messages keys heads → Finds (planned g factors p) (marginalNumbers g) r before after

@@ -1,0 +1,3 @@
+-- The definitions that the contracts of `marginals` cite.
+pub mod Marginals
+pub mod Asked

@@ -1,0 +1,5 @@
+-- The definitions that the contracts of `messages` cite.
+pub mod Values
+pub mod Figure
+pub mod Tables
+pub mod Asked

@@ -1,0 +1,88 @@
+-- Small jobs read by computation: one variable with a prior, and records that are turned back. Assumes nothing.
+use Prim.Native.Nat.{ℕ}
+use mathlib.Core.Path.{_≡_, refl}
+use mathlib.Core.List.{List, [], _∷_, _++_}
+use lib.Ieee.{Float, nan, binary64, ofBits, sub, mul, div}
+use Rattle.root.specs.Root.{rootOf}
+use Rattle.matrix.specs.Sums.{deduct, deductOf}
+use Rattle.matrix.specs.Stores.{steps, sweep}
+use Rattle.matrix.specs.Finite.{allFinite}
+use Rattle.cholesky.specs.Factor.{pivotOf, reduced, below, rooted, column, factor}
+use Rattle.cholesky.specs.Solve.{solvedRow, solveLower, solveUpper, solved, unitColumn, inverted}
+use Rattle.factor.specs.Counting.{every, all, sum}
+use Rattle.factor.specs.Factor.{priorOf, above, isClear, firstColumn, aNumbers, numbers, lengthsFit, givenFinite}
+use Rattle.factor.specs.Weighing.{bounded, weighedBy, weighed}
+use Rattle.graph.specs.Record.{fresh, scalar, sizeFits, same, free, total, registered, clear, place, variablesFit, factorPlace, factorsFit, offset, valid}
+use Rattle.graph.specs.Registration.{withVariable, withFactor, addVariable, factorVerdict, priorVerdict, addPrior, priorStore, countsFit, observationVerdict, addObservation, observationStore}
+use Rattle.graph.specs.declared.refusal.Refusal.the-variants.{KeysNotRising, CountOutside, BadRecord, NoSuchKey}
+use Rattle.records.specs.Bytes.{wordAt, numberAt, listed}
+use Rattle.records.specs.Records.{variableAt, priorNumbers, priorAt, meaning, observedNumbers, observed, observationAt, markOf, recordAt, Reading, reading, readFrom, readAll}
+use Rattle.records.specs.declared.answer.Ended.{Ended}
+use Rattle.records.specs.declared.answer.Ended.the-variants.{Whole, Refused}
+
+-- 2.0 and 4.0 in a job, and 0.5 and 0.25
+abbrev two-bytes : List ℕ
+two-bytes = 0 ∷ 0 ∷ 0 ∷ 0 ∷ 0 ∷ 0 ∷ 0 ∷ 0x40 ∷ []
+
+abbrev four-bytes : List ℕ
+four-bytes = 0 ∷ 0 ∷ 0 ∷ 0 ∷ 0 ∷ 0 ∷ 0x10 ∷ 0x40 ∷ []
+
+abbrev half : Float
+half = ofBits binary64 0x3FE0000000000000
+
+abbrev quarter : Float
+quarter = ofBits binary64 0x3FD0000000000000
+
+-- a variable of size 1 whose name has the letter a
+abbrev variable-bytes : ℕ → List ℕ
+variable-bytes index = 0x56 ∷ 0x41 ∷ 0x61 ∷ 0 ∷ 0 ∷ 0 ∷ index ∷ 0 ∷ 0 ∷ 0 ∷ 1 ∷ []
+
+-- a prior on key 0 with mean 2 and variance 4
+abbrev prior-bytes : List ℕ
+prior-bytes = 0x50 ∷ 0x52 ∷ 0 ∷ two-bytes ++ four-bytes
+
+-- the reading, opened for computing
+unfoldable job : List ℕ → Reading
+unfolding readAll readFrom recordAt markOf variableAt priorAt priorNumbers observationAt observed observedNumbers meaning wordAt numberAt listed addVariable addPrior priorStore addObservation observationStore priorVerdict observationVerdict countsFit factorVerdict valid every all above variablesFit factorsFit place registered clear same factorPlace isClear total sum scalar sizeFits free lengthsFit givenFinite aNumbers firstColumn numbers offset allFinite weighed weighedBy bounded factor column rooted below reduced pivotOf rootOf solved solveLower solveUpper solvedRow inverted unitColumn steps sweep deductOf deduct ofBits sub mul div
+job bytes = readAll bytes (nan ∷ nan ∷ nan ∷ [])
+
+abbrev ended : List ℕ → Ended
+ended bytes = job bytes .answer .ended
+
+-- nothing at all is a whole job
+no-records : job [] ≡ reading fresh Whole (nan ∷ nan ∷ nan ∷ [])
+unfolding job
+no-records = refl
+
+-- one variable and one prior, whose xi and W are stored
+one-prior : job (variable-bytes 0 ++ prior-bytes) ≡ reading (withFactor (withVariable fresh (0x61, 0) 1) (priorOf 0 1)) Whole (half ∷ quarter ∷ nan ∷ [])
+unfolding job
+one-prior = refl
+
+-- keys 1, 1: refusal 3, at the third record
+equal-keys : ended (variable-bytes 0 ++ variable-bytes 1 ++ 0x4F ∷ 0x42 ∷ 2 ∷ 1 ∷ 1 ∷ 1 ∷ 1 ∷ []) ≡ Refused KeysNotRising 2
+unfolding job
+equal-keys = refl
+
+-- a mark cut at the end is a record of its own
+cut-mark : ended (variable-bytes 0 ++ 0x50 ∷ []) ≡ Refused BadRecord 1
+unfolding job
+cut-mark = refl
+
+-- a prior on a key that isn't there, with its numbers cut: 11
+no-key : ended (0x50 ∷ 0x52 ∷ 0 ∷ []) ≡ Refused NoSuchKey 0
+unfolding job
+no-key = refl
+
+-- flag 2 with 9 keys: 8; 9 keys, all cut: 4; keys 9, 9, which aren't there: 3
+bad-flag : ended (0x4F ∷ 0x42 ∷ 9 ∷ 1 ∷ 2 ∷ []) ≡ Refused BadRecord 0
+unfolding job
+bad-flag = refl
+
+nine-keys : ended (0x4F ∷ 0x42 ∷ 9 ∷ 1 ∷ 1 ∷ []) ≡ Refused CountOutside 0
+unfolding job
+nine-keys = refl
+
+keys-not-there : ended (0x4F ∷ 0x42 ∷ 2 ∷ 1 ∷ 1 ∷ 9 ∷ 9 ∷ []) ≡ Refused KeysNotRising 0
+unfolding job
+keys-not-there = refl

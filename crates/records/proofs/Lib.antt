@@ -1,0 +1,10 @@
+-- Laws that several proofs cite.
+pub mod Listing
+pub mod Counts
+pub mod Requests
+pub mod Reading
+pub mod Agreement
+pub mod Progress
+pub mod StoreLength
+pub mod Prefix
+pub mod Examples

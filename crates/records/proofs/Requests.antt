@@ -1,0 +1,40 @@
+-- What a request comes to, over plain values. Assumes nothing.
+use Prim.Native.Nat.{ℕ, _+_, _≤_}
+use mathlib.Core.Path.{_≡_, refl}
+use mathlib.Core.Bool.{Bool, true, false, cond}
+use mathlib.Core.List.{List}
+use borrow.Author.Tests.{ltb-false}
+use lib.Ieee.{Float}
+use lib.ListN.{length}
+use Rattle.graph.specs.declared.Graph.{Graph}
+use Rattle.graph.specs.declared.refusal.Refusal.{Refusal}
+use Rattle.graph.specs.declared.refusal.Refusal.the-variants.{BadRecord}
+use Rattle.graph.specs.Reached.{variable}
+use Rattle.records.specs.Bytes.{byteAt, cut, wordAt}
+use Rattle.records.specs.Records.{Request, ask, refuse, variableAt, stepOf, stopped, storeAfter}
+use Rattle.records.specs.declared.answer.Step.{Step}
+
+-- what a function answers for a request, and how it leaves the store
+abbrev pub Meets : Graph → List Float → Request → Step → List Float → Type 0
+Meets g store q r s = (r ≡ stepOf g q) × (s ≡ storeAfter g store q)
+
+-- a refusal answers the graph as it came, and leaves the store
+pub turned : (g : Graph) (store s : List Float) (q : Request) (why : Refusal) (r : Step) → q ≡ refuse why → r ≡ stopped g why → s ≡ store → Meets g store q r s
+turned g store s q why r e h k = rw e (h, k)
+
+-- an equal request is met alike
+pub met : (g : Graph) (store s : List Float) (p q : Request) (r : Step) → p ≡ q → Meets g store q r s → Meets g store p r s
+met g store s p q r e h = rw e h
+
+-- a variable stores no numbers
+pub as-it-was : (g : Graph) (store : List Float) (bytes : List ℕ) (at : ℕ) → store ≡ storeAfter g store (variableAt bytes at)
+unfolding variableAt
+as-it-was g store bytes at = by (cut bytes at 9)
+  where
+    by : (b : Bool) → store ≡ storeAfter g store (cond b (refuse BadRecord) (ask (variable (wordAt bytes at, wordAt bytes (at + 4)) (byteAt bytes (at + 8))) (at + 9)))
+    by true = refl
+    by false = refl
+
+-- a record that isn't cut short has its bytes
+pub there : (bytes : List ℕ) (at n : ℕ) → cut bytes at n ≡ false → at + n ≤ length bytes
+there bytes at n h = ltb-false _ _ h

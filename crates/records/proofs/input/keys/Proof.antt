@@ -1,0 +1,64 @@
+-- `records::input::keys` meets its contract. The loop's invariant: the keys passed stand at the front. Assumes nothing.
+use Prim.Native.Nat.{_+_, _-_, _≤_}
+use mathlib.Core.Path.{_≡_, refl}
+use mathlib.Core.List.{_++_}
+use native.Mathlib.Omega.{arith}
+use lib.ListN.{length, drop, length-set}
+use Rattle.records.specs.Bytes.{byteAt, keysAt}
+use Rattle.records.proofs.Listing.{fill-none, fill-more, fill-done}
+use borrow.Author.Needs.{needs}
+use Rattle.records.proofs.input.keys.Statement.{statement}
+use Rattle.records.proofs.input.keys.Tie as tie
+
+abbrev Inv-loop : tie.InvT-loop
+Inv-loop bytes at out₀ n i₀ out i = (i ≤ n) × (length out ≡ length out₀) × (out ≡ keysAt bytes at i ++ drop i out₀)
+
+abbrev μ-loop : tie.MeasureT-loop
+μ-loop bytes at out₀ n i₀ out i = n - i
+
+loop-holds : tie.Need-loop-holds Inv-loop μ-loop
+loop-holds c = (omega arith, refl, fill-none (λ k. byteAt (c .before .before .args .bytes .now) (c .before .before .args .at + k)) (c .before .before .args .out .now))
+
+add-byte : tie.Need-add-byte Inv-loop μ-loop
+add-byte c = search needs
+
+byte-requires : tie.Need-byte-requires Inv-loop μ-loop
+byte-requires c κs = search needs
+
+mul-out : tie.Need-mul-out Inv-loop μ-loop
+mul-out c = search needs
+
+slice-write-out : tie.Need-slice-write-out Inv-loop μ-loop
+slice-write-out c = search needs
+
+add-i : tie.Need-add-i Inv-loop μ-loop
+add-i c = search needs
+
+loop-less : tie.Need-loop-less Inv-loop μ-loop
+loop-less c = search needs
+
+loop-again : tie.Need-loop-again Inv-loop μ-loop
+loop-again c = (omega arith, simp length-set (c .before .before .loop .inv .1), fill-more (λ k. byteAt (c .before .before .before .before .before .args .bytes .now) (c .before .before .before .before .before .args .at + k)) (c .before .before .before .before .before .args .out .now) (c .before .before .loop .out) (c .before .before .loop .i) _ (omega arith) (c .before .before .loop .inv .2) (c .byte .ensures .0))
+
+same-length : tie.Need-same-length Inv-loop μ-loop
+same-length c = c .before .loop .inv .1
+
+returns : tie.Need-returns Inv-loop μ-loop
+returns c = fill-done (λ k. byteAt (c .before .before .before .before .args .bytes .now) (c .before .before .before .before .args .at + k)) (c .before .before .before .before .args .out .now) (c .before .loop .out) (c .before .loop .i) (c .before .before .before .before .args .n) (omega arith) (c .before .loop .inv .2)
+
+pub keys-spec : {M : Type 1} → statement M
+keys-spec =
+    tie.close
+    (tie.spec
+    Inv-loop
+    μ-loop
+    loop-holds
+    add-byte
+    byte-requires
+    mul-out
+    slice-write-out
+    add-i
+    loop-less
+    loop-again
+    same-length
+    returns)

@@ -1,0 +1,104 @@
+-- `records::read` meets its contract. The loop's invariant: reading on from here comes to the whole; as many records were taken as were counted, and each took a byte or more. Assumes nothing.
+use Prim.Native.Nat.{ℕ, _-_, _≤_, _<_}
+use mathlib.Core.Path.{_≡_, refl}
+use mathlib.Core.Bool.{true}
+use mathlib.Core.List.{List}
+use native.Mathlib.Omega.{arith}
+use lib.Ieee.{Float}
+use lib.ListN.{length}
+use Rattle.graph.proofs.Keeping.{good-of}
+use Rattle.graph.specs.Record.{fresh, valid}
+use Rattle.graph.specs.Reached.{Reached}
+use Rattle.graph.specs.declared.Graph.{Graph}
+use Rattle.records.specs.Records.{Request, recordAt, stepOf, Reading, reading, readFrom, readAll}
+use Rattle.records.specs.declared.answer.Ended.{Ended}
+use Rattle.records.specs.declared.answer.Ended.the-variants.{Whole}
+use Rattle.records.specs.declared.answer.Read.{Read}
+use Rattle.records.specs.declared.answer.Step.{Step}
+use Rattle.records.proofs.Reading.{step-reached, fresh-reached, all-read, on, off}
+use borrow.Author.Needs.{needs}
+use Rattle.records.proofs.read.Statement.{statement}
+use Rattle.records.proofs.read.Tie as tie
+
+abbrev Inv-loop : tie.InvT-loop
+Inv-loop bytes store₀ g₀ at₀ place₀ store g at place = (place ≤ at) × (at ≤ length bytes) × (length store ≡ length store₀) × Reached g × (readAll bytes store₀ ≡ readFrom (length bytes - place) bytes at place g store)
+
+abbrev μ-loop : tie.MeasureT-loop
+μ-loop bytes store₀ g₀ at₀ place₀ store g at place = length bytes - at
+
+-- before the first record
+begun : (bytes : List ℕ) (store : List Float) (g : Graph) → g ≡ fresh → readAll bytes store ≡ readFrom (length bytes - 0) bytes 0 0 g store
+unfolding readAll
+begun bytes store g e = let z : length bytes - 0 ≡ length bytes = omega arith in rw (z, e)
+
+begun-reached : (g : Graph) → g ≡ fresh → Reached g
+begun-reached g e = rw e fresh-reached
+
+-- after a record
+reached-step : (g : Graph) (q : Request) (step : Step) → step ≡ stepOf g q → Reached g → Reached (step .graph)
+reached-step g q step e r = rw e (step-reached g q r)
+
+valid-step : (g : Graph) (q : Request) (step : Step) → step ≡ stepOf g q → Reached g → valid (step .graph) ≡ true
+valid-step g q step e r = good-of (step .graph) (reached-step g q step e r) .1
+
+-- the two ways out
+turned-back : (all : Reading) (g : Graph) (ended : Ended) (s : List Float) → all ≡ reading g ended s → valid g ≡ true → (_≡_ {A = Read} (record { graph = g; ended = ended }) (all .answer) × (valid g ≡ true)) × (s ≡ all .store)
+turned-back all g ended s e v = rw e ((refl, v), refl)
+
+taken-whole : (all : Reading) (g : Graph) (s : List Float) → all ≡ reading g Whole s → valid g ≡ true → (_≡_ {A = Read} (record { graph = g; ended = Whole }) (all .answer) × (valid g ≡ true)) × (s ≡ all .store)
+taken-whole all g s e v = turned-back all g Whole s e v
+
+new-requires : tie.Need-new-requires Inv-loop μ-loop
+new-requires c κs = search needs
+
+loop-holds : tie.Need-loop-holds Inv-loop μ-loop
+loop-holds c = (omega arith, omega arith, refl, begun-reached (c .new .result) (c .new .ensures), begun (c .before .before .before .args .bytes .now) (c .before .before .before .args .store .now) (c .new .result) (c .new .ensures))
+
+read-record-requires : tie.Need-read-record-requires Inv-loop μ-loop
+read-record-requires c κs = (good-of (c .before .before .loop .g) (c .before .before .loop .inv .3) .1, omega arith)
+
+enum-known-next : tie.Need-enum-known-next Inv-loop μ-loop
+enum-known-next c = search needs
+
+enum-known-next-2 : tie.Need-enum-known-next-2 Inv-loop μ-loop
+enum-known-next-2 c = search needs
+
+same-length : tie.Need-same-length Inv-loop μ-loop
+same-length c = omega arith
+
+returns : tie.Need-returns Inv-loop μ-loop
+returns c = turned-back (readAll (c .before .before .before .before .before .before .before .before .before .before .before .before .before .args .bytes .now) (c .before .before .before .before .before .before .before .before .before .before .before .before .before .args .store .now)) _ _ _ (off (c .before .before .before .before .before .before .before .before .before .before .before .before .before .args .bytes .now) (c .before .before .before .before .before .before .before .before .before .loop .at) (c .before .before .before .before .before .before .before .before .before .loop .place) (c .before .before .before .before .before .before .before .before .before .loop .g) (c .before .before .before .before .before .before .before .before .before .loop .store) (readAll (c .before .before .before .before .before .before .before .before .before .before .before .before .before .args .bytes .now) (c .before .before .before .before .before .before .before .before .before .before .before .before .before .args .store .now)) (c .before .before .before .before .before .before .before .before .before .loop .inv .4) (c .before .before .before .before .before .before .before .before .loop-test .taken) (c .before .before .before .before .before .before .before .before .before .loop .inv .0) (c .before .before .before .before .before .before .read-record .result) _ (c .before .before .before .before .before .before .read-record .ensures .0) (c .before .before .before .before .before .before .read-record .ensures .1) _ (c .before .next2 .given .1)) (valid-step (c .before .before .before .before .before .before .before .before .before .loop .g) (recordAt (c .before .before .before .before .before .before .before .before .before .loop .g) (c .before .before .before .before .before .before .before .before .before .loop .store) (c .before .before .before .before .before .before .before .before .before .before .before .before .before .args .bytes .now) (c .before .before .before .before .before .before .before .before .before .loop .at)) (c .before .before .before .before .before .before .read-record .result) (c .before .before .before .before .before .before .read-record .ensures .0) (c .before .before .before .before .before .before .before .before .before .loop .inv .3))
+
+add-place : tie.Need-add-place Inv-loop μ-loop
+add-place c = omega arith
+
+loop-less : tie.Need-loop-less Inv-loop μ-loop
+loop-less c = let w : (c .before .before .before .before .before .before .before .before .before .loop .at < c .before .next .given .0 .0) × (c .before .next .given .0 .0 ≤ length (c .before .before .before .before .before .before .before .before .before .before .before .before .before .args .bytes .now)) = (on (c .before .before .before .before .before .before .before .before .before .before .before .before .before .args .bytes .now) (c .before .before .before .before .before .before .before .before .before .loop .at) (c .before .before .before .before .before .before .before .before .before .loop .place) (c .before .before .before .before .before .before .before .before .before .loop .g) (c .before .before .before .before .before .before .before .before .before .loop .store) (readAll (c .before .before .before .before .before .before .before .before .before .before .before .before .before .args .bytes .now) (c .before .before .before .before .before .before .before .before .before .before .before .before .before .args .store .now)) (c .before .before .before .before .before .before .before .before .before .loop .inv .4) (c .before .before .before .before .before .before .before .before .loop-test .taken) (c .before .before .before .before .before .before .before .before .before .loop .inv .0) (c .before .before .before .before .before .before .read-record .result) _ (c .before .before .before .before .before .before .read-record .ensures .0) (c .before .before .before .before .before .before .read-record .ensures .1) _ (c .before .next .given .1) .1, on (c .before .before .before .before .before .before .before .before .before .before .before .before .before .args .bytes .now) (c .before .before .before .before .before .before .before .before .before .loop .at) (c .before .before .before .before .before .before .before .before .before .loop .place) (c .before .before .before .before .before .before .before .before .before .loop .g) (c .before .before .before .before .before .before .before .before .before .loop .store) (readAll (c .before .before .before .before .before .before .before .before .before .before .before .before .before .args .bytes .now) (c .before .before .before .before .before .before .before .before .before .before .before .before .before .args .store .now)) (c .before .before .before .before .before .before .before .before .before .loop .inv .4) (c .before .before .before .before .before .before .before .before .loop-test .taken) (c .before .before .before .before .before .before .before .before .before .loop .inv .0) (c .before .before .before .before .before .before .read-record .result) _ (c .before .before .before .before .before .before .read-record .ensures .0) (c .before .before .before .before .before .before .read-record .ensures .1) _ (c .before .next .given .1) .2) in omega arith
+
+loop-again : tie.Need-loop-again Inv-loop μ-loop
+loop-again c = let w : (c .before .before .before .before .before .before .before .before .before .loop .at < c .before .next .given .0 .0) × (c .before .next .given .0 .0 ≤ length (c .before .before .before .before .before .before .before .before .before .before .before .before .before .args .bytes .now)) = (on (c .before .before .before .before .before .before .before .before .before .before .before .before .before .args .bytes .now) (c .before .before .before .before .before .before .before .before .before .loop .at) (c .before .before .before .before .before .before .before .before .before .loop .place) (c .before .before .before .before .before .before .before .before .before .loop .g) (c .before .before .before .before .before .before .before .before .before .loop .store) (readAll (c .before .before .before .before .before .before .before .before .before .before .before .before .before .args .bytes .now) (c .before .before .before .before .before .before .before .before .before .before .before .before .before .args .store .now)) (c .before .before .before .before .before .before .before .before .before .loop .inv .4) (c .before .before .before .before .before .before .before .before .loop-test .taken) (c .before .before .before .before .before .before .before .before .before .loop .inv .0) (c .before .before .before .before .before .before .read-record .result) _ (c .before .before .before .before .before .before .read-record .ensures .0) (c .before .before .before .before .before .before .read-record .ensures .1) _ (c .before .next .given .1) .1, on (c .before .before .before .before .before .before .before .before .before .before .before .before .before .args .bytes .now) (c .before .before .before .before .before .before .before .before .before .loop .at) (c .before .before .before .before .before .before .before .before .before .loop .place) (c .before .before .before .before .before .before .before .before .before .loop .g) (c .before .before .before .before .before .before .before .before .before .loop .store) (readAll (c .before .before .before .before .before .before .before .before .before .before .before .before .before .args .bytes .now) (c .before .before .before .before .before .before .before .before .before .before .before .before .before .args .store .now)) (c .before .before .before .before .before .before .before .before .before .loop .inv .4) (c .before .before .before .before .before .before .before .before .loop-test .taken) (c .before .before .before .before .before .before .before .before .before .loop .inv .0) (c .before .before .before .before .before .before .read-record .result) _ (c .before .before .before .before .before .before .read-record .ensures .0) (c .before .before .before .before .before .before .read-record .ensures .1) _ (c .before .next .given .1) .2) in (omega arith, omega arith, omega arith, reached-step (c .before .before .before .before .before .before .before .before .before .loop .g) (recordAt (c .before .before .before .before .before .before .before .before .before .loop .g) (c .before .before .before .before .before .before .before .before .before .loop .store) (c .before .before .before .before .before .before .before .before .before .before .before .before .before .args .bytes .now) (c .before .before .before .before .before .before .before .before .before .loop .at)) (c .before .before .before .before .before .before .read-record .result) (c .before .before .before .before .before .before .read-record .ensures .0) (c .before .before .before .before .before .before .before .before .before .loop .inv .3), on (c .before .before .before .before .before .before .before .before .before .before .before .before .before .args .bytes .now) (c .before .before .before .before .before .before .before .before .before .loop .at) (c .before .before .before .before .before .before .before .before .before .loop .place) (c .before .before .before .before .before .before .before .before .before .loop .g) (c .before .before .before .before .before .before .before .before .before .loop .store) (readAll (c .before .before .before .before .before .before .before .before .before .before .before .before .before .args .bytes .now) (c .before .before .before .before .before .before .before .before .before .before .before .before .before .args .store .now)) (c .before .before .before .before .before .before .before .before .before .loop .inv .4) (c .before .before .before .before .before .before .before .before .loop-test .taken) (c .before .before .before .before .before .before .before .before .before .loop .inv .0) (c .before .before .before .before .before .before .read-record .result) _ (c .before .before .before .before .before .before .read-record .ensures .0) (c .before .before .before .before .before .before .read-record .ensures .1) _ (c .before .next .given .1) .0)
+
+same-length-2 : tie.Need-same-length-2 Inv-loop μ-loop
+same-length-2 c = c .before .loop .inv .2
+
+returns-2 : tie.Need-returns-2 Inv-loop μ-loop
+returns-2 c = taken-whole (readAll (c .before .before .before .before .before .args .bytes .now) (c .before .before .before .before .before .args .store .now)) _ _ (all-read (c .before .before .before .before .before .args .bytes .now) (c .before .loop .at) (c .before .loop .place) (c .before .loop .g) (c .before .loop .store) (readAll (c .before .before .before .before .before .args .bytes .now) (c .before .before .before .before .before .args .store .now)) (c .before .loop .inv .4) (omega arith)) (good-of (c .before .loop .g) (c .before .loop .inv .3) .1)
+
+pub read-spec : {M : Type 1} → statement M
+read-spec =
+    tie.close
+    (tie.spec
+    Inv-loop
+    μ-loop
+    new-requires
+    loop-holds
+    read-record-requires
+    enum-known-next
+    enum-known-next-2
+    same-length
+    returns
+    add-place
+    loop-less
+    loop-again
+    same-length-2
+    returns-2)

@@ -1,0 +1,177 @@
+-- `records::read_observation` meets its contract. Assumes nothing.
+use Prim.Native.Nat.{ℕ, _+_}
+use mathlib.Core.Path.{_≡_, refl, _∙_, ap}
+use mathlib.Core.Bool.{true, false}
+use mathlib.Core.List.{List}
+use native.Mathlib.Omega.{arith}
+use borrow.Author.Tests.{not-true, not-false}
+use lib.Ieee.{Float}
+use lib.ListN.{length}
+use Rattle.factor.proofs.Counting.{tells}
+use Rattle.graph.specs.Registration.{countsFit}
+use Rattle.graph.specs.declared.Graph.{Graph}
+use Rattle.graph.specs.declared.refusal.Refusal.the-variants.{BadRecord, CountOutside}
+use Rattle.records.specs.Bytes.{byteAt, cut, keysAt}
+use Rattle.records.specs.Records.{refuse, meaning, flagKnown, observed, observationAt}
+use Rattle.records.specs.declared.kinds.Flag.{Flag}
+use Rattle.records.proofs.Counts.{few-keys}
+use Rattle.records.proofs.Listing.{listed-length, front}
+use Rattle.records.proofs.Requests.{turned, met, there}
+use borrow.Author.Needs.{needs}
+use Rattle.records.proofs.read_observation.Statement.{statement}
+use Rattle.records.proofs.read_observation.Tie as tie
+
+counted : (bytes : List ℕ) (at count rows : ℕ) (keys : List ℕ) → keys ≡ keysAt bytes at count → countsFit count rows ≡ true → countsFit (length keys) rows ≡ true
+counted bytes at count rows keys e h = rw (e, listed-length (λ i. byteAt bytes (at + i)) count) h
+
+meant : (bytes : List ℕ) (at b : ℕ) (flag : Flag) → b ≡ byteAt bytes (at + 2) → flag ≡ meaning b → flag ≡ meaning (byteAt bytes (at + 2))
+meant bytes at b flag e m = m ∙ ap meaning e
+
+module _ (g : Graph) (store : List Float) (bytes : List ℕ) (at : ℕ) where
+  cut-short : cut bytes at 3 ≡ true → observationAt g store bytes at ≡ refuse BadRecord
+  unfolding observationAt
+  cut-short h = rw h
+
+  module _ (h : cut bytes at 3 ≡ false) (count rows : ℕ) (flag : Flag) (ec : count ≡ byteAt bytes at) (er : rows ≡ byteAt bytes (at + 1)) (ef : flag ≡ meaning (byteAt bytes (at + 2))) where
+    no-flag : flagKnown flag ≡ false → observationAt g store bytes at ≡ refuse BadRecord
+    unfolding observationAt
+    no-flag hf = rw (h, ← ef, hf)
+
+    module _ (hf : flagKnown flag ≡ true) where
+      outside : countsFit count rows ≡ false → observationAt g store bytes at ≡ refuse CountOutside
+      unfolding observationAt
+      outside h4 = rw (h, ← ef, hf, ← ec, ← er, h4)
+
+      module _ (h4 : countsFit count rows ≡ true) where
+        keys-cut : cut bytes (at + 3) count ≡ true → observationAt g store bytes at ≡ refuse BadRecord
+        unfolding observationAt
+        keys-cut h8 = rw (h, ← ef, hf, ← ec, ← er, h4, h8)
+
+        from-keys : cut bytes (at + 3) count ≡ false → (keys : List ℕ) → keys ≡ keysAt bytes (at + 3) count → observationAt g store bytes at ≡ observed g store bytes keys rows flag (at + 3 + count)
+        unfolding observationAt
+        from-keys h8 keys ek = rw (h, ← ef, hf, ← ec, ← er, h4, h8, ← ek)
+
+cut-requires : tie.Need-cut-requires
+cut-requires c κs = search needs
+
+stop-requires : tie.Need-stop-requires
+stop-requires c κs = search needs
+
+returns : tie.Need-returns
+returns c = turned (c .before .before .before .before .before .args .g) (c .before .before .before .before .before .args .store .now) _ _ BadRecord _ (cut-short (c .before .before .before .before .before .args .g) (c .before .before .before .before .before .args .store .now) (c .before .before .before .before .before .args .bytes .now) (c .before .before .before .before .before .args .at) (tells (c .before .before .cut .ensures) (c .before .if1 .taken))) (c .stop .ensures) refl
+
+byte-requires : tie.Need-byte-requires
+byte-requires c κs = omega (arith, there (c .before .before .before .before .args .bytes .now) (c .before .before .before .before .args .at) 3 (tells (c .before .cut .ensures) (c .if1 .left)))
+
+add-byte : tie.Need-add-byte
+add-byte c = omega (arith, there (c .before .before .before .before .before .args .bytes .now) (c .before .before .before .before .before .args .at) 3 (tells (c .before .before .cut .ensures) (c .before .if1 .left)))
+
+byte-requires-2 : tie.Need-byte-requires-2
+byte-requires-2 c κs = omega (arith, there (c .before .before .before .before .before .args .bytes .now) (c .before .before .before .before .before .args .at) 3 (tells (c .before .before .cut .ensures) (c .before .if1 .left)))
+
+add-byte-2 : tie.Need-add-byte-2
+add-byte-2 c = omega (arith, there (c .before .before .before .before .before .before .args .bytes .now) (c .before .before .before .before .before .before .args .at) 3 (tells (c .before .before .before .cut .ensures) (c .before .before .if1 .left)))
+
+byte-requires-3 : tie.Need-byte-requires-3
+byte-requires-3 c κs = omega (arith, there (c .before .before .before .before .before .before .args .bytes .now) (c .before .before .before .before .before .before .args .at) 3 (tells (c .before .before .before .cut .ensures) (c .before .before .if1 .left)))
+
+meaning-requires : tie.Need-meaning-requires
+meaning-requires c κs = search needs
+
+flag-known-requires : tie.Need-flag-known-requires
+flag-known-requires c κs = search needs
+
+stop-requires-2 : tie.Need-stop-requires-2
+stop-requires-2 c κs = search needs
+
+returns-2 : tie.Need-returns-2
+returns-2 c = turned (c .before .before .before .before .before .before .before .before .before .before .before .args .g) (c .before .before .before .before .before .before .before .before .before .before .before .args .store .now) _ _ BadRecord _ (no-flag (c .before .before .before .before .before .before .before .before .before .before .before .args .g) (c .before .before .before .before .before .before .before .before .before .before .before .args .store .now) (c .before .before .before .before .before .before .before .before .before .before .before .args .bytes .now) (c .before .before .before .before .before .before .before .before .before .before .before .args .at) (tells (c .before .before .before .before .before .before .before .before .cut .ensures) (c .before .before .before .before .before .before .before .if1 .left)) (c .before .before .before .before .before .before .byte .result) (c .before .before .before .before .before .byte2 .result) (c .before .before .before .meaning .result) (c .before .before .before .before .before .before .byte .ensures .0) (c .before .before .before .before .before .byte2 .ensures .0) (meant (c .before .before .before .before .before .before .before .before .before .before .before .args .bytes .now) (c .before .before .before .before .before .before .before .before .before .before .before .args .at) (c .before .before .before .before .byte3 .result) (c .before .before .before .meaning .result) (c .before .before .before .before .byte3 .ensures .0) (c .before .before .before .meaning .ensures)) (tells (c .before .before .flag-known .ensures) (not-true _ (c .before .if2 .taken)))) (c .stop2 .ensures) refl
+
+counts-fit-requires : tie.Need-counts-fit-requires
+counts-fit-requires c κs = search needs
+
+stop-requires-3 : tie.Need-stop-requires-3
+stop-requires-3 c κs = search needs
+
+returns-3 : tie.Need-returns-3
+returns-3 c = turned (c .before .before .before .before .before .before .before .before .before .before .before .before .before .args .g) (c .before .before .before .before .before .before .before .before .before .before .before .before .before .args .store .now) _ _ CountOutside _ (outside (c .before .before .before .before .before .before .before .before .before .before .before .before .before .args .g) (c .before .before .before .before .before .before .before .before .before .before .before .before .before .args .store .now) (c .before .before .before .before .before .before .before .before .before .before .before .before .before .args .bytes .now) (c .before .before .before .before .before .before .before .before .before .before .before .before .before .args .at) (tells (c .before .before .before .before .before .before .before .before .before .before .cut .ensures) (c .before .before .before .before .before .before .before .before .before .if1 .left)) (c .before .before .before .before .before .before .before .before .byte .result) (c .before .before .before .before .before .before .before .byte2 .result) (c .before .before .before .before .before .meaning .result) (c .before .before .before .before .before .before .before .before .byte .ensures .0) (c .before .before .before .before .before .before .before .byte2 .ensures .0) (meant (c .before .before .before .before .before .before .before .before .before .before .before .before .before .args .bytes .now) (c .before .before .before .before .before .before .before .before .before .before .before .before .before .args .at) (c .before .before .before .before .before .before .byte3 .result) (c .before .before .before .before .before .meaning .result) (c .before .before .before .before .before .before .byte3 .ensures .0) (c .before .before .before .before .before .meaning .ensures)) (tells (c .before .before .before .before .flag-known .ensures) (not-false _ (c .before .before .before .if2 .left))) (tells (c .before .before .counts-fit .ensures) (not-true _ (c .before .if3 .taken)))) (c .stop3 .ensures) refl
+
+add-cut : tie.Need-add-cut
+add-cut c = omega (arith, there (c .before .before .before .before .before .before .before .before .before .before .before .before .args .bytes .now) (c .before .before .before .before .before .before .before .before .before .before .before .before .args .at) 3 (tells (c .before .before .before .before .before .before .before .before .before .cut .ensures) (c .before .before .before .before .before .before .before .before .if1 .left)))
+
+cut-requires-2 : tie.Need-cut-requires-2
+cut-requires-2 c κs = omega (arith, there (c .before .before .before .before .before .before .before .before .before .before .before .before .args .bytes .now) (c .before .before .before .before .before .before .before .before .before .before .before .before .args .at) 3 (tells (c .before .before .before .before .before .before .before .before .before .cut .ensures) (c .before .before .before .before .before .before .before .before .if1 .left)))
+
+stop-requires-4 : tie.Need-stop-requires-4
+stop-requires-4 c κs = search needs
+
+returns-4 : tie.Need-returns-4
+returns-4 c = turned (c .before .before .before .before .before .before .before .before .before .before .before .before .before .before .before .args .g) (c .before .before .before .before .before .before .before .before .before .before .before .before .before .before .before .args .store .now) _ _ BadRecord _ (keys-cut (c .before .before .before .before .before .before .before .before .before .before .before .before .before .before .before .args .g) (c .before .before .before .before .before .before .before .before .before .before .before .before .before .before .before .args .store .now) (c .before .before .before .before .before .before .before .before .before .before .before .before .before .before .before .args .bytes .now) (c .before .before .before .before .before .before .before .before .before .before .before .before .before .before .before .args .at) (tells (c .before .before .before .before .before .before .before .before .before .before .before .before .cut .ensures) (c .before .before .before .before .before .before .before .before .before .before .before .if1 .left)) (c .before .before .before .before .before .before .before .before .before .before .byte .result) (c .before .before .before .before .before .before .before .before .before .byte2 .result) (c .before .before .before .before .before .before .before .meaning .result) (c .before .before .before .before .before .before .before .before .before .before .byte .ensures .0) (c .before .before .before .before .before .before .before .before .before .byte2 .ensures .0) (meant (c .before .before .before .before .before .before .before .before .before .before .before .before .before .before .before .args .bytes .now) (c .before .before .before .before .before .before .before .before .before .before .before .before .before .before .before .args .at) (c .before .before .before .before .before .before .before .before .byte3 .result) (c .before .before .before .before .before .before .before .meaning .result) (c .before .before .before .before .before .before .before .before .byte3 .ensures .0) (c .before .before .before .before .before .before .before .meaning .ensures)) (tells (c .before .before .before .before .before .before .flag-known .ensures) (not-false _ (c .before .before .before .before .before .if2 .left))) (tells (c .before .before .before .before .counts-fit .ensures) (not-false _ (c .before .before .before .if3 .left))) (tells (c .before .before .cut2 .ensures) (c .before .if4 .taken))) (c .stop4 .ensures) refl
+
+add-keys : tie.Need-add-keys
+add-keys c = omega (arith, there (c .before .before .before .before .before .before .before .before .before .before .before .before .before .before .args .bytes .now) (c .before .before .before .before .before .before .before .before .before .before .before .before .before .before .args .at) 3 (tells (c .before .before .before .before .before .before .before .before .before .before .before .cut .ensures) (c .before .before .before .before .before .before .before .before .before .before .if1 .left)))
+
+slice-aggregate-keys : tie.Need-slice-aggregate-keys
+slice-aggregate-keys c = search needs
+
+keys-requires : tie.Need-keys-requires
+keys-requires c κs = (there (c .before .before .before .before .before .before .before .before .before .before .before .before .before .before .before .args .bytes .now) (c .before .before .before .before .before .before .before .before .before .before .before .before .before .before .before .args .at + 3) (c .before .before .before .before .before .before .before .before .before .before .byte .result) (tells (c .before .before .cut2 .ensures) (c .before .if4 .left)), few-keys _ _ (tells (c .before .before .before .before .counts-fit .ensures) (not-false _ (c .before .before .before .if3 .left))))
+
+add-read-observed : tie.Need-add-read-observed
+add-read-observed c = omega (arith, there (c .before .before .before .before .before .before .before .before .before .before .before .before .before .before .before .before .before .args .bytes .now) (c .before .before .before .before .before .before .before .before .before .before .before .before .before .before .before .before .before .args .at) 3 (tells (c .before .before .before .before .before .before .before .before .before .before .before .before .before .before .cut .ensures) (c .before .before .before .before .before .before .before .before .before .before .before .before .before .if1 .left)))
+
+add-read-observed-2 : tie.Need-add-read-observed-2
+add-read-observed-2 c = omega (arith, there (c .before .before .before .before .before .before .before .before .before .before .before .before .before .before .before .before .before .args .bytes .now) (c .before .before .before .before .before .before .before .before .before .before .before .before .before .before .before .before .before .args .at + 3) (c .before .before .before .before .before .before .before .before .before .before .before .before .byte .result) (tells (c .before .before .before .before .cut2 .ensures) (c .before .before .before .if4 .left)))
+
+sub-read-observed : tie.Need-sub-read-observed
+sub-read-observed c = search needs
+
+part-read-observed-start : tie.Need-part-read-observed-start
+part-read-observed-start c = search needs
+
+part-read-observed-end : tie.Need-part-read-observed-end
+part-read-observed-end c = omega (arith, few-keys (c .before .before .before .before .before .before .before .before .before .before .before .before .before .byte .result) (c .before .before .before .before .before .before .before .before .before .before .before .before .byte2 .result) (tells (c .before .before .before .before .before .before .before .counts-fit .ensures) (not-false _ (c .before .before .before .before .before .before .if3 .left))))
+
+read-observed-requires : tie.Need-read-observed-requires
+read-observed-requires c κs = ((c .before .before .before .before .before .before .before .before .before .before .before .before .before .before .before .before .before .before .before .before .pre .0, there (c .before .before .before .before .before .before .before .before .before .before .before .before .before .before .before .before .before .before .before .before .args .bytes .now) (c .before .before .before .before .before .before .before .before .before .before .before .before .before .before .before .before .before .before .before .before .args .at + 3) (c .before .before .before .before .before .before .before .before .before .before .before .before .before .before .before .byte .result) (tells (c .before .before .before .before .before .before .before .cut2 .ensures) (c .before .before .before .before .before .before .if4 .left))), (counted (c .before .before .before .before .before .before .before .before .before .before .before .before .before .before .before .before .before .before .before .before .args .bytes .now) (c .before .before .before .before .before .before .before .before .before .before .before .before .before .before .before .before .before .before .before .before .args .at + 3) (c .before .before .before .before .before .before .before .before .before .before .before .before .before .before .before .byte .result) (c .before .before .before .before .before .before .before .before .before .before .before .before .before .before .byte2 .result) _ (front (λ i. byteAt (c .before .before .before .before .before .before .before .before .before .before .before .before .before .before .before .before .before .before .before .before .args .bytes .now) (c .before .before .before .before .before .before .before .before .before .before .before .before .before .before .before .before .before .before .before .before .args .at + 3 + i)) (c .before .before .before .before .before .before .before .before .before .before .before .before .before .before .before .byte .result) _ _ (c .before .before .before .before .keys2 .ensures)) (tells (c .before .before .before .before .before .before .before .before .before .counts-fit .ensures) (not-false _ (c .before .before .before .before .before .before .before .before .if3 .left))), (tells (c .before .before .before .before .before .before .before .before .before .before .before .flag-known .ensures) (not-false _ (c .before .before .before .before .before .before .before .before .before .before .if2 .left)))))
+
+same-length : tie.Need-same-length
+same-length c = search needs
+
+returns-5 : tie.Need-returns-5
+returns-5 c = met (c .before .before .before .before .before .before .before .before .before .before .before .before .before .before .before .before .before .before .before .before .before .before .before .args .g) (c .before .before .before .before .before .before .before .before .before .before .before .before .before .before .before .before .before .before .before .before .before .before .before .args .store .now) _ _ _ _ (from-keys (c .before .before .before .before .before .before .before .before .before .before .before .before .before .before .before .before .before .before .before .before .before .before .before .args .g) (c .before .before .before .before .before .before .before .before .before .before .before .before .before .before .before .before .before .before .before .before .before .before .before .args .store .now) (c .before .before .before .before .before .before .before .before .before .before .before .before .before .before .before .before .before .before .before .before .before .before .before .args .bytes .now) (c .before .before .before .before .before .before .before .before .before .before .before .before .before .before .before .before .before .before .before .before .before .before .before .args .at) (tells (c .before .before .before .before .before .before .before .before .before .before .before .before .before .before .before .before .before .before .before .before .cut .ensures) (c .before .before .before .before .before .before .before .before .before .before .before .before .before .before .before .before .before .before .before .if1 .left)) (c .before .before .before .before .before .before .before .before .before .before .before .before .before .before .before .before .before .before .byte .result) (c .before .before .before .before .before .before .before .before .before .before .before .before .before .before .before .before .before .byte2 .result) (c .before .before .before .before .before .before .before .before .before .before .before .before .before .before .before .meaning .result) (c .before .before .before .before .before .before .before .before .before .before .before .before .before .before .before .before .before .before .byte .ensures .0) (c .before .before .before .before .before .before .before .before .before .before .before .before .before .before .before .before .before .byte2 .ensures .0) (meant (c .before .before .before .before .before .before .before .before .before .before .before .before .before .before .before .before .before .before .before .before .before .before .before .args .bytes .now) (c .before .before .before .before .before .before .before .before .before .before .before .before .before .before .before .before .before .before .before .before .before .before .before .args .at) (c .before .before .before .before .before .before .before .before .before .before .before .before .before .before .before .before .byte3 .result) (c .before .before .before .before .before .before .before .before .before .before .before .before .before .before .before .meaning .result) (c .before .before .before .before .before .before .before .before .before .before .before .before .before .before .before .before .byte3 .ensures .0) (c .before .before .before .before .before .before .before .before .before .before .before .before .before .before .before .meaning .ensures)) (tells (c .before .before .before .before .before .before .before .before .before .before .before .before .before .before .flag-known .ensures) (not-false _ (c .before .before .before .before .before .before .before .before .before .before .before .before .before .if2 .left))) (tells (c .before .before .before .before .before .before .before .before .before .before .before .before .counts-fit .ensures) (not-false _ (c .before .before .before .before .before .before .before .before .before .before .before .if3 .left))) (tells (c .before .before .before .before .before .before .before .before .before .before .cut2 .ensures) (c .before .before .before .before .before .before .before .before .before .if4 .left)) _ (front (λ i. byteAt (c .before .before .before .before .before .before .before .before .before .before .before .before .before .before .before .before .before .before .before .before .before .before .before .args .bytes .now) (c .before .before .before .before .before .before .before .before .before .before .before .before .before .before .before .before .before .before .before .before .before .before .before .args .at + 3 + i)) (c .before .before .before .before .before .before .before .before .before .before .before .before .before .before .before .before .before .before .byte .result) _ _ (c .before .before .before .before .before .before .before .keys2 .ensures))) (c .before .before .read-observed .ensures)
+
+pub read-observation-spec : {M : Type 1} → statement M
+read-observation-spec =
+    tie.close
+    (tie.spec
+    cut-requires
+    stop-requires
+    returns
+    byte-requires
+    add-byte
+    byte-requires-2
+    add-byte-2
+    byte-requires-3
+    meaning-requires
+    flag-known-requires
+    stop-requires-2
+    returns-2
+    counts-fit-requires
+    stop-requires-3
+    returns-3
+    add-cut
+    cut-requires-2
+    stop-requires-4
+    returns-4
+    add-keys
+    slice-aggregate-keys
+    keys-requires
+    add-read-observed
+    add-read-observed-2
+    sub-read-observed
+    part-read-observed-start
+    part-read-observed-end
+    read-observed-requires
+    same-length
+    returns-5)

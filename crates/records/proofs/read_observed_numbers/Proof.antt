@@ -1,0 +1,187 @@
+-- `records::read_observed_numbers` meets its contract: the arrays have room for the most rows and columns. Assumes nothing.
+use Prim.Native.Nat.{ℕ, _+_, _-_, _*_, _≤_}
+use mathlib.Core.Path.{_≡_, refl}
+use mathlib.Core.Bool.{Bool, true, false}
+use mathlib.Core.List.{List, _++_}
+use native.Mathlib.Nat.{mul-le-mul}
+use native.Mathlib.Omega.{arith}
+use borrow.Author.Tests.{ltb-false}
+use lib.Ieee.{Float}
+use lib.ListN.{length, take, drop}
+use lib.Seq.{take-at}
+use Rattle.factor.proofs.Counting.{tells}
+use Rattle.graph.specs.Registration.{addObservation, observationStore}
+use Rattle.graph.specs.declared.Graph.{Graph}
+use Rattle.graph.specs.declared.Added.{Added}
+use Rattle.graph.specs.declared.refusal.Refusal.the-variants.{BadRecord}
+use Rattle.records.specs.Bytes.{cut, numberAt, unitAt, numbersAt}
+use Rattle.records.specs.Records.{refuse, flagKnown, given, varianceAt, observedNumbers, wentTo}
+use Rattle.records.specs.declared.answer.Step.{Step}
+use Rattle.records.specs.declared.kinds.Flag.{Flag}
+use Rattle.records.specs.declared.kinds.Flag.the-variants.{Identity, Given, Unknown}
+use Rattle.records.proofs.Listing.{listed-length, front}
+use Rattle.records.proofs.Requests.{Meets, turned}
+use borrow.Author.Needs.{needs}
+use Rattle.records.proofs.read_observed_numbers.Statement.{statement}
+use Rattle.records.proofs.read_observed_numbers.Tie as tie
+
+variance-long : (flag : Flag) (bytes : List ℕ) (at rows : ℕ) → flagKnown flag ≡ true → length (varianceAt flag bytes at rows) ≡ rows * rows
+variance-long Identity bytes at rows h = listed-length (λ i. unitAt rows i) (rows * rows)
+variance-long Given bytes at rows h = listed-length (λ i. numberAt bytes (at + 8 * i)) (rows * rows)
+variance-long Unknown bytes at rows h = cc
+
+variance-front : (flag : Flag) (bytes : List ℕ) (at rows : ℕ) (out rest : List Float) → flagKnown flag ≡ true → out ≡ varianceAt flag bytes at rows ++ rest → take (rows * rows - 0) (drop 0 out) ≡ varianceAt flag bytes at rows
+variance-front flag bytes at rows out rest h e =
+    let z : rows * rows - 0 ≡ rows * rows = omega arith in
+    rw (z, e) (take-at (varianceAt flag bytes at rows) rest (rows * rows) (variance-long flag bytes at rows h))
+
+-- all numbers are there
+of-all : (bytes : List ℕ) (at m v w : ℕ) (b : Bool) → v ≡ w → b ≡ cut bytes at (8 * (m + v)) → b ≡ false → at + 8 * (m + w) ≤ length bytes
+of-all bytes at m v w b ev eb h = let l : at + 8 * (m + v) ≤ length bytes = ltb-false _ _ (tells eb h) in rw ev at l
+
+module _ (g : Graph) (store : List Float) (bytes keys : List ℕ) (rows : ℕ) (flag : Flag) (n at v : ℕ) (ev : v ≡ given flag rows) where
+  cut-short : cut bytes at (8 * (n + rows + v)) ≡ true → observedNumbers store bytes keys rows flag n at ≡ refuse BadRecord
+  unfolding observedNumbers
+  cut-short h = rw (← ev, h)
+
+  taken : cut bytes at (8 * (n + rows + v)) ≡ false → (a mean variance : List Float) (added : Added) (r : Step) (t : List Float) → a ≡ numbersAt bytes at n → mean ≡ numbersAt bytes (at + 8 * n) rows → variance ≡ varianceAt flag bytes (at + 8 * (n + rows)) rows
+      → added ≡ addObservation g keys rows a mean variance store → r ≡ wentTo added (at + 8 * (n + rows + v)) → t ≡ observationStore g keys rows a mean variance store → Meets g store (observedNumbers store bytes keys rows flag n at) r t
+  unfolding observedNumbers
+  taken h a mean variance added r t ex em ew ea er et = rw (← ev, h, ← ex, ← em, ← ew, ← ea) (er, et)
+
+mul-square : tie.Need-mul-square
+mul-square c = omega (arith, mul-le-mul (c .before .before .before .pre .1 .1) (c .before .before .before .pre .1 .1))
+
+add-all : tie.Need-add-all
+add-all c = search needs
+
+given-requires : tie.Need-given-requires
+given-requires c κs = search needs
+
+add-all-2 : tie.Need-add-all-2
+add-all-2 c = omega (arith, mul-le-mul (c .before .before .before .before .pre .1 .1) (c .before .before .before .before .pre .1 .1), c .given .ensures .1)
+
+mul-all : tie.Need-mul-all
+mul-all c = omega (arith, mul-le-mul (c .before .before .before .before .pre .1 .1) (c .before .before .before .before .pre .1 .1), c .given .ensures .1)
+
+cut-requires : tie.Need-cut-requires
+cut-requires c κs = search needs
+
+stop-requires : tie.Need-stop-requires
+stop-requires c κs = search needs
+
+returns : tie.Need-returns
+returns c = turned (c .before .before .before .before .before .before .before .args .g) (c .before .before .before .before .before .before .before .args .store .now) _ _ BadRecord _ (cut-short (c .before .before .before .before .before .before .before .args .g) (c .before .before .before .before .before .before .before .args .store .now) (c .before .before .before .before .before .before .before .args .bytes .now) (c .before .before .before .before .before .before .before .args .keys .now) (c .before .before .before .before .before .before .before .args .rows) (c .before .before .before .before .before .before .before .args .flag) (c .before .before .before .before .before .before .before .args .n) (c .before .before .before .before .before .before .before .args .at) _ (c .before .before .before .given .ensures .0) (tells (c .before .before .cut .ensures) (c .before .if1 .taken))) (c .stop .ensures) refl
+
+add-end : tie.Need-add-end
+add-end c = omega (arith, mul-le-mul (c .before .before .before .before .before .before .pre .1 .1) (c .before .before .before .before .before .before .pre .1 .1), c .before .before .given .ensures .0, c .before .before .given .ensures .1, of-all (c .before .before .before .before .before .before .args .bytes .now) (c .before .before .before .before .before .before .args .at) (c .before .before .before .before .before .before .args .n + c .before .before .before .before .before .before .args .rows) (c .before .before .given .result) (given (c .before .before .before .before .before .before .args .flag) (c .before .before .before .before .before .before .args .rows)) (c .before .cut .result) (c .before .before .given .ensures .0) (c .before .cut .ensures) (c .if1 .left))
+
+slice-aggregate-numbers : tie.Need-slice-aggregate-numbers
+slice-aggregate-numbers c = search needs
+
+numbers-requires : tie.Need-numbers-requires
+numbers-requires c κs = omega (arith, mul-le-mul (c .before .before .before .before .before .before .before .pre .1 .1) (c .before .before .before .before .before .before .before .pre .1 .1), c .before .before .before .given .ensures .0, c .before .before .before .given .ensures .1, of-all (c .before .before .before .before .before .before .before .args .bytes .now) (c .before .before .before .before .before .before .before .args .at) (c .before .before .before .before .before .before .before .args .n + c .before .before .before .before .before .before .before .args .rows) (c .before .before .before .given .result) (given (c .before .before .before .before .before .before .before .args .flag) (c .before .before .before .before .before .before .before .args .rows)) (c .before .before .cut .result) (c .before .before .before .given .ensures .0) (c .before .before .cut .ensures) (c .before .if1 .left))
+
+mul-numbers : tie.Need-mul-numbers
+mul-numbers c = omega (arith, mul-le-mul (c .before .before .before .before .before .before .before .before .before .pre .1 .1) (c .before .before .before .before .before .before .before .before .before .pre .1 .1), c .before .before .before .before .before .given .ensures .0, c .before .before .before .before .before .given .ensures .1, of-all (c .before .before .before .before .before .before .before .before .before .args .bytes .now) (c .before .before .before .before .before .before .before .before .before .args .at) (c .before .before .before .before .before .before .before .before .before .args .n + c .before .before .before .before .before .before .before .before .before .args .rows) (c .before .before .before .before .before .given .result) (given (c .before .before .before .before .before .before .before .before .before .args .flag) (c .before .before .before .before .before .before .before .before .before .args .rows)) (c .before .before .before .before .cut .result) (c .before .before .before .before .before .given .ensures .0) (c .before .before .before .before .cut .ensures) (c .before .before .before .if1 .left))
+
+add-numbers : tie.Need-add-numbers
+add-numbers c = omega (arith, mul-le-mul (c .before .before .before .before .before .before .before .before .before .pre .1 .1) (c .before .before .before .before .before .before .before .before .before .pre .1 .1), c .before .before .before .before .before .given .ensures .0, c .before .before .before .before .before .given .ensures .1, of-all (c .before .before .before .before .before .before .before .before .before .args .bytes .now) (c .before .before .before .before .before .before .before .before .before .args .at) (c .before .before .before .before .before .before .before .before .before .args .n + c .before .before .before .before .before .before .before .before .before .args .rows) (c .before .before .before .before .before .given .result) (given (c .before .before .before .before .before .before .before .before .before .args .flag) (c .before .before .before .before .before .before .before .before .before .args .rows)) (c .before .before .before .before .cut .result) (c .before .before .before .before .before .given .ensures .0) (c .before .before .before .before .cut .ensures) (c .before .before .before .if1 .left))
+
+slice-aggregate-numbers-2 : tie.Need-slice-aggregate-numbers-2
+slice-aggregate-numbers-2 c = search needs
+
+numbers-requires-2 : tie.Need-numbers-requires-2
+numbers-requires-2 c κs = omega (arith, mul-le-mul (c .before .before .before .before .before .before .before .before .before .before .pre .1 .1) (c .before .before .before .before .before .before .before .before .before .before .pre .1 .1), c .before .before .before .before .before .before .given .ensures .0, c .before .before .before .before .before .before .given .ensures .1, of-all (c .before .before .before .before .before .before .before .before .before .before .args .bytes .now) (c .before .before .before .before .before .before .before .before .before .before .args .at) (c .before .before .before .before .before .before .before .before .before .before .args .n + c .before .before .before .before .before .before .before .before .before .before .args .rows) (c .before .before .before .before .before .before .given .result) (given (c .before .before .before .before .before .before .before .before .before .before .args .flag) (c .before .before .before .before .before .before .before .before .before .before .args .rows)) (c .before .before .before .before .before .cut .result) (c .before .before .before .before .before .before .given .ensures .0) (c .before .before .before .before .before .cut .ensures) (c .before .before .before .before .if1 .left))
+
+add-read-variance : tie.Need-add-read-variance
+add-read-variance c = omega (arith, mul-le-mul (c .before .before .before .before .before .before .before .before .before .before .before .before .pre .1 .1) (c .before .before .before .before .before .before .before .before .before .before .before .before .pre .1 .1), c .before .before .before .before .before .before .before .before .given .ensures .0, c .before .before .before .before .before .before .before .before .given .ensures .1, of-all (c .before .before .before .before .before .before .before .before .before .before .before .before .args .bytes .now) (c .before .before .before .before .before .before .before .before .before .before .before .before .args .at) (c .before .before .before .before .before .before .before .before .before .before .before .before .args .n + c .before .before .before .before .before .before .before .before .before .before .before .before .args .rows) (c .before .before .before .before .before .before .before .before .given .result) (given (c .before .before .before .before .before .before .before .before .before .before .before .before .args .flag) (c .before .before .before .before .before .before .before .before .before .before .before .before .args .rows)) (c .before .before .before .before .before .before .before .cut .result) (c .before .before .before .before .before .before .before .before .given .ensures .0) (c .before .before .before .before .before .before .before .cut .ensures) (c .before .before .before .before .before .before .if1 .left))
+
+mul-read-variance : tie.Need-mul-read-variance
+mul-read-variance c = omega (arith, mul-le-mul (c .before .before .before .before .before .before .before .before .before .before .before .before .pre .1 .1) (c .before .before .before .before .before .before .before .before .before .before .before .before .pre .1 .1), c .before .before .before .before .before .before .before .before .given .ensures .0, c .before .before .before .before .before .before .before .before .given .ensures .1, of-all (c .before .before .before .before .before .before .before .before .before .before .before .before .args .bytes .now) (c .before .before .before .before .before .before .before .before .before .before .before .before .args .at) (c .before .before .before .before .before .before .before .before .before .before .before .before .args .n + c .before .before .before .before .before .before .before .before .before .before .before .before .args .rows) (c .before .before .before .before .before .before .before .before .given .result) (given (c .before .before .before .before .before .before .before .before .before .before .before .before .args .flag) (c .before .before .before .before .before .before .before .before .before .before .before .before .args .rows)) (c .before .before .before .before .before .before .before .cut .result) (c .before .before .before .before .before .before .before .before .given .ensures .0) (c .before .before .before .before .before .before .before .cut .ensures) (c .before .before .before .before .before .before .if1 .left))
+
+add-read-variance-2 : tie.Need-add-read-variance-2
+add-read-variance-2 c = omega (arith, mul-le-mul (c .before .before .before .before .before .before .before .before .before .before .before .before .pre .1 .1) (c .before .before .before .before .before .before .before .before .before .before .before .before .pre .1 .1), c .before .before .before .before .before .before .before .before .given .ensures .0, c .before .before .before .before .before .before .before .before .given .ensures .1, of-all (c .before .before .before .before .before .before .before .before .before .before .before .before .args .bytes .now) (c .before .before .before .before .before .before .before .before .before .before .before .before .args .at) (c .before .before .before .before .before .before .before .before .before .before .before .before .args .n + c .before .before .before .before .before .before .before .before .before .before .before .before .args .rows) (c .before .before .before .before .before .before .before .before .given .result) (given (c .before .before .before .before .before .before .before .before .before .before .before .before .args .flag) (c .before .before .before .before .before .before .before .before .before .before .before .before .args .rows)) (c .before .before .before .before .before .before .before .cut .result) (c .before .before .before .before .before .before .before .before .given .ensures .0) (c .before .before .before .before .before .before .before .cut .ensures) (c .before .before .before .before .before .before .if1 .left))
+
+slice-aggregate-read-variance : tie.Need-slice-aggregate-read-variance
+slice-aggregate-read-variance c = search needs
+
+read-variance-requires : tie.Need-read-variance-requires
+read-variance-requires c κs = ((omega (arith, of-all (c .before .before .before .before .before .before .before .before .before .before .before .before .before .args .bytes .now) (c .before .before .before .before .before .before .before .before .before .before .before .before .before .args .at) (c .before .before .before .before .before .before .before .before .before .before .before .before .before .args .n + c .before .before .before .before .before .before .before .before .before .before .before .before .before .args .rows) (c .before .before .before .before .before .before .before .before .before .given .result) (given (c .before .before .before .before .before .before .before .before .before .before .before .before .before .args .flag) (c .before .before .before .before .before .before .before .before .before .before .before .before .before .args .rows)) (c .before .before .before .before .before .before .before .before .cut .result) (c .before .before .before .before .before .before .before .before .before .given .ensures .0) (c .before .before .before .before .before .before .before .before .cut .ensures) (c .before .before .before .before .before .before .before .if1 .left)), c .before .before .before .before .before .before .before .before .before .before .before .before .before .pre .0 .1), (c .before .before .before .before .before .before .before .before .before .before .before .before .before .pre .1 .0, c .before .before .before .before .before .before .before .before .before .before .before .before .before .pre .1 .1, mul-le-mul (c .before .before .before .before .before .before .before .before .before .before .before .before .before .pre .1 .1) (c .before .before .before .before .before .before .before .before .before .before .before .before .before .pre .1 .1)))
+
+sub-add-observation : tie.Need-sub-add-observation
+sub-add-observation c = search needs
+
+part-add-observation-start : tie.Need-part-add-observation-start
+part-add-observation-start c = search needs
+
+part-add-observation-end : tie.Need-part-add-observation-end
+part-add-observation-end c = search needs
+
+sub-add-observation-2 : tie.Need-sub-add-observation-2
+sub-add-observation-2 c = search needs
+
+part-add-observation-start-2 : tie.Need-part-add-observation-start-2
+part-add-observation-start-2 c = search needs
+
+part-add-observation-end-2 : tie.Need-part-add-observation-end-2
+part-add-observation-end-2 c = search needs
+
+sub-add-observation-3 : tie.Need-sub-add-observation-3
+sub-add-observation-3 c = search needs
+
+part-add-observation-start-3 : tie.Need-part-add-observation-start-3
+part-add-observation-start-3 c = search needs
+
+part-add-observation-end-3 : tie.Need-part-add-observation-end-3
+part-add-observation-end-3 c = omega (arith, mul-le-mul (c .before .before .before .before .before .before .before .before .before .before .before .before .before .before .before .before .before .before .before .before .pre .1 .1) (c .before .before .before .before .before .before .before .before .before .before .before .before .before .before .before .before .before .before .before .before .pre .1 .1))
+
+add-observation-requires : tie.Need-add-observation-requires
+add-observation-requires c κs = search needs
+
+went-requires : tie.Need-went-requires
+went-requires c κs = search needs
+
+same-length : tie.Need-same-length
+same-length c = search needs
+
+returns-2 : tie.Need-returns-2
+returns-2 c = taken (c .before .before .before .before .before .before .before .before .before .before .before .before .before .before .before .before .before .before .before .before .before .before .before .before .before .before .args .g) (c .before .before .before .before .before .before .before .before .before .before .before .before .before .before .before .before .before .before .before .before .before .before .before .before .before .before .args .store .now) (c .before .before .before .before .before .before .before .before .before .before .before .before .before .before .before .before .before .before .before .before .before .before .before .before .before .before .args .bytes .now) (c .before .before .before .before .before .before .before .before .before .before .before .before .before .before .before .before .before .before .before .before .before .before .before .before .before .before .args .keys .now) (c .before .before .before .before .before .before .before .before .before .before .before .before .before .before .before .before .before .before .before .before .before .before .before .before .before .before .args .rows) (c .before .before .before .before .before .before .before .before .before .before .before .before .before .before .before .before .before .before .before .before .before .before .before .before .before .before .args .flag) (c .before .before .before .before .before .before .before .before .before .before .before .before .before .before .before .before .before .before .before .before .before .before .before .before .before .before .args .n) (c .before .before .before .before .before .before .before .before .before .before .before .before .before .before .before .before .before .before .before .before .before .before .before .before .before .before .args .at) _ (c .before .before .before .before .before .before .before .before .before .before .before .before .before .before .before .before .before .before .before .before .before .before .given .ensures .0) (tells (c .before .before .before .before .before .before .before .before .before .before .before .before .before .before .before .before .before .before .before .before .before .cut .ensures) (c .before .before .before .before .before .before .before .before .before .before .before .before .before .before .before .before .before .before .before .before .if1 .left)) _ _ _ (c .before .before .before .add-observation .result) _ _ (front (λ i. numberAt (c .before .before .before .before .before .before .before .before .before .before .before .before .before .before .before .before .before .before .before .before .before .before .before .before .before .before .args .bytes .now) (c .before .before .before .before .before .before .before .before .before .before .before .before .before .before .before .before .before .before .before .before .before .before .before .before .before .before .args .at + 8 * i)) (c .before .before .before .before .before .before .before .before .before .before .before .before .before .before .before .before .before .before .before .before .before .before .before .before .before .before .args .n) _ _ (c .before .before .before .before .before .before .before .before .before .before .before .before .before .before .before .before .before .before .numbers .ensures)) (front (λ i. numberAt (c .before .before .before .before .before .before .before .before .before .before .before .before .before .before .before .before .before .before .before .before .before .before .before .before .before .before .args .bytes .now) (c .before .before .before .before .before .before .before .before .before .before .before .before .before .before .before .before .before .before .before .before .before .before .before .before .before .before .args .at + 8 * c .before .before .before .before .before .before .before .before .before .before .before .before .before .before .before .before .before .before .before .before .before .before .before .before .before .before .args .n + 8 * i)) (c .before .before .before .before .before .before .before .before .before .before .before .before .before .before .before .before .before .before .before .before .before .before .before .before .before .before .args .rows) _ _ (c .before .before .before .before .before .before .before .before .before .before .before .before .before .before .before .numbers2 .ensures)) (variance-front (c .before .before .before .before .before .before .before .before .before .before .before .before .before .before .before .before .before .before .before .before .before .before .before .before .before .before .args .flag) (c .before .before .before .before .before .before .before .before .before .before .before .before .before .before .before .before .before .before .before .before .before .before .before .before .before .before .args .bytes .now) (c .before .before .before .before .before .before .before .before .before .before .before .before .before .before .before .before .before .before .before .before .before .before .before .before .before .before .args .at + 8 * (c .before .before .before .before .before .before .before .before .before .before .before .before .before .before .before .before .before .before .before .before .before .before .before .before .before .before .args .n + c .before .before .before .before .before .before .before .before .before .before .before .before .before .before .before .before .before .before .before .before .before .before .before .before .before .before .args .rows)) (c .before .before .before .before .before .before .before .before .before .before .before .before .before .before .before .before .before .before .before .before .before .before .before .before .before .before .args .rows) _ _ (c .before .before .before .before .before .before .before .before .before .before .before .before .before .before .before .before .before .before .before .before .before .before .before .before .before .before .pre .0 .1) (c .before .before .before .before .before .before .before .before .before .before .before .before .read-variance .ensures)) (c .before .before .before .add-observation .ensures .0) (c .went .ensures) (c .before .before .before .add-observation .ensures .1)
+
+pub read-observed-numbers-spec : {M : Type 1} → statement M
+read-observed-numbers-spec =
+    tie.close
+    (tie.spec
+    mul-square
+    add-all
+    given-requires
+    add-all-2
+    mul-all
+    cut-requires
+    stop-requires
+    returns
+    add-end
+    slice-aggregate-numbers
+    numbers-requires
+    mul-numbers
+    add-numbers
+    slice-aggregate-numbers-2
+    numbers-requires-2
+    add-read-variance
+    mul-read-variance
+    add-read-variance-2
+    slice-aggregate-read-variance
+    read-variance-requires
+    sub-add-observation
+    part-add-observation-start
+    part-add-observation-end
+    sub-add-observation-2
+    part-add-observation-start-2
+    part-add-observation-end-2
+    sub-add-observation-3
+    part-add-observation-start-3
+    part-add-observation-end-3
+    add-observation-requires
+    went-requires
+    same-length
+    returns-2)

@@ -1,0 +1,136 @@
+-- `records::read_prior_numbers` meets its contract: the arrays have room for a key of the largest size. Assumes nothing.
+use Prim.Native.Nat.{ℕ, _+_, _*_}
+use mathlib.Core.Path.{_≡_, refl}
+use mathlib.Core.Bool.{true, false}
+use mathlib.Core.List.{List}
+use native.Mathlib.Nat.{mul-le-mul}
+use native.Mathlib.Omega.{arith}
+use lib.Ieee.{Float}
+use Rattle.factor.proofs.Counting.{tells}
+use Rattle.graph.specs.Registration.{addPrior, priorStore}
+use Rattle.graph.specs.declared.Graph.{Graph}
+use Rattle.graph.specs.declared.Added.{Added}
+use Rattle.graph.specs.declared.refusal.Refusal.the-variants.{BadRecord}
+use Rattle.records.specs.Bytes.{cut, numberAt, numbersAt}
+use Rattle.records.specs.Records.{refuse, priorNumbers, wentTo}
+use Rattle.records.specs.declared.answer.Step.{Step}
+use Rattle.records.proofs.Listing.{front}
+use Rattle.records.proofs.Requests.{Meets, turned, there}
+use borrow.Author.Needs.{needs}
+use Rattle.records.proofs.read_prior_numbers.Statement.{statement}
+use Rattle.records.proofs.read_prior_numbers.Tie as tie
+
+module _ (g : Graph) (store : List Float) (bytes : List ℕ) (key s at : ℕ) where
+  cut-short : cut bytes at (8 * (s + s * s)) ≡ true → priorNumbers store bytes key s at ≡ refuse BadRecord
+  unfolding priorNumbers
+  cut-short h = rw h
+
+  taken : cut bytes at (8 * (s + s * s)) ≡ false → (mean variance : List Float) (added : Added) (r : Step) (t : List Float) → mean ≡ numbersAt bytes at s → variance ≡ numbersAt bytes (at + 8 * s) (s * s)
+      → added ≡ addPrior g key mean variance store → r ≡ wentTo added (at + 8 * (s + s * s)) → t ≡ priorStore g key mean variance store → Meets g store (priorNumbers store bytes key s at) r t
+  unfolding priorNumbers
+  taken h mean variance added r t em ev ea er et = rw (h, ← em, ← ev, ← ea) (er, et)
+
+mul-square : tie.Need-mul-square
+mul-square c = omega (arith, mul-le-mul (c .before .before .pre .1) (c .before .before .pre .1))
+
+add-cut : tie.Need-add-cut
+add-cut c = omega (arith, mul-le-mul (c .before .before .pre .1) (c .before .before .pre .1))
+
+mul-cut : tie.Need-mul-cut
+mul-cut c = omega (arith, mul-le-mul (c .before .before .pre .1) (c .before .before .pre .1))
+
+cut-requires : tie.Need-cut-requires
+cut-requires c κs = search needs
+
+stop-requires : tie.Need-stop-requires
+stop-requires c κs = search needs
+
+returns : tie.Need-returns
+returns c = turned (c .before .before .before .before .before .args .g) (c .before .before .before .before .before .args .store .now) _ _ BadRecord _ (cut-short (c .before .before .before .before .before .args .g) (c .before .before .before .before .before .args .store .now) (c .before .before .before .before .before .args .bytes .now) (c .before .before .before .before .before .args .key) (c .before .before .before .before .before .args .s) (c .before .before .before .before .before .args .at) (tells (c .before .before .cut .ensures) (c .before .if1 .taken))) (c .stop .ensures) refl
+
+add-end : tie.Need-add-end
+add-end c = omega (arith, mul-le-mul (c .before .before .before .before .pre .1) (c .before .before .before .before .pre .1), there (c .before .before .before .before .args .bytes .now) (c .before .before .before .before .args .at) (8 * (c .before .before .before .before .args .s + c .before .before .before .before .args .s * c .before .before .before .before .args .s)) (tells (c .before .cut .ensures) (c .if1 .left)))
+
+mul-end : tie.Need-mul-end
+mul-end c = omega (arith, mul-le-mul (c .before .before .before .before .pre .1) (c .before .before .before .before .pre .1), there (c .before .before .before .before .args .bytes .now) (c .before .before .before .before .args .at) (8 * (c .before .before .before .before .args .s + c .before .before .before .before .args .s * c .before .before .before .before .args .s)) (tells (c .before .cut .ensures) (c .if1 .left)))
+
+add-end-2 : tie.Need-add-end-2
+add-end-2 c = omega (arith, mul-le-mul (c .before .before .before .before .pre .1) (c .before .before .before .before .pre .1), there (c .before .before .before .before .args .bytes .now) (c .before .before .before .before .args .at) (8 * (c .before .before .before .before .args .s + c .before .before .before .before .args .s * c .before .before .before .before .args .s)) (tells (c .before .cut .ensures) (c .if1 .left)))
+
+slice-aggregate-numbers : tie.Need-slice-aggregate-numbers
+slice-aggregate-numbers c = search needs
+
+numbers-requires : tie.Need-numbers-requires
+numbers-requires c κs = omega (arith, mul-le-mul (c .before .before .before .before .before .pre .1) (c .before .before .before .before .before .pre .1), there (c .before .before .before .before .before .args .bytes .now) (c .before .before .before .before .before .args .at) (8 * (c .before .before .before .before .before .args .s + c .before .before .before .before .before .args .s * c .before .before .before .before .before .args .s)) (tells (c .before .before .cut .ensures) (c .before .if1 .left)))
+
+mul-numbers : tie.Need-mul-numbers
+mul-numbers c = omega (arith, mul-le-mul (c .before .before .before .before .before .before .before .pre .1) (c .before .before .before .before .before .before .before .pre .1), there (c .before .before .before .before .before .before .before .args .bytes .now) (c .before .before .before .before .before .before .before .args .at) (8 * (c .before .before .before .before .before .before .before .args .s + c .before .before .before .before .before .before .before .args .s * c .before .before .before .before .before .before .before .args .s)) (tells (c .before .before .before .before .cut .ensures) (c .before .before .before .if1 .left)))
+
+add-numbers : tie.Need-add-numbers
+add-numbers c = omega (arith, mul-le-mul (c .before .before .before .before .before .before .before .pre .1) (c .before .before .before .before .before .before .before .pre .1), there (c .before .before .before .before .before .before .before .args .bytes .now) (c .before .before .before .before .before .before .before .args .at) (8 * (c .before .before .before .before .before .before .before .args .s + c .before .before .before .before .before .before .before .args .s * c .before .before .before .before .before .before .before .args .s)) (tells (c .before .before .before .before .cut .ensures) (c .before .before .before .if1 .left)))
+
+slice-aggregate-numbers-2 : tie.Need-slice-aggregate-numbers-2
+slice-aggregate-numbers-2 c = search needs
+
+numbers-requires-2 : tie.Need-numbers-requires-2
+numbers-requires-2 c κs = omega (arith, mul-le-mul (c .before .before .before .before .before .before .before .before .pre .1) (c .before .before .before .before .before .before .before .before .pre .1), there (c .before .before .before .before .before .before .before .before .args .bytes .now) (c .before .before .before .before .before .before .before .before .args .at) (8 * (c .before .before .before .before .before .before .before .before .args .s + c .before .before .before .before .before .before .before .before .args .s * c .before .before .before .before .before .before .before .before .args .s)) (tells (c .before .before .before .before .before .cut .ensures) (c .before .before .before .before .if1 .left)))
+
+sub-add-prior : tie.Need-sub-add-prior
+sub-add-prior c = search needs
+
+part-add-prior-start : tie.Need-part-add-prior-start
+part-add-prior-start c = search needs
+
+part-add-prior-end : tie.Need-part-add-prior-end
+part-add-prior-end c = omega (arith, mul-le-mul (c .before .before .before .before .before .before .before .before .before .before .before .pre .1) (c .before .before .before .before .before .before .before .before .before .before .before .pre .1))
+
+sub-add-prior-2 : tie.Need-sub-add-prior-2
+sub-add-prior-2 c = search needs
+
+part-add-prior-start-2 : tie.Need-part-add-prior-start-2
+part-add-prior-start-2 c = search needs
+
+part-add-prior-end-2 : tie.Need-part-add-prior-end-2
+part-add-prior-end-2 c = omega (arith, mul-le-mul (c .before .before .before .before .before .before .before .before .before .before .before .before .before .pre .1) (c .before .before .before .before .before .before .before .before .before .before .before .before .before .pre .1))
+
+add-prior-requires : tie.Need-add-prior-requires
+add-prior-requires c κs = search needs
+
+went-requires : tie.Need-went-requires
+went-requires c κs = search needs
+
+same-length : tie.Need-same-length
+same-length c = search needs
+
+returns-2 : tie.Need-returns-2
+returns-2 c = taken (c .before .before .before .before .before .before .before .before .before .before .before .before .before .before .before .before .before .before .before .args .g) (c .before .before .before .before .before .before .before .before .before .before .before .before .before .before .before .before .before .before .before .args .store .now) (c .before .before .before .before .before .before .before .before .before .before .before .before .before .before .before .before .before .before .before .args .bytes .now) (c .before .before .before .before .before .before .before .before .before .before .before .before .before .before .before .before .before .before .before .args .key) (c .before .before .before .before .before .before .before .before .before .before .before .before .before .before .before .before .before .before .before .args .s) (c .before .before .before .before .before .before .before .before .before .before .before .before .before .before .before .before .before .before .before .args .at) (tells (c .before .before .before .before .before .before .before .before .before .before .before .before .before .before .before .before .cut .ensures) (c .before .before .before .before .before .before .before .before .before .before .before .before .before .before .before .if1 .left)) _ _ (c .before .before .before .add-prior .result) _ _ (front (λ i. numberAt (c .before .before .before .before .before .before .before .before .before .before .before .before .before .before .before .before .before .before .before .args .bytes .now) (c .before .before .before .before .before .before .before .before .before .before .before .before .before .before .before .before .before .before .before .args .at + 8 * i)) (c .before .before .before .before .before .before .before .before .before .before .before .before .before .before .before .before .before .before .before .args .s) _ _ (c .before .before .before .before .before .before .before .before .before .before .before .before .before .numbers .ensures)) (front (λ i. numberAt (c .before .before .before .before .before .before .before .before .before .before .before .before .before .before .before .before .before .before .before .args .bytes .now) (c .before .before .before .before .before .before .before .before .before .before .before .before .before .before .before .before .before .before .before .args .at + 8 * c .before .before .before .before .before .before .before .before .before .before .before .before .before .before .before .before .before .before .before .args .s + 8 * i)) (c .before .before .before .before .before .before .before .before .before .before .before .before .before .before .before .before .before .before .before .args .s * c .before .before .before .before .before .before .before .before .before .before .before .before .before .before .before .before .before .before .before .args .s) _ _ (c .before .before .before .before .before .before .before .before .before .before .numbers2 .ensures)) (c .before .before .before .add-prior .ensures .0) (c .went .ensures) (c .before .before .before .add-prior .ensures .1)
+
+pub read-prior-numbers-spec : {M : Type 1} → statement M
+read-prior-numbers-spec =
+    tie.close
+    (tie.spec
+    mul-square
+    add-cut
+    mul-cut
+    cut-requires
+    stop-requires
+    returns
+    add-end
+    mul-end
+    add-end-2
+    slice-aggregate-numbers
+    numbers-requires
+    mul-numbers
+    add-numbers
+    slice-aggregate-numbers-2
+    numbers-requires-2
+    sub-add-prior
+    part-add-prior-start
+    part-add-prior-end
+    sub-add-prior-2
+    part-add-prior-start-2
+    part-add-prior-end-2
+    add-prior-requires
+    went-requires
+    same-length
+    returns-2)

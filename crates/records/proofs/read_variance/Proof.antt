@@ -1,0 +1,79 @@
+-- `records::read_variance` meets its contract, by the meanings of the flag. Assumes nothing.
+use Prim.Native.Nat.{ℕ, _+_, _*_, _≤_}
+use mathlib.Core.Path.{_≡_}
+use mathlib.Core.Bool.{true, false}
+use mathlib.Core.List.{List, _++_}
+use native.Mathlib.Nat.{mul-le-mul}
+use native.Mathlib.Omega.{arith}
+use lib.Ieee.{Float}
+use lib.ListN.{drop}
+use Rattle.records.specs.Bytes.{identityOf, numbersAt}
+use Rattle.records.specs.Records.{flagKnown, given, varianceAt}
+use Rattle.records.specs.declared.kinds.Flag.{Flag}
+use Rattle.records.specs.declared.kinds.Flag.the-variants.{Identity, Given, Unknown}
+use borrow.Author.Needs.{needs}
+use Rattle.records.proofs.read_variance.Statement.{statement}
+use Rattle.records.proofs.read_variance.Tie as tie
+
+has-room : (flag : Flag) (rows at len : ℕ) → flag ≡ Given → at + 8 * given flag rows ≤ len → at + 8 * (rows * rows) ≤ len
+has-room flag rows at len e h = rw e at h
+
+module _ (flag : Flag) (bytes : List ℕ) (at rows : ℕ) (out t : List Float) where
+  of-identity : flag ≡ Identity → t ≡ identityOf rows ++ drop (rows * rows) out → t ≡ varianceAt flag bytes at rows ++ drop (rows * rows) out
+  of-identity e h = rw e h
+
+  of-given : flag ≡ Given → t ≡ numbersAt bytes at (rows * rows) ++ drop (rows * rows) out → t ≡ varianceAt flag bytes at rows ++ drop (rows * rows) out
+  of-given e h = rw e h
+
+  -- no record comes so far with an unknown flag
+  of-none : flag ≡ Unknown → flagKnown flag ≡ true → t ≡ varianceAt flag bytes at rows ++ drop (rows * rows) out
+  of-none e h = let k : false ≡ true = rw e at h in cc
+
+enum-told : tie.Need-enum-told
+enum-told c = search needs
+
+identity-requires : tie.Need-identity-requires
+identity-requires c κs = search needs
+
+enum-told-2 : tie.Need-enum-told-2
+enum-told-2 c = search needs
+
+mul-numbers : tie.Need-mul-numbers
+mul-numbers c = omega (arith, mul-le-mul (c .before .before .before .before .before .pre .1 .1) (c .before .before .before .before .before .pre .1 .1))
+
+numbers-requires : tie.Need-numbers-requires
+numbers-requires c κs = (has-room (c .before .before .before .before .before .args .flag) (c .before .before .before .before .before .args .rows) (c .before .before .before .before .before .args .at) _ (c .before .enum-told2 .given .1) (c .before .before .before .before .before .pre .0 .0), c .before .before .before .before .before .pre .1 .2)
+
+enum-told-3 : tie.Need-enum-told-3
+enum-told-3 c = search needs
+
+same-length : tie.Need-same-length
+same-length c = search needs
+
+returns : tie.Need-returns
+returns c = of-identity (c .before .before .before .before .before .before .before .before .args .flag) (c .before .before .before .before .before .before .before .before .args .bytes .now) (c .before .before .before .before .before .before .before .before .args .at) (c .before .before .before .before .before .before .before .before .args .rows) (c .before .before .before .before .before .before .before .before .args .out .now) _ (c .before .before .before .before .enum-told .given .1) (c .before .before .identity .ensures)
+
+same-length-2 : tie.Need-same-length-2
+same-length-2 c = search needs
+
+returns-2 : tie.Need-returns-2
+returns-2 c = of-given (c .before .before .before .before .before .before .before .before .args .flag) (c .before .before .before .before .before .before .before .before .args .bytes .now) (c .before .before .before .before .before .before .before .before .args .at) (c .before .before .before .before .before .before .before .before .args .rows) (c .before .before .before .before .before .before .before .before .args .out .now) _ (c .before .before .before .before .enum-told2 .given .1) (c .before .before .numbers .ensures)
+
+returns-3 : tie.Need-returns-3
+returns-3 c = of-none (c .before .before .before .before .args .flag) (c .before .before .before .before .args .bytes .now) (c .before .before .before .before .args .at) (c .before .before .before .before .args .rows) (c .before .before .before .before .args .out .now) _ (c .enum-told3 .given .1) (c .before .before .before .before .pre .0 .1)
+
+pub read-variance-spec : {M : Type 1} → statement M
+read-variance-spec =
+    tie.close
+    (tie.spec
+    enum-told
+    identity-requires
+    enum-told-2
+    mul-numbers
+    numbers-requires
+    enum-told-3
+    same-length
+    returns
+    same-length-2
+    returns-2
+    returns-3)

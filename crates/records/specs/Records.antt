@@ -1,0 +1,185 @@
+-- What the records of a job ask for, and what reading them all comes to. Definitions only.
+use mathlib.Core.Bool.{Bool, true, false, not, cond, _&&_}
+use mathlib.Core.List.{List, []}
+use Prim.Native.Nat.{ℕ, zero, suc, _+_, _*_}
+use lib.Dec.{ltb, eqb}
+use lib.Ieee.{Float}
+use lib.ListN.{length}
+use Rattle.factor.specs.Factor.{rising, known, observationOf, aNumbers}
+use Rattle.graph.specs.Record.{sizeAt, fresh}
+use Rattle.graph.specs.Registration.{addVariable, addPrior, priorStore, countsFit, addObservation, observationStore}
+use Rattle.graph.specs.Reached.{Call, variable, prior, observation}
+use Rattle.graph.specs.declared.Graph.{Graph}
+use Rattle.graph.specs.declared.Added.{Added}
+use Rattle.graph.specs.declared.Outcome.{Outcome}
+use Rattle.graph.specs.declared.Outcome.the-variants as outcome
+use Rattle.graph.specs.declared.refusal.Refusal.{Refusal}
+use Rattle.graph.specs.declared.refusal.Refusal.the-variants.{KeysNotRising, CountOutside, BadRecord, NoSuchKey}
+use Rattle.records.specs.Bytes.{float-bytes, byteAt, cut, wordAt, keysAt, numbersAt, identityOf}
+use Rattle.records.specs.declared.kinds.Mark.{Mark}
+use Rattle.records.specs.declared.kinds.Mark.the-variants as mark
+use Rattle.records.specs.declared.kinds.Flag.{Flag}
+use Rattle.records.specs.declared.kinds.Flag.the-variants.{Identity, Given, Unknown}
+use Rattle.records.specs.declared.answer.Next.{Next}
+use Rattle.records.specs.declared.answer.Next.the-variants.{At, Stop}
+use Rattle.records.specs.declared.answer.Step.{Step}
+use Rattle.records.specs.declared.answer.Ended.{Ended}
+use Rattle.records.specs.declared.answer.Ended.the-variants.{Whole, Refused}
+use Rattle.records.specs.declared.answer.Read.{Read}
+
+-- what a record asks for: a registering call, with the place of the record after it, or nothing, because it is turned back
+pub data Request : Type 0 where
+  ask : Call → ℕ → Request
+  refuse : Refusal → Request
+
+-- the bytes of a mark, of a variable after its mark, and of an observation's counts and flag
+abbrev pub mark-bytes : ℕ
+mark-bytes = 2
+
+abbrev pub variable-bytes : ℕ
+variable-bytes = 9
+
+abbrev pub header-bytes : ℕ
+header-bytes = 3
+
+-- ---- a variable: letter, index and size
+
+unfoldable pub variableAt : List ℕ → ℕ → Request
+variableAt bytes at =
+    cond (cut bytes at variable-bytes) (refuse BadRecord)
+    (ask (variable (wordAt bytes at, wordAt bytes (at + 4)) (byteAt bytes (at + 8))) (at + variable-bytes))
+
+-- ---- a prior: key, means and variance
+
+-- from the means on, of a key of size s
+unfoldable pub priorNumbers : List Float → List ℕ → ℕ → ℕ → ℕ → Request
+priorNumbers store bytes key s at =
+    cond (cut bytes at (float-bytes * (s + s * s))) (refuse BadRecord)
+    (ask (prior key (numbersAt bytes at s) (numbersAt bytes (at + float-bytes * s) (s * s)) store) (at + float-bytes * (s + s * s)))
+
+unfoldable pub priorAt : Graph → List Float → List ℕ → ℕ → Request
+priorAt g store bytes at =
+    cond (cut bytes at 1) (refuse BadRecord)
+    (cond (not (ltb (byteAt bytes at) (g .variables))) (refuse NoSuchKey)
+    (priorNumbers store bytes (byteAt bytes at) (sizeAt g (byteAt bytes at)) (at + 1)))
+
+-- ---- an observation: counts of keys and rows, flag, keys, A, means and, if the flag says so, the variance
+
+-- what a flag means
+unfoldable pub meaning : ℕ → Flag
+meaning flag = cond (eqb flag 0) Identity (cond (eqb flag 1) Given Unknown)
+
+abbrev pub flagKnown : Flag → Bool
+flagKnown Identity = true
+flagKnown Given = true
+flagKnown Unknown = false
+
+-- how many numbers of the variance of y rows follow, and the variance
+abbrev pub given : Flag → ℕ → ℕ
+given Identity y = 0
+given Given y = y * y
+given Unknown y = 0
+
+abbrev pub varianceAt : Flag → List ℕ → ℕ → ℕ → List Float
+varianceAt Identity bytes at y = identityOf y
+varianceAt Given bytes at y = numbersAt bytes at (y * y)
+varianceAt Unknown bytes at y = []
+
+-- from the numbers on, of which A takes n
+unfoldable pub observedNumbers : List Float → List ℕ → List ℕ → ℕ → Flag → ℕ → ℕ → Request
+observedNumbers store bytes keys rows flag n at =
+    cond (cut bytes at (float-bytes * (n + rows + given flag rows))) (refuse BadRecord)
+    (ask (observation keys rows (numbersAt bytes at n) (numbersAt bytes (at + float-bytes * n) rows) (varianceAt flag bytes (at + float-bytes * (n + rows)) rows) store) (at + float-bytes * (n + rows + given flag rows)))
+
+-- from the judging of the keys on
+unfoldable pub observed : Graph → List Float → List ℕ → List ℕ → ℕ → Flag → ℕ → Request
+observed g store bytes keys rows flag at =
+    cond (not (rising keys)) (refuse KeysNotRising)
+    (cond (not (known (g .variables) keys)) (refuse NoSuchKey)
+    (observedNumbers store bytes keys rows flag (aNumbers (g .sizes) (observationOf keys rows)) at))
+
+unfoldable pub observationAt : Graph → List Float → List ℕ → ℕ → Request
+observationAt g store bytes at =
+    cond (cut bytes at header-bytes) (refuse BadRecord)
+    (cond (not (flagKnown (meaning (byteAt bytes (at + 2))))) (refuse BadRecord)
+    (cond (not (countsFit (byteAt bytes at) (byteAt bytes (at + 1)))) (refuse CountOutside)
+    (cond (cut bytes (at + header-bytes) (byteAt bytes at)) (refuse BadRecord)
+    (observed g store bytes (keysAt bytes (at + header-bytes) (byteAt bytes at)) (byteAt bytes (at + 1)) (meaning (byteAt bytes (at + 2))) (at + header-bytes + byteAt bytes at)))))
+
+-- ---- a record: a mark, then its kind
+
+-- VA, PR and OB in ASCII
+unfoldable pub markOf : ℕ → ℕ → Mark
+markOf a b =
+    cond (eqb a 0x56 && eqb b 0x41) mark.Variable
+    (cond (eqb a 0x50 && eqb b 0x52) mark.Prior
+    (cond (eqb a 0x4F && eqb b 0x42) mark.Observation mark.Unmarked))
+
+abbrev pub marked : Mark → Graph → List Float → List ℕ → ℕ → Request
+marked mark.Variable g store bytes at = variableAt bytes at
+marked mark.Prior g store bytes at = priorAt g store bytes at
+marked mark.Observation g store bytes at = observationAt g store bytes at
+marked mark.Unmarked g store bytes at = refuse BadRecord
+
+unfoldable pub recordAt : Graph → List Float → List ℕ → ℕ → Request
+recordAt g store bytes at =
+    cond (cut bytes at mark-bytes) (refuse BadRecord)
+    (marked (markOf (byteAt bytes at) (byteAt bytes (at + 1))) g store bytes (at + mark-bytes))
+
+-- ---- what a request comes to
+
+abbrev pub called : Graph → Call → Added
+called g (variable name size) = addVariable g name size
+called g (prior key mean variance store) = addPrior g key mean variance store
+called g (observation keys rows a mean variance store) = addObservation g keys rows a mean variance store
+
+abbrev pub storeOf : Graph → List Float → Call → List Float
+storeOf g store (variable name size) = store
+storeOf g store (prior key mean variance lent) = priorStore g key mean variance lent
+storeOf g store (observation keys rows a mean variance lent) = observationStore g keys rows a mean variance lent
+
+-- an accepted record leads to the next one
+abbrev pub nextOf : Outcome → ℕ → Next
+nextOf (outcome.Key key) next = At next
+nextOf (outcome.Number number) next = At next
+nextOf (outcome.Refused why) next = Stop why
+
+abbrev pub wentTo : Added → ℕ → Step
+wentTo added next = record { graph = added .graph; next = nextOf (added .outcome) next }
+
+abbrev pub stopped : Graph → Refusal → Step
+stopped g why = record { graph = g; next = Stop why }
+
+abbrev pub stepOf : Graph → Request → Step
+stepOf g (ask call next) = wentTo (called g call) next
+stepOf g (refuse why) = stopped g why
+
+abbrev pub storeAfter : Graph → List Float → Request → List Float
+storeAfter g store (ask call next) = storeOf g store call
+storeAfter g store (refuse why) = store
+
+-- ---- all records
+
+-- the answer and the store
+pub record Reading : Type 0 where
+  pub answer : Read
+  pub store : List Float
+
+abbrev pub reading : Graph → Ended → List Float → Reading
+reading g ended store = record { answer = record { graph = g; ended = ended }; store = store }
+
+abbrev pub onward : Next → Graph → List Float → ℕ → (ℕ → Reading) → Reading
+onward (At next) g store place rest = rest next
+onward (Stop why) g store place rest = reading g (Refused why place) store
+
+-- The records from a byte on; `place` counts them from 0. Each takes two bytes or more, so as many turns as there are bytes suffice.
+unfoldable pub readFrom : ℕ → List ℕ → ℕ → ℕ → Graph → List Float → Reading
+readFrom zero bytes at place g store = reading g Whole store
+readFrom (suc turns) bytes at place g store =
+    cond (ltb at (length bytes))
+    (onward (stepOf g (recordAt g store bytes at) .next) (stepOf g (recordAt g store bytes at) .graph) (storeAfter g store (recordAt g store bytes at)) place
+    (λ next. readFrom turns bytes next (place + 1) (stepOf g (recordAt g store bytes at) .graph) (storeAfter g store (recordAt g store bytes at))))
+    (reading g Whole store)
+
+unfoldable pub readAll : List ℕ → List Float → Reading
+readAll bytes store = readFrom (length bytes) bytes 0 0 fresh store

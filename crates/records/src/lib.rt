@@ -1,0 +1,294 @@
+// A job file read into a graph, record by record.
+pub mod answer;
+mod input;
+mod kinds;
+
+use answer::Ended;
+use answer::Next;
+use answer::Read;
+use answer::Step;
+use factor::limits::KEYS;
+use factor::limits::ROWS;
+use factor::limits::SIZE;
+use factor::limits::SQUARE;
+use factor::limits::TOTAL;
+use graph::Added;
+use graph::Graph;
+use graph::Outcome;
+use graph::Symbol;
+use graph::refusal::Refusal;
+use input::FLOAT_BYTES;
+use input::byte;
+use input::cut;
+use input::word;
+use kinds::Flag;
+use kinds::HEADER_BYTES;
+use kinds::MARK_BYTES;
+use kinds::Mark;
+use kinds::VARIABLE_BYTES;
+ghost use mathlib.Core.Path.{_≡_};
+ghost use mathlib.Core.Bool.{true};
+ghost use mathlib.Core.List.{_++_};
+ghost use Prim.Native.Nat.{_+_, _*_, _≤_};
+ghost use lib.ListN.{length, drop};
+ghost use Rattle.factor.specs.Limits.{max-size, max-total, max-rows};
+ghost use Rattle.graph.specs.Record.{valid};
+ghost use Rattle.graph.specs.Registration.{countsFit};
+ghost use Rattle.records.specs.Bytes.{float-bytes};
+ghost use Rattle.records.specs.Records as spec;
+
+// The graph as it came, and why.
+fn stop(g: Graph, why: Refusal) -> Step
+    ensures { λ r. ⌜ r ≡ spec.stopped g why ⌝ }
+{
+    Step {
+        graph: g,
+        next: Next::Stop(why),
+    }
+}
+
+// What a registering call answered; an accepted record leads to the next one.
+fn went(added: Added, next: usize) -> Step
+    ensures { λ r. ⌜ r ≡ spec.wentTo added next ⌝ }
+{
+    let g = added.graph;
+    let outcome = added.outcome;
+    match outcome {
+        Outcome::Key(_) => Step {
+            graph: g,
+            next: Next::At(next),
+        },
+        Outcome::Number(_) => Step {
+            graph: g,
+            next: Next::At(next),
+        },
+        Outcome::Refused(why) => stop(g, why),
+    }
+}
+
+// A variable, from its letter on.
+fn read_variable(g: Graph, bytes: &[u8], at: usize) -> Step
+    requires { ⌜ at ≤ length (now bytes) ⌝ }
+    ensures { λ r. ⌜ r ≡ spec.stepOf g (spec.variableAt (now (bytes .entry)) at) ⌝ }
+{
+    if cut(bytes, at, VARIABLE_BYTES) {
+        return stop(g, Refusal::BadRecord);
+    }
+    let letter = word(bytes, at);
+    let index = word(bytes, at + 4);
+    let size = byte(bytes, at + 8);
+    let added = g.add_variable(Symbol(letter, index), size);
+    went(added, at + VARIABLE_BYTES)
+}
+
+// A prior on a key of size s, from its means on.
+fn read_prior_numbers(
+    g: Graph,
+    bytes: &[u8],
+    at: usize,
+    key: usize,
+    s: usize,
+    store: &mut [f64],
+) -> Step
+    requires { ⌜ (at ≤ length (now bytes)) × (s ≤ max-size) ⌝ }
+    ensures { λ r. ⌜ r ≡ spec.stepOf g (spec.priorNumbers (now (store .entry)) (now (bytes .entry)) key s at) ⌝ }
+    ensures { λ _. ⌜ now (store .exit) ≡ spec.storeAfter g (now (store .entry)) (spec.priorNumbers (now (store .entry)) (now (bytes .entry)) key s at) ⌝ }
+{
+    let square = s * s;
+    if cut(bytes, at, FLOAT_BYTES * (s + square)) {
+        return stop(g, Refusal::BadRecord);
+    }
+    let end = at + FLOAT_BYTES * (s + square);
+    let mut mean = [0.0; SIZE];
+    let mut variance = [0.0; SIZE * SIZE];
+    input::numbers(bytes, at, &mut mean, s);
+    input::numbers(bytes, at + FLOAT_BYTES * s, &mut variance, square);
+    let added = g.add_prior(key, &mean[0..s], &variance[0..square], store);
+    went(added, end)
+}
+
+// A prior, from its key on.
+fn read_prior(g: Graph, bytes: &[u8], at: usize, store: &mut [f64]) -> Step
+    requires { ⌜ (valid g ≡ true) × (at ≤ length (now bytes)) ⌝ }
+    ensures { λ r. ⌜ r ≡ spec.stepOf g (spec.priorAt g (now (store .entry)) (now (bytes .entry)) at) ⌝ }
+    ensures { λ _. ⌜ now (store .exit) ≡ spec.storeAfter g (now (store .entry)) (spec.priorAt g (now (store .entry)) (now (bytes .entry)) at) ⌝ }
+{
+    if cut(bytes, at, 1) {
+        return stop(g, Refusal::BadRecord);
+    }
+    let key = byte(bytes, at);
+    if g.variables <= key {
+        return stop(g, Refusal::NoSuchKey);
+    }
+    let sizes = g.sizes;
+    let s = factor::size_of(sizes, key);
+    read_prior_numbers(g, bytes, at + 1, key, s, store)
+}
+
+// The first numbers of out become the variance that the flag says.
+fn read_variance(bytes: &[u8], at: usize, flag: Flag, rows: usize, out: &mut [f64])
+    requires { ⌜ (at + float-bytes * spec.given flag rows ≤ length (now bytes)) × (spec.flagKnown flag ≡ true) ⌝ }
+    requires { ⌜ (1 ≤ rows) × (rows ≤ max-rows) × (rows * rows ≤ length (now out)) ⌝ }
+    ensures { λ _. ⌜ now (out .exit) ≡ spec.varianceAt flag (now (bytes .entry)) at rows ++ drop (rows * rows) (now (out .entry)) ⌝ }
+{
+    match flag {
+        Flag::Identity => input::identity(out, rows),
+        Flag::Given => input::numbers(bytes, at, out, rows * rows),
+        Flag::Unknown => {}
+    }
+}
+
+// An observation of known keys, from its numbers on, of which A takes n.
+fn read_observed_numbers(
+    g: Graph,
+    bytes: &[u8],
+    at: usize,
+    keys: &[usize],
+    rows: usize,
+    flag: Flag,
+    n: usize,
+    store: &mut [f64],
+) -> Step
+    requires { ⌜ (at ≤ length (now bytes)) × (spec.flagKnown flag ≡ true) ⌝ }
+    requires { ⌜ (1 ≤ rows) × (rows ≤ max-rows) × (n ≤ max-rows * max-total) ⌝ }
+    ensures { λ r. ⌜ r ≡ spec.stepOf g (spec.observedNumbers (now (store .entry)) (now (bytes .entry)) (now (keys .entry)) rows flag n at) ⌝ }
+    ensures { λ _. ⌜ now (store .exit) ≡ spec.storeAfter g (now (store .entry)) (spec.observedNumbers (now (store .entry)) (now (bytes .entry)) (now (keys .entry)) rows flag n at) ⌝ }
+{
+    let square = rows * rows;
+    let all = FLOAT_BYTES * (n + rows + kinds::given(flag, rows));
+    if cut(bytes, at, all) {
+        return stop(g, Refusal::BadRecord);
+    }
+    let end = at + all;
+    let mut a = [0.0; ROWS * TOTAL];
+    let mut mean = [0.0; ROWS];
+    let mut variance = [0.0; SQUARE];
+    input::numbers(bytes, at, &mut a, n);
+    input::numbers(bytes, at + FLOAT_BYTES * n, &mut mean, rows);
+    read_variance(
+        bytes,
+        at + FLOAT_BYTES * (n + rows),
+        flag,
+        rows,
+        &mut variance,
+    );
+    let added = g.add_observation(
+        keys,
+        rows,
+        &a[0..n],
+        &mean[0..rows],
+        &variance[0..square],
+        store,
+    );
+    went(added, end)
+}
+
+// An observation, from the judging of its keys on.
+fn read_observed(
+    g: Graph,
+    bytes: &[u8],
+    at: usize,
+    keys: &[usize],
+    rows: usize,
+    flag: Flag,
+    store: &mut [f64],
+) -> Step
+    requires { ⌜ (valid g ≡ true) × (at ≤ length (now bytes)) ⌝ }
+    requires { ⌜ (countsFit (length (now keys)) rows ≡ true) × (spec.flagKnown flag ≡ true) ⌝ }
+    ensures { λ r. ⌜ r ≡ spec.stepOf g (spec.observed g (now (store .entry)) (now (bytes .entry)) (now (keys .entry)) rows flag at) ⌝ }
+    ensures { λ _. ⌜ now (store .exit) ≡ spec.storeAfter g (now (store .entry)) (spec.observed g (now (store .entry)) (now (bytes .entry)) (now (keys .entry)) rows flag at) ⌝ }
+{
+    if !factor::rising(keys) {
+        return stop(g, Refusal::KeysNotRising);
+    }
+    if !factor::known(g.variables, keys) {
+        return stop(g, Refusal::NoSuchKey);
+    }
+    let sizes = g.sizes;
+    let f = factor::observation_of(keys, rows);
+    let n = f.a_numbers(sizes);
+    read_observed_numbers(g, bytes, at, keys, rows, flag, n, store)
+}
+
+// An observation, from its counts on.
+fn read_observation(g: Graph, bytes: &[u8], at: usize, store: &mut [f64]) -> Step
+    requires { ⌜ (valid g ≡ true) × (at ≤ length (now bytes)) ⌝ }
+    ensures { λ r. ⌜ r ≡ spec.stepOf g (spec.observationAt g (now (store .entry)) (now (bytes .entry)) at) ⌝ }
+    ensures { λ _. ⌜ now (store .exit) ≡ spec.storeAfter g (now (store .entry)) (spec.observationAt g (now (store .entry)) (now (bytes .entry)) at) ⌝ }
+{
+    if cut(bytes, at, HEADER_BYTES) {
+        return stop(g, Refusal::BadRecord);
+    }
+    let count = byte(bytes, at);
+    let rows = byte(bytes, at + 1);
+    let flag = kinds::meaning(byte(bytes, at + 2));
+    if !kinds::flag_known(flag) {
+        return stop(g, Refusal::BadRecord);
+    }
+    if !kinds::counts_fit(count, rows) {
+        return stop(g, Refusal::CountOutside);
+    }
+    if cut(bytes, at + HEADER_BYTES, count) {
+        return stop(g, Refusal::BadRecord);
+    }
+    let mut keys = [0usize; KEYS];
+    input::keys(bytes, at + HEADER_BYTES, &mut keys, count);
+    read_observed(
+        g,
+        bytes,
+        at + HEADER_BYTES + count,
+        &keys[0..count],
+        rows,
+        flag,
+        store,
+    )
+}
+
+// A record, from its mark on.
+fn read_record(g: Graph, bytes: &[u8], at: usize, store: &mut [f64]) -> Step
+    requires { ⌜ (valid g ≡ true) × (at ≤ length (now bytes)) ⌝ }
+    ensures { λ r. ⌜ r ≡ spec.stepOf g (spec.recordAt g (now (store .entry)) (now (bytes .entry)) at) ⌝ }
+    ensures { λ _. ⌜ now (store .exit) ≡ spec.storeAfter g (now (store .entry)) (spec.recordAt g (now (store .entry)) (now (bytes .entry)) at) ⌝ }
+{
+    if cut(bytes, at, MARK_BYTES) {
+        return stop(g, Refusal::BadRecord);
+    }
+    let mark = kinds::mark_of(byte(bytes, at), byte(bytes, at + 1));
+    match mark {
+        Mark::Variable => read_variable(g, bytes, at + MARK_BYTES),
+        Mark::Prior => read_prior(g, bytes, at + MARK_BYTES, store),
+        Mark::Observation => read_observation(g, bytes, at + MARK_BYTES, store),
+        Mark::Unmarked => stop(g, Refusal::BadRecord),
+    }
+}
+
+// All records, to the end or to the first that is turned back.
+pub fn read(bytes: &[u8], store: &mut [f64]) -> Read
+    ensures { λ r. ⌜ (r ≡ spec.readAll (now (bytes .entry)) (now (store .entry)) .answer) × (valid (r .graph) ≡ true) ⌝ }
+    ensures { λ _. ⌜ now (store .exit) ≡ spec.readAll (now (bytes .entry)) (now (store .entry)) .store ⌝ }
+{
+    let mut g = Graph::new();
+    let mut at = 0;
+    let mut place = 0;
+    while at < bytes.len() {
+        let step = read_record(g, bytes, at, store);
+        g = step.graph;
+        let next = step.next;
+        match next {
+            Next::At(after) => {
+                at = after;
+            }
+            Next::Stop(why) => {
+                return Read {
+                    graph: g,
+                    ended: Ended::Refused(why, place),
+                };
+            }
+        }
+        place += 1;
+    }
+    Read {
+        graph: g,
+        ended: Ended::Whole,
+    }
+}

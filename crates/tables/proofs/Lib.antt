@@ -1,0 +1,6 @@
+-- Laws that several proofs cite.
+pub mod Writing
+pub mod Heads
+pub mod Filling
+pub mod OriginalsRead
+pub mod Dimensions

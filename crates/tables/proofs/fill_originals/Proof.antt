@@ -1,0 +1,74 @@
+-- `tables::fill_originals` meets its contract. The loop's invariant: the factors passed are entered, and the place is where the next one's numbers begin. Assumes nothing.
+use Prim.Native.Nat.{_*_, _-_, _≤_, _<_, ℕ}
+use mathlib.Core.Path.{_∙_, _≡_, refl}
+use native.Mathlib.Omega.{arith}
+use borrow.Author.Needs.{needs}
+use lib.ListN.{length}
+use Rattle.factor.specs.Limits.{most-numbers}
+use Rattle.graph.proofs.Validity.{valid-count, valid-touched}
+use Rattle.graph.specs.Record.{factorAt, offset}
+use Rattle.tables.proofs.Filling.{entered-more, next-offset, none-entered, no-offset}
+use Rattle.tables.specs.Originals.{Entered}
+use Rattle.tables.proofs.fill_originals.Statement.{statement}
+use Rattle.tables.proofs.fill_originals.Tie as tie
+
+abbrev Inv-loop : tie.InvT-loop
+Inv-loop keys₀ heads₀ g sizes count at₀ number₀ keys heads at number = (number ≤ count) × (count ≡ g .count) × (sizes ≡ g .sizes) × (at ≤ most-numbers * number) × (at ≡ offset g number) × (length keys ≡ length keys₀) × (length heads ≡ length heads₀) × ((k : ℕ) → k < number → Entered g keys heads k)
+
+abbrev μ-loop : tie.MeasureT-loop
+μ-loop keys₀ heads₀ g sizes count at₀ number₀ keys heads at number = count - number
+
+loop-holds : tie.Need-loop-holds Inv-loop μ-loop
+loop-holds c = (search needs, refl, refl, search needs, no-offset _, refl, refl, none-entered _ _ _)
+
+mul-f : tie.Need-mul-f Inv-loop μ-loop
+mul-f c = omega (arith, valid-count (c .before .before .before .before .before .args .t1) (c .before .before .before .before .before .pre .0))
+
+element-copy-out-f : tie.Need-element-copy-out-f Inv-loop μ-loop
+element-copy-out-f c = omega (arith, valid-count (c .before .before .before .before .before .args .t1) (c .before .before .before .before .before .pre .0))
+
+put-original-requires : tie.Need-put-original-requires Inv-loop μ-loop
+put-original-requires c κs = ((omega (arith, c .before .before .before .before .loop .inv .1, valid-count (c .before .before .before .before .before .before .before .before .args .t1) (c .before .before .before .before .before .before .before .before .pre .0)), valid-touched (c .before .before .before .before .before .before .before .before .args .t1) (c .before .before .before .before .before .before .before .before .pre .0) (c .before .before .before .before .loop .number) (omega (arith, c .before .before .before .before .loop .inv .1))), (omega (arith, c .before .before .before .before .loop .inv .5, c .before .before .before .before .before .before .before .before .pre .1 .0), omega (arith, c .before .before .before .before .loop .inv .6, c .before .before .before .before .before .before .before .before .pre .1 .1)))
+
+numbers-requires : tie.Need-numbers-requires Inv-loop μ-loop
+numbers-requires c κs = valid-touched (c .before .before .before .before .before .before .before .before .before .before .before .before .before .args .t1) (c .before .before .before .before .before .before .before .before .before .before .before .before .before .pre .0) (c .before .before .before .before .before .before .before .before .before .loop .number) (omega (arith, c .before .before .before .before .before .before .before .before .before .loop .inv .1))
+
+add-at : tie.Need-add-at Inv-loop μ-loop
+add-at c = omega (arith, c .numbers .ensures .1, c .before .before .before .before .before .before .before .before .before .before .loop .inv .3, c .before .before .before .before .before .before .before .before .before .before .loop .inv .1, valid-count (c .before .before .before .before .before .before .before .before .before .before .before .before .before .before .args .t1) (c .before .before .before .before .before .before .before .before .before .before .before .before .before .before .pre .0))
+
+add-number : tie.Need-add-number Inv-loop μ-loop
+add-number c = search needs
+
+loop-less : tie.Need-loop-less Inv-loop μ-loop
+loop-less c = search needs
+
+loop-again : tie.Need-loop-again Inv-loop μ-loop
+loop-again c = (omega arith, c .before .before .before .before .before .before .before .before .before .before .loop .inv .1, c .before .before .before .before .before .before .before .before .before .before .loop .inv .2, omega (arith, c .numbers .ensures .1, c .before .before .before .before .before .before .before .before .before .before .loop .inv .3), next-offset (c .before .before .before .before .before .before .before .before .before .before .before .before .before .before .args .t1) (c .before .before .before .before .before .before .before .before .before .before .loop .number) (c .before .before .before .before .before .before .before .before .before .before .loop .at) _ (factorAt (c .before .before .before .before .before .before .before .before .before .before .before .before .before .before .args .t1) (c .before .before .before .before .before .before .before .before .before .before .loop .number)) refl (c .before .before .before .before .before .before .before .before .before .before .loop .inv .4) (c .numbers .ensures .0), c .before .before .before .before .before .put-original .kept .1 .1 .1 .1 .0 ∙ c .before .before .before .before .before .before .before .before .before .before .loop .inv .5, c .before .before .before .before .before .put-original .kept .1 .1 .1 .1 .1 .0 ∙ c .before .before .before .before .before .before .before .before .before .before .loop .inv .6, entered-more (c .before .before .before .before .before .before .before .before .before .before .before .before .before .before .args .t1) (c .before .before .before .before .before .before .before .before .before .before .before .before .before .before .pre .0) (c .before .before .before .before .before .before .before .before .before .before .loop .keys) (c .before .before .before .before .before .before .before .before .before .before .loop .heads) (omega (arith, c .before .before .before .before .before .before .before .before .before .before .loop .inv .5, c .before .before .before .before .before .before .before .before .before .before .before .before .before .before .pre .1 .0)) (omega (arith, c .before .before .before .before .before .before .before .before .before .before .loop .inv .6, c .before .before .before .before .before .before .before .before .before .before .before .before .before .before .pre .1 .1)) (c .before .before .before .before .before .before .before .before .before .before .loop .number) (c .before .before .before .before .before .before .before .before .before .before .loop .at) (factorAt (c .before .before .before .before .before .before .before .before .before .before .before .before .before .before .args .t1) (c .before .before .before .before .before .before .before .before .before .before .loop .number)) _ _ (omega (arith, c .before .before .before .before .before .before .before .before .before .before .loop .inv .1)) (c .before .before .before .before .before .before .before .before .before .before .loop .inv .4) refl (c .before .before .before .before .before .put-original .ensures .0) (c .before .before .before .before .before .put-original .ensures .1) (c .before .before .before .before .before .before .before .before .before .before .loop .inv .7))
+
+same-length : tie.Need-same-length Inv-loop μ-loop
+same-length c = c .before .loop .inv .5
+
+same-length-2 : tie.Need-same-length-2 Inv-loop μ-loop
+same-length-2 c = c .before .loop .inv .6
+
+returns : tie.Need-returns Inv-loop μ-loop
+returns c = record { long-keys = omega (arith, c .before .loop .inv .5, c .before .before .before .before .before .pre .1 .0); long-heads = omega (arith, c .before .loop .inv .6, c .before .before .before .before .before .pre .1 .1); entered = λ i l. c .before .loop .inv .7 i (omega (arith, c .before .loop .inv .1)) }
+
+pub fill-originals-spec : {M : Type 1} → statement M
+fill-originals-spec =
+    tie.close
+    (tie.spec
+    Inv-loop
+    μ-loop
+    loop-holds
+    mul-f
+    element-copy-out-f
+    put-original-requires
+    numbers-requires
+    add-at
+    add-number
+    loop-less
+    loop-again
+    same-length
+    same-length-2
+    returns)

@@ -1,0 +1,100 @@
+-- `tables::put_head` meets its contract: six stores in a row. Assumes nothing.
+use Prim.Native.Nat.{_*_}
+use native.Mathlib.Omega.{arith}
+use borrow.Author.Needs.{needs}
+use lib.ListN.{length-set}
+use Rattle.slots.specs.Limits.{head-numbers}
+use Rattle.tables.proofs.Writing.{six-laid}
+use Rattle.tables.specs.Originals.{withHead}
+use Rattle.tables.proofs.put_head.Statement.{statement}
+use Rattle.tables.proofs.put_head.Tie as tie
+
+mul-p : tie.Need-mul-p
+mul-p c = search needs
+
+mark-requires : tie.Need-mark-requires
+mark-requires c κs = search needs
+
+mul-heads : tie.Need-mul-heads
+mul-heads c = search needs
+
+slice-write-heads : tie.Need-slice-write-heads
+slice-write-heads c = search needs
+
+add-heads : tie.Need-add-heads
+add-heads c = search needs
+
+mul-heads-2 : tie.Need-mul-heads-2
+mul-heads-2 c = search needs
+
+slice-write-heads-2 : tie.Need-slice-write-heads-2
+slice-write-heads-2 c = simp length-set (omega arith)
+
+add-heads-2 : tie.Need-add-heads-2
+add-heads-2 c = search needs
+
+mul-heads-3 : tie.Need-mul-heads-3
+mul-heads-3 c = search needs
+
+slice-write-heads-3 : tie.Need-slice-write-heads-3
+slice-write-heads-3 c = simp length-set (omega arith)
+
+add-heads-3 : tie.Need-add-heads-3
+add-heads-3 c = search needs
+
+mul-heads-4 : tie.Need-mul-heads-4
+mul-heads-4 c = search needs
+
+slice-write-heads-4 : tie.Need-slice-write-heads-4
+slice-write-heads-4 c = simp length-set (omega arith)
+
+add-heads-4 : tie.Need-add-heads-4
+add-heads-4 c = search needs
+
+mul-heads-5 : tie.Need-mul-heads-5
+mul-heads-5 c = search needs
+
+slice-write-heads-5 : tie.Need-slice-write-heads-5
+slice-write-heads-5 c = simp length-set (omega arith)
+
+add-heads-5 : tie.Need-add-heads-5
+add-heads-5 c = search needs
+
+mul-heads-6 : tie.Need-mul-heads-6
+mul-heads-6 c = search needs
+
+slice-write-heads-6 : tie.Need-slice-write-heads-6
+slice-write-heads-6 c = search needs
+
+same-length : tie.Need-same-length
+same-length c = search needs
+
+returns : tie.Need-returns
+unfolding withHead
+returns c = rw (← c .mark .ensures) (six-laid (c .before .before .args .heads .now) (head-numbers * c .before .before .args .number) _ (c .before .before .args .at) (c .before .before .args .rows) (c .before .before .args .width) (c .before .before .args .first) (c .before .before .args .count) (omega arith))
+
+pub put-head-spec : {M : Type 1} → statement M
+put-head-spec =
+    tie.close
+    (tie.spec
+    mul-p
+    mark-requires
+    mul-heads
+    slice-write-heads
+    add-heads
+    mul-heads-2
+    slice-write-heads-2
+    add-heads-2
+    mul-heads-3
+    slice-write-heads-3
+    add-heads-3
+    mul-heads-4
+    slice-write-heads-4
+    add-heads-4
+    mul-heads-5
+    slice-write-heads-5
+    add-heads-5
+    mul-heads-6
+    slice-write-heads-6
+    same-length
+    returns)

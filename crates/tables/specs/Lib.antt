@@ -1,0 +1,2 @@
+-- The definitions that the contracts of `tables` cite.
+pub mod Originals
