@@ -293,3 +293,40 @@ module _ (n : ℕ) (K : ℕ → List ℕ) (N order : List ℕ) (distinct : (f : 
 
       bw : List ClosedFactor
       bw = full-pass n K N (reverse order)
+
+  -- P9 for every graph: an original without keys is a leaf under no message, so it is uncovered at every key.
+  keyless-meets : (f k : ℕ) → ((j : ℕ) → In j (K f) → ⊥) → In f N → (pre q : List ℕ) → order ≡ pre ++ (k ∷ q) → length pre ≡ place k order → (fw bw : List ClosedFactor)
+      → (akF outF : List ℕ) × Side K N (reverse pre) k fw akF outF → (akB outB : List ℕ) × Side K N q k bw akB outB → In f ((gather n K N fw bw (place k order) k) .originals)
+  unfolding gather gatherAt gathering
+  keyless-meets f k none live pre q e d fw bw (akF, outF, F) (akB, outB, B) =
+      let s : length q ≡ n - 1 - place k order = omega (arith, ap length e, length-append pre (k ∷ q), long) in
+      subst₂ (λ (r s : ℕ). In f ((gatherAt n K N fw bw r s k) .originals)) (length-reverse pre ∙ d) s
+      (omega (arith, keep-yes (λ i. not (mem i (lf ++ lb))) f N (not-in (decLt 0 (count f (lf ++ lb))))))
+    where
+      lf : List ℕ
+      lf = gatheredLeaves fw (length (reverse pre))
+
+      lb : List ℕ
+      lb = gatheredLeaves bw (length q)
+
+      no-leaf : In f (lf ++ lb) → ⊥
+      no-leaf h = go (decLt 0 (count f lf))
+        where
+          go : Dec (0 < count f lf) → ⊥
+          go (yes a) = let w = F .low f a in none (w .0) (w .1)
+          go (no a) = let w = B .low f (omega (arith, count-append f lf lb)) in none (w .0) (w .1)
+
+      not-in : Dec (0 < count f (lf ++ lb)) → T (not (mem f (lf ++ lb)))
+      not-in (yes a) = absurd (no-leaf a)
+      not-in (no a) = not-T (mem f (lf ++ lb)) (λ t. a (ltb→lt 0 (count f (lf ++ lb)) t))
+
+  pub keyless : (f k : ℕ) → k < n → ((j : ℕ) → In j (K f) → ⊥) → In f N → In f ((gather n K N (full-pass n K N order) (full-pass n K N (reverse order)) (place k order) k) .originals)
+  unfolding full-pass
+  keyless f k l none live = go (found-at k order (omega (arith, each k, from-in k 0 n (omega arith) (omega arith))))
+    where
+      go : (pre : List ℕ) × (q : List ℕ) × (order ≡ pre ++ (k ∷ q)) × (length pre ≡ place k order) → In f ((gather n K N (full-pass n K N order) (full-pass n K N (reverse order)) (place k order) k) .originals)
+      go (pre, q, e, d) =
+          keyless-meets f k none live pre q e d (full-pass n K N order) (full-pass n K N (reverse order))
+          (subst (λ (o : List ℕ). (ak out : List ℕ) × Side K N (reverse pre) k ((after n K N o) .messages) ak out) (sym (reversed k pre q e)) (a-side n K N (reverse q) (reverse pre) k (λ j. omega (arith, ap (count j) (reversed k pre q e), count-reverse j order, each j, from-once n j))
+          (λ j h. from-lt j n (omega (arith, ap (count j) (reversed k pre q e), count-reverse j order, each j)))))
+          (subst (λ (o : List ℕ). (ak out : List ℕ) × Side K N q k ((after n K N o) .messages) ak out) (sym (reverse-reverse order ∙ e)) (a-side n K N pre q k (λ j. omega (arith, ap (count j) e, each j, from-once n j)) (λ j h. from-lt j n (omega (arith, ap (count j) e, each j)))))

@@ -1,0 +1,16 @@
+-- A buffer of 22,944 bytes takes the text of every job, so the answer is its length. Assumes nothing.
+use Prim.Native.Nat.{ℕ, _≤_}
+use mathlib.Core.Path.{_≡_, ap}
+use mathlib.Core.List.{List}
+use lib.ListN.{length}
+use Rattle.lines.specs.Lines.{written}
+use Rattle.job.specs.Job.{jobText}
+use Rattle.job.proofs.Longest.{never-short}
+use Rattle.firmware.specs.Firmware.{answerOf}
+
+-- what C calls STRIPS_OUTPUT
+abbrev pub output-bytes : ℕ
+output-bytes = 22944
+
+pub always-fits : (bytes out : List ℕ) → output-bytes ≤ length out → answerOf (written out (jobText bytes)) ≡ length (jobText bytes)
+always-fits bytes out l = ap answerOf (never-short bytes out l)

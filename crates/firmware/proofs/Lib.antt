@@ -1,0 +1,2 @@
+-- Laws of the answer.
+pub mod Answers

@@ -1,0 +1,12 @@
+-- The number that stands for an answer in C. Definitions only.
+use Prim.Native.Nat.{ℕ}
+use Rattle.lines.specs.declared.Written.{Written}
+use Rattle.lines.specs.declared.Written.the-variants.{Length, Short}
+
+-- the largest number of 64 bits, which no text has as its length
+abbrev pub short : ℕ
+short = 0xFFFFFFFFFFFFFFFF
+
+abbrev pub answerOf : Written → ℕ
+answerOf (Length n) = n
+answerOf Short = short

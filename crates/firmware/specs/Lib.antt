@@ -1,0 +1,2 @@
+-- The definitions that the contracts of `firmware` cite.
+pub mod Firmware

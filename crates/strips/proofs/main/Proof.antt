@@ -1,0 +1,72 @@
+-- `strips::main` is safe: the length that is answered is within the buffer. Assumes nothing.
+use mathlib.Core.Path.{sym, _∙_}
+use native.Mathlib.Omega.{arith}
+use Rattle.job.proofs.Endings.{written-within}
+use borrow.Author.Needs.{needs}
+use Rattle.strips.proofs.main.Statement.{statement}
+use Rattle.strips.proofs.main.Tie as tie
+
+slice-aggregate-read-full : tie.Need-slice-aggregate-read-full
+slice-aggregate-read-full c = search needs
+
+read-full-requires : tie.Need-read-full-requires
+read-full-requires c κs = search needs
+
+sub-solve : tie.Need-sub-solve
+sub-solve c = search needs
+
+part-solve-start : tie.Need-part-solve-start
+part-solve-start c = search needs
+
+part-solve-end : tie.Need-part-solve-end
+part-solve-end c = search needs
+
+slice-aggregate-solve : tie.Need-slice-aggregate-solve
+slice-aggregate-solve c = search needs
+
+solve-requires : tie.Need-solve-requires
+solve-requires c κs = search needs
+
+enum-known-n : tie.Need-enum-known-n
+enum-known-n c = search needs
+
+sub-write-all : tie.Need-sub-write-all
+sub-write-all c = search needs
+
+part-write-all-start : tie.Need-part-write-all-start
+part-write-all-start c = search needs
+
+part-write-all-end : tie.Need-part-write-all-end
+part-write-all-end c = omega (arith, written-within _ _ _ (sym (c .before .before .before .before .before .solve .ensures .0) ∙ c .before .before .n .given .1))
+
+write-all-requires : tie.Need-write-all-requires
+write-all-requires c κs = search needs
+
+enum-told : tie.Need-enum-told
+enum-told c = search needs
+
+returns : tie.Need-returns
+returns c = search needs
+
+returns-2 : tie.Need-returns-2
+returns-2 c = search needs
+
+pub main-spec : {M : Type 1} → statement M
+main-spec =
+    tie.close
+    (tie.spec
+    slice-aggregate-read-full
+    read-full-requires
+    sub-solve
+    part-solve-start
+    part-solve-end
+    slice-aggregate-solve
+    solve-requires
+    enum-known-n
+    sub-write-all
+    part-write-all-start
+    part-write-all-end
+    write-all-requires
+    enum-told
+    returns
+    returns-2)

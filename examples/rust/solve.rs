@@ -1,0 +1,26 @@
+//! Reads a job from standard input and prints its text: what the program `strips` does, from Rust.
+use std::io::{self, Read, Write};
+
+/// A buffer of as many bytes takes the text of every job; past as many bytes nothing in a job changes its text.
+const OUTPUT: usize = 22944;
+const INPUT: u64 = 21901;
+
+extern "C" {
+    // firmware/strips.h has the contract
+    fn strips_solve(job: *const u8, job_length: usize, out: *mut u8, out_length: usize) -> usize;
+}
+
+/// The text of a job.
+fn solve(job: &[u8]) -> Vec<u8> {
+    let mut out = vec![0; OUTPUT];
+    // SAFETY: both slices are whole and apart, and live through the call.
+    let length = unsafe { strips_solve(job.as_ptr(), job.len(), out.as_mut_ptr(), out.len()) };
+    out.truncate(length);
+    out
+}
+
+fn main() -> io::Result<()> {
+    let mut job = Vec::new();
+    io::stdin().take(INPUT).read_to_end(&mut job)?;
+    io::stdout().write_all(&solve(&job))
+}
