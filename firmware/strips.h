@@ -1,7 +1,9 @@
 /* Marginals of a strip's factor graph from the bytes of a job: the one call of libfirmware.a.
  *
- * The archive is written by `rt staticlib firmware` to target/staticlib/libfirmware.a, for x86-64. It calls nothing,
- * allocates nothing and keeps nothing between calls, so calls on buffers of their own may run at the same time.
+ * The archive is written by `rt staticlib firmware` to target/staticlib/libfirmware.a, for x86-64. Of the C library it
+ * needs memcpy, memmove and memset. It allocates nothing and keeps nothing between calls, so calls on buffers of their
+ * own may run at the same time. Its stack is measured, not proved: 160 KiB were enough, with C's own share, for every
+ * recorded job.
  */
 #ifndef STRIPS_H
 #define STRIPS_H
@@ -28,9 +30,8 @@
  *
  * The text: a line for each key, rising, with the key in decimal, the mean and the covariance column by column, each
  * number as 16 upper-case hexadecimal digits of its 64 bits, one space apart; or else the one line
- * `refused NUMBER STAGE PLACE`, of which the stage is 0 (reading, PLACE is the record from 0), 1 (forward pass),
- * 2 (backward pass) or 3 (marginals, PLACE is the key). Every line ends with a line feed. The same bytes have the same
- * text.
+ * `refused NUMBER STAGE PLACE`. The stage is 0 (reading), 1 (forward pass), 2 (backward pass) or 3 (marginals); the place
+ * is the record, from 0, at stage 0 and the key at the others. Every line ends with a line feed. No keys: no text.
  *
  * It always ends. It is proved that the answer and the whole of out are those of the definition `jobText`.
  */

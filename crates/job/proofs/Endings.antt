@@ -1,10 +1,13 @@
 -- The text of a job, by how its reading and its run ended, and that the text in a buffer is that one. Assumes nothing.
 use Prim.Native.Nat.{ℕ, _≤_}
-use mathlib.Core.Path.{_≡_, sym, ap, _∙_}
-use mathlib.Core.Bool.{true}
+use mathlib.Core.Path.{_≡_, refl, sym, ap, _∙_}
+use mathlib.Core.Bool.{Bool, true, false, cond}
 use mathlib.Core.List.{List}
 use native.Mathlib.Omega.{arith}
+use borrow.Author.Tests.{leb-true}
+use lib.Dec.{leb}
 use lib.Ieee.{Float}
+use lib.ListN.{length}
 use Rattle.factor.specs.Limits.{max-variables}
 use Rattle.factor.proofs.Counting.{sum-le}
 use Rattle.graph.specs.Record.{valid}
@@ -24,6 +27,7 @@ use Rattle.solver.specs.declared.run.Ran.{Ran}
 use Rattle.solver.specs.declared.run.Ended.the-variants as ending
 use Rattle.lines.specs.Lines.{numbersOf, startOf, linesText, refusalText, written, laidIn}
 use Rattle.lines.specs.declared.Written.{Written}
+use Rattle.lines.specs.declared.Written.the-variants.{Length, Short}
 use Rattle.job.specs.Job.{factor-room, message-room, marginal-room, zeros, reading-stage, endedText, verdictText, runText, readText, jobText}
 
 -- what a laying answers, and how it leaves the buffer
@@ -33,6 +37,15 @@ Lays out text r after = (r ≡ written out text) × (after ≡ laidIn out text)
 -- an equal text is laid alike
 pub lays-same : (out s t : List ℕ) (r : Written) (after : List ℕ) → s ≡ t → Lays out s r after → Lays out t r after
 lays-same out s t r after e p = rw e at p
+
+-- a length that is answered is within the buffer
+pub written-within : (out text : List ℕ) (n : ℕ) → written out text ≡ Length n → n ≤ length out
+unfolding written
+written-within out text n e = by (leb (length text) (length out)) refl e
+  where
+    by : (b : Bool) → leb (length text) (length out) ≡ b → cond b (Length (length text)) Short ≡ Length n → n ≤ length out
+    by true t h = let z : length text ≡ n = cc in omega (arith, leb-true (length text) (length out) t)
+    by false t h = let z : _≡_ {A = ℕ} 0 1 = cc in omega arith
 
 -- the marginal store has room for the numbers of every graph
 pub marginals-fit : (g : Graph) → valid g ≡ true → startOf g (g .variables) ≤ marginal-room

@@ -10,8 +10,14 @@ ghost use Rattle.graph.specs.Record.{valid};
 ghost use Rattle.lines.specs.Lines.{written, laidIn};
 ghost use Rattle.job.specs.Job as spec;
 
+// Room for the bytes of a job: past the first 21,901 nothing changes the text (`first-bytes-decide`).
+pub const INPUT_ROOM: usize = 32768;
+
+// Room for the text: none is longer than 22,944 bytes (`job-most`).
+pub const OUTPUT_ROOM: usize = 32768;
+
 // The numbers of the factor, message, work and marginal stores. No graph has more marginals.
-const FACTOR_ROOM: usize = 2048;
+pub const FACTOR_ROOM: usize = 2048;
 
 const MESSAGE_ROOM: usize = 3072;
 
@@ -20,7 +26,7 @@ const WORK_ROOM: usize = 2304;
 const MARGINAL_ROOM: usize = 224;
 
 // The stage of a refusal by reading.
-const READING: usize = 0;
+pub const READING: usize = 0;
 
 // The text of a graph's run. Nothing is laid before the run has ended, so a refusal stands alone.
 fn solve_graph(g: Graph, factors: &[f64], out: &mut [u8]) -> Written

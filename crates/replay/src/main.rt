@@ -1,5 +1,6 @@
 // Replays recorded jobs: reads them from standard input and prints the number of each, from 0, and below it what the job prints.
 // A job stands behind the count of its bytes, which takes two bytes, the lower one first.
+use job::OUTPUT_ROOM;
 use lines::Written;
 ghost use Prim.Native.Nat.{_<_, _≤_};
 ghost use lib.ListN.{length};
@@ -7,10 +8,8 @@ ghost use lib.ListN.{length};
 // More jobs aren't read.
 const JOBS: usize = 65536;
 
-// The bytes of the longest job, and room for the longest text.
+// More bytes than two bytes can count.
 const INPUT: usize = 65536;
-
-const OUTPUT: usize = 32768;
 
 fn main() {
     for number in 0..JOBS {
@@ -49,7 +48,7 @@ fn replay(number: u64) -> bool {
 }
 
 fn print_answer(bytes: &[u8]) {
-    let mut output = [0u8; OUTPUT];
+    let mut output = [0u8; OUTPUT_ROOM];
     match job::solve(bytes, &mut output) {
         Written::Length(n) => {
             io::write_all(1, &output[0..n]);

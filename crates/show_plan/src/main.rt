@@ -1,20 +1,16 @@
 // Reads a job from standard input and prints the plan of its graph, or the line of the refusal where reading it is refused.
 use graph::Graph;
 use graph::refusal::Refusal;
+use job::FACTOR_ROOM;
+use job::INPUT_ROOM;
+use job::READING;
 use lines::Written;
 use records::answer::Ended;
 use solver::Laid;
 
-// Past the first 21,901 bytes nothing changes the answer (`first-decide` in `records`), so what doesn't fit here isn't read.
-const INPUT: usize = 32768;
-
-const FACTOR_ROOM: usize = 2048;
-
-// The stage of a refusal by reading.
-const READING: usize = 0;
-
+// What doesn't fit into the input isn't read, since it can't change the graph (`first-decide` in `records`).
 fn main() {
-    let mut input = [0u8; INPUT];
+    let mut input = [0u8; INPUT_ROOM];
     let got = io::read_full(0, &mut input);
     show(&input[0..got]);
 }
@@ -29,14 +25,17 @@ fn show(bytes: &[u8]) {
     }
 }
 
-// The buffer is longer than the text of any plan: 32 keys and 62 messages have lines of under 700 bytes each.
+// The buffer is longer than the text of any plan: 62 messages have lines of under 560 bytes, 32 keys of under 720. That is reckoned, not proved.
+// A graph that was read has a plan.
 fn print_plan(g: Graph) {
     let mut text = io::large_buffer();
     match solver::lay_plan(g, &mut text) {
         Laid::Length(n) => {
             io::write_all(1, &text[0..n]);
         }
-        Laid::Short => {}
+        Laid::Short => {
+            io::write_all(2, b"the plan is longer than the buffer\n");
+        }
         Laid::NoPlan(_) => {}
     }
 }

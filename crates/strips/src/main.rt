@@ -1,15 +1,12 @@
 // Reads a job from standard input and prints a line for each key, or one line that says why there are none.
+use job::INPUT_ROOM;
+use job::OUTPUT_ROOM;
 use lines::Written;
 
-// Past the first 21,901 bytes nothing changes the answer (`first-bytes-decide` in `job`), so what doesn't fit here isn't read.
-const INPUT: usize = 32768;
-
-// No text is longer (`never-short` in `job`).
-const OUTPUT: usize = 32768;
-
+// What doesn't fit into the input isn't read, since it can't change the text. The output is never too short.
 fn main() {
-    let mut input = [0u8; INPUT];
-    let mut output = [0u8; OUTPUT];
+    let mut input = [0u8; INPUT_ROOM];
+    let mut output = [0u8; OUTPUT_ROOM];
     let got = io::read_full(0, &mut input);
     match job::solve(&input[0..got], &mut output) {
         Written::Length(n) => {

@@ -12,12 +12,12 @@ use borrow.Author.Needs.{needs}
 use Rattle.show_plan.proofs.print_plan.Statement.{statement}
 use Rattle.show_plan.proofs.print_plan.Tie as tie
 
-large-buffer-requires : tie.Need-large-buffer-requires
-large-buffer-requires c κs = search needs
-
 laid-within : (g : Graph) (a b : List ℕ) (r : Laid) (n : ℕ) → r ≡ Length n → LaidOut g a b r → n ≤ length a
 unfolding LaidOut
 laid-within g a b r n e h = let l : LaidOut g a b (Length n) = rw e at h in l .2
+
+large-buffer-requires : tie.Need-large-buffer-requires
+large-buffer-requires c κs = search needs
 
 slice-aggregate-lay-plan : tie.Need-slice-aggregate-lay-plan
 slice-aggregate-lay-plan c = search needs
@@ -42,6 +42,12 @@ write-all-requires c κs = search needs
 
 enum-told : tie.Need-enum-told
 enum-told c = search needs
+
+slice-aggregate-write-all : tie.Need-slice-aggregate-write-all
+slice-aggregate-write-all c = search needs
+
+write-all-requires-2 : tie.Need-write-all-requires-2
+write-all-requires-2 c κs = search needs
 
 enum-told-2 : tie.Need-enum-told-2
 enum-told-2 c = search needs
@@ -68,6 +74,8 @@ print-plan-spec =
     part-write-all-end
     write-all-requires
     enum-told
+    slice-aggregate-write-all
+    write-all-requires-2
     enum-told-2
     returns
     returns-2
