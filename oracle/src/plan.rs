@@ -79,7 +79,7 @@ impl Shape {
 }
 
 impl Elimination {
-    fn new(shapes: &Shapes, met: &[&Shape], kept: Vec<usize>, cleared: Vec<usize>) -> Elimination {
+    pub fn new(shapes: &Shapes, met: &[&Shape], kept: Vec<usize>, cleared: Vec<usize>) -> Elimination {
         let dimension = shapes.dimension(&kept);
         // A prior on a cleared key brings no rows.
         let brings_rows = |shape: &&&Shape| !shape.is_prior || shape.touches(&kept);

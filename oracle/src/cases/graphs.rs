@@ -16,12 +16,12 @@ pub fn add(cases: &mut Cases) {
 
 /// How the numbers of a graph are drawn.
 #[derive(Clone, Copy)]
-struct Style {
-    most_rows: usize,
+pub struct Style {
+    pub most_rows: usize,
     /// Percent of the keys with a prior, besides key 0.
-    priors: usize,
+    pub priors: usize,
     /// Numbers are scaled by a power of two up to this.
-    scale: i64,
+    pub scale: i64,
 }
 
 const PLAIN: Style = Style { most_rows: 3, priors: 70, scale: 0 };
@@ -31,7 +31,7 @@ fn scaled(random: &mut Random, numbers: Vec<f64>, scale: i64) -> Vec<f64> {
     numbers.iter().map(|x| x * factor).collect()
 }
 
-fn prior(random: &mut Random, job: Job, key: usize, scale: i64) -> Job {
+pub fn prior(random: &mut Random, job: Job, key: usize, scale: i64) -> Job {
     let size = job.size(key);
     let (mean, variance) = (random.numbers(size), random.variance(size));
     let variance = scaled(random, variance, scale);
@@ -50,7 +50,7 @@ fn observation(random: &mut Random, job: Job, keys: &[usize], rows: usize, scale
 }
 
 /// A graph with these links, its priors among the observations in no order.
-fn graph(random: &mut Random, sizes: &[usize], links: &[Vec<usize>], style: Style) -> Job {
+pub fn graph(random: &mut Random, sizes: &[usize], links: &[Vec<usize>], style: Style) -> Job {
     let mut pieces: Vec<Option<&Vec<usize>>> = links.iter().map(Some).collect();
     let with_prior: Vec<usize> = (0..sizes.len()).filter(|&key| key == 0 || random.chance(style.priors)).collect();
     with_prior.iter().for_each(|_| pieces.insert(random.below(pieces.len() + 1), None));
@@ -64,29 +64,29 @@ fn graph(random: &mut Random, sizes: &[usize], links: &[Vec<usize>], style: Styl
     })
 }
 
-fn chain(count: usize) -> Vec<Vec<usize>> {
+pub fn chain(count: usize) -> Vec<Vec<usize>> {
     (1..count).map(|key| vec![key - 1, key]).collect()
 }
 
-fn ring(count: usize) -> Vec<Vec<usize>> {
+pub fn ring(count: usize) -> Vec<Vec<usize>> {
     [chain(count), vec![vec![0, count - 1]]].concat()
 }
 
-fn star(count: usize, centre: usize) -> Vec<Vec<usize>> {
+pub fn star(count: usize, centre: usize) -> Vec<Vec<usize>> {
     let others = (0..count).filter(|&key| key != centre);
     others.map(|key| vec![key.min(centre), key.max(centre)]).collect()
 }
 
-fn tree(random: &mut Random, count: usize) -> Vec<Vec<usize>> {
+pub fn tree(random: &mut Random, count: usize) -> Vec<Vec<usize>> {
     (1..count).map(|key| vec![random.below(key), key]).collect()
 }
 
-fn ladder(steps: usize) -> Vec<Vec<usize>> {
+pub fn ladder(steps: usize) -> Vec<Vec<usize>> {
     let rungs = (0..steps).map(|at| vec![2 * at, 2 * at + 1]);
     rungs.chain((2..2 * steps).map(|key| vec![key - 2, key])).collect()
 }
 
-fn some_sizes(random: &mut Random, count: usize, most: usize) -> Vec<usize> {
+pub fn some_sizes(random: &mut Random, count: usize, most: usize) -> Vec<usize> {
     (0..count).map(|_| 1 + random.below(most)).collect()
 }
 
@@ -108,7 +108,7 @@ fn chains(cases: &mut Cases) {
 }
 
 /// Every link has as many rows as its keys have components, so one prior serves all.
-fn full_rank_chain(random: &mut Random, sizes: &[usize]) -> Job {
+pub fn full_rank_chain(random: &mut Random, sizes: &[usize]) -> Job {
     let job = prior(random, Job::with(sizes), 0, 0);
     (1..sizes.len()).fold(job, |job, key| observation(random, job, &[key - 1, key], sizes[key], 0))
 }
@@ -243,7 +243,7 @@ fn many_priors(cases: &mut Cases) {
     cases.draw("priors-around-an-observation", make, succeeds);
 }
 
-fn any_links(random: &mut Random, count: usize) -> Vec<Vec<usize>> {
+pub fn any_links(random: &mut Random, count: usize) -> Vec<Vec<usize>> {
     let link = |random: &mut Random| {
         let mut keys: Vec<usize> = (0..1 + random.below(4)).map(|_| random.below(count)).collect();
         keys.sort();

@@ -98,8 +98,8 @@ fn full_of_64() -> Job {
 }
 
 /// The first seeds whose tangle needs the message store exactly, and one number more.
-const FULL: u64 = 1571;
-const ONE_OVER: u64 = 3152;
+pub const FULL: u64 = 1571;
+pub const ONE_OVER: u64 = 3152;
 
 fn message_store(cases: &mut Cases) {
     cases.add("message-store-full", needing(MESSAGE_STORE, FULL));
@@ -107,7 +107,7 @@ fn message_store(cases: &mut Cases) {
     cases.add("message-store-one-over-before-a-free-key", needing(MESSAGE_STORE + 1, ONE_OVER).variable(1));
 }
 
-fn needing(need: usize, seed: u64) -> Job {
+pub fn needing(need: usize, seed: u64) -> Job {
     let job = tangle(&mut Random::new(seed));
     assert_eq!(figure(&job), need);
     job
@@ -121,7 +121,7 @@ fn figure(job: &Job) -> usize {
 }
 
 /// Keys of size 1 with a prior each, and observations across many of them.
-fn tangle(random: &mut Random) -> Job {
+pub fn tangle(random: &mut Random) -> Job {
     let count = 28;
     let mut job = priors(Job::with(&vec![1; count]));
     for _ in 0..20 + random.below(8) {

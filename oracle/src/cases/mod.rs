@@ -2,8 +2,8 @@
 //!
 //! A line begins with what it is: `=` the name of the next case, `<` a record of its job in hexadecimal, `>` a line that is
 //! printed, `#` a remark. A case ends where the next begins.
-mod graphs;
-mod limits;
+pub mod graphs;
+pub mod limits;
 mod pairs;
 mod random;
 mod reading;

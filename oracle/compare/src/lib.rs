@@ -1,0 +1,5 @@
+//! The library under comparison, called through its archives, and the jobs that both sides are given.
+pub mod direct;
+pub mod jobs;
+pub mod ours;
+pub mod outcome;

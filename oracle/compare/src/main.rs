@@ -1,0 +1,91 @@
+//! compare SEED COUNT [THREADS [FOLDER]]
+//!
+//! Gives jobs 0 to COUNT - 1 of a seed to the original over its stand-ins and to the library, and counts what they print.
+//! Ends with 1, and writes the smallest job found to FOLDER, where they differ inside the domain of equality.
+use std::collections::BTreeMap;
+use std::path::Path;
+use std::process::ExitCode;
+
+use compare::jobs::{self, Kind};
+use compare::outcome::{Outcome, compare};
+use oracle::cases::Job;
+
+type Counts = BTreeMap<(Outcome, Kind), u64>;
+
+fn main() -> ExitCode {
+    let words: Vec<String> = std::env::args().skip(1).collect();
+    let number = |at: usize| words.get(at).and_then(|word| word.parse::<u64>().ok());
+    let (Some(seed), Some(count)) = (number(0), number(1)) else {
+        eprintln!("compare SEED COUNT [THREADS [FOLDER]]");
+        return ExitCode::from(2);
+    };
+    let folder = words.get(3).map_or(".", |word| word);
+    // The original panics outside the domain; a panic inside is counted as a difference.
+    std::panic::set_hook(Box::new(|_| {}));
+    let counts = all(seed, count, number(2).unwrap_or(1), Path::new(folder));
+    println!("seed {seed}, {count} jobs");
+    report(&counts)
+}
+
+/// Every job, dealt out to the threads in turn.
+fn all(seed: u64, count: u64, threads: u64, folder: &Path) -> Counts {
+    std::thread::scope(|scope| {
+        let workers: Vec<_> =
+            (0..threads).map(|first| scope.spawn(move || some(seed, first, count, threads, folder))).collect();
+        let mut all = Counts::new();
+        for worker in workers {
+            worker.join().unwrap().into_iter().for_each(|(key, n)| *all.entry(key).or_default() += n);
+        }
+        all
+    })
+}
+
+fn some(seed: u64, first: u64, count: u64, threads: u64, folder: &Path) -> Counts {
+    let mut counts = Counts::new();
+    for number in (first..count).step_by(threads as usize) {
+        let (kind, job) = jobs::draw(seed, number);
+        let outcome = compare(&job);
+        if let Outcome::Differs(how) = &outcome {
+            eprintln!("job {number}: {how}");
+            let small = reduced(job);
+            std::fs::write(folder.join(format!("differs-{number}.job")), small.bytes()).unwrap();
+        }
+        *counts.entry((outcome, kind)).or_default() += 1;
+    }
+    counts
+}
+
+/// Without every record that the difference doesn't need.
+fn reduced(mut job: Job) -> Job {
+    let mut at = 0;
+    while at < job.records.len() {
+        let mut less = job.clone();
+        less.records.remove(at);
+        if matches!(compare(&less), Outcome::Differs(_)) { job = less } else { at += 1 }
+    }
+    job
+}
+
+/// By outcome, and by kind of job the number that was done and the number in the domain.
+fn report(counts: &Counts) -> ExitCode {
+    let mut by_outcome: BTreeMap<String, u64> = BTreeMap::new();
+    let mut by_kind: BTreeMap<Kind, [u64; 4]> = BTreeMap::new();
+    for ((outcome, kind), n) in counts {
+        let (name, columns): (String, &[usize]) = match outcome {
+            Outcome::Same(text) if text == "done" => (format!("same: {text}"), &[0, 1]),
+            Outcome::Same(text) => (format!("same: {text}"), &[1]),
+            Outcome::Outside(how) => (format!("outside: {how}"), &[2]),
+            Outcome::Differs(_) => ("DIFFERS INSIDE THE DOMAIN".to_string(), &[1, 3]),
+        };
+        *by_outcome.entry(name).or_default() += n;
+        columns.iter().for_each(|&column| by_kind.entry(*kind).or_default()[column] += n);
+    }
+    by_outcome.iter().for_each(|(name, n)| println!("{n:>9}  {name}"));
+    println!("     done in domain   outside  differs  kind");
+    by_kind.iter().for_each(|(kind, [done, inside, outside, differs])| {
+        println!("{done:>9} {inside:>9} {outside:>9} {differs:>8}  {kind:?}")
+    });
+    let sum = |column: usize| by_kind.values().map(|row| row[column]).sum::<u64>();
+    println!("{:>9} {:>9} {:>9} {:>8}  all", sum(0), sum(1), sum(2), sum(3));
+    if sum(3) == 0 { ExitCode::SUCCESS } else { ExitCode::from(1) }
+}

@@ -1,0 +1,66 @@
+//! The library's calls for C. A slice is a pointer and a length.
+use oracle::job::FACTOR_STORE;
+
+unsafe extern "C" {
+    fn strips_solve(job: *const u8, job_length: usize, out: *mut u8, out_length: usize) -> usize;
+    fn strips_store(job: *const u8, job_length: usize, store: *mut f64, store_length: usize);
+    fn strips_eliminate(
+        job: *const u8,
+        job_length: usize,
+        slots: *const usize,
+        slot_count: usize,
+        kept: *const usize,
+        kept_count: usize,
+        cleared: *const usize,
+        cleared_count: usize,
+        messages: *mut f64,
+        length: usize,
+    ) -> usize;
+    fn strips_repeat(job: *const u8, job_length: usize, times: usize, marginals: *mut f64, length: usize);
+}
+
+/// Room for the longest text.
+pub const OUTPUT: usize = 32_768;
+
+/// Lays what a job prints at the start of a buffer; its length.
+pub fn solve(job: &[u8], out: &mut [u8]) -> usize {
+    // Both are lent whole, with their own lengths.
+    unsafe { strips_solve(job.as_ptr(), job.len(), out.as_mut_ptr(), out.len()) }
+}
+
+/// Reads a job only; its factors' numbers go to the start of the store.
+pub fn store(job: &[u8], store: &mut [f64; FACTOR_STORE]) {
+    // Both are lent whole, with their own lengths.
+    unsafe { strips_store(job.as_ptr(), job.len(), store.as_mut_ptr(), store.len()) }
+}
+
+/// Room for the marginals of every job.
+pub const MARGINALS: usize = 224;
+
+/// Reads a job once and runs it so many times.
+pub fn repeat(job: &[u8], times: usize, marginals: &mut [f64; MARGINALS]) {
+    // Both are lent whole, with their own lengths.
+    unsafe { strips_repeat(job.as_ptr(), job.len(), times, marginals.as_mut_ptr(), marginals.len()) }
+}
+
+/// The mark of a refusal among the answers of `eliminate`.
+pub const REFUSED: usize = 0x10000;
+
+/// A direct elimination over the factors of a job: rows, or a refusal's number under the mark.
+pub fn eliminate(job: &[u8], slots: &[usize], kept: &[usize], cleared: &[usize], messages: &mut [f64]) -> usize {
+    // Each is lent whole, with its own length.
+    unsafe {
+        strips_eliminate(
+            job.as_ptr(),
+            job.len(),
+            slots.as_ptr(),
+            slots.len(),
+            kept.as_ptr(),
+            kept.len(),
+            cleared.as_ptr(),
+            cleared.len(),
+            messages.as_mut_ptr(),
+            messages.len(),
+        )
+    }
+}

@@ -1,0 +1,100 @@
+//! One job through both sides.
+use std::panic::catch_unwind;
+
+use oracle::cases::Job;
+use oracle::gaussian::Factor;
+use oracle::gaussian::shown::{self, Shown};
+use oracle::job::{self, FACTOR_STORE, Read};
+use oracle::refusal::Reason;
+use oracle::run::{expected, lines};
+use oracle::solver::Smoother;
+
+use crate::ours;
+
+/// What the comparison says of a job.
+#[derive(Debug, Clone, PartialEq, Eq, PartialOrd, Ord)]
+pub enum Outcome {
+    /// The same text and the same factor store; the text's kind.
+    Same(String),
+    /// Inside the domain of equality: a finding.
+    Differs(String),
+    /// Outside the domain; how the original's own run compares.
+    Outside(String),
+}
+
+/// The library's text.
+pub fn printed(job: &[u8]) -> Vec<u8> {
+    let mut out = vec![0xA5; ours::OUTPUT];
+    let length = ours::solve(job, &mut out);
+    assert!(out[length..].iter().all(|&byte| byte == 0xA5), "bytes behind the text were written");
+    out.truncate(length);
+    out
+}
+
+pub fn compare(job: &Job) -> Outcome {
+    compare_bytes(&job.bytes())
+}
+
+pub fn compare_bytes(bytes: &[u8]) -> Outcome {
+    let text = printed(bytes);
+    if !same_store(bytes) {
+        return Outcome::Differs("factor store".to_string());
+    }
+    match catch_unwind(|| expected(bytes)) {
+        Err(_) => Outcome::Differs("the original disagrees with document 01".to_string()),
+        Ok(Err(_)) => Outcome::Outside(beside_the_original(bytes, &text)),
+        Ok(Ok(wanted)) if wanted.as_bytes() == text => Outcome::Same(kind_of(&wanted)),
+        Ok(Ok(wanted)) => Outcome::Differs(format!("wanted {wanted:?}, got {:?}", String::from_utf8_lossy(&text))),
+    }
+}
+
+/// Done, or the refusal and its stage.
+pub fn kind_of(text: &str) -> String {
+    match text.split(' ').collect::<Vec<_>>()[..] {
+        ["refused", number, stage, _] => format!("refused {number:>2} at stage {stage}"),
+        [""] => "done, no keys".to_string(),
+        _ => "done".to_string(),
+    }
+}
+
+/// The number that no job writes, in the rest of the store.
+pub const UNTOUCHED: u64 = 0x7FF4_DEAD_BEEF_0001;
+
+/// The factors' numbers after registration, and nothing behind them.
+fn same_store(bytes: &[u8]) -> bool {
+    let mut store = [f64::from_bits(UNTOUCHED); FACTOR_STORE];
+    ours::store(bytes, &mut store);
+    let wanted = accepted(&job::read(bytes));
+    let (taken, rest) = store.split_at(wanted.len());
+    taken.iter().zip(&wanted).all(|(x, y)| x.to_bits() == y.to_bits()) && rest.iter().all(|x| x.to_bits() == UNTOUCHED)
+}
+
+/// The numbers of the accepted factors. The original has also stored one that document 01 refuses for what was computed.
+fn accepted(read: &Read) -> Vec<f64> {
+    let mut all: Vec<Vec<f64>> = read.graph.factors().iter().map(numbers).collect();
+    let refused = |numbers: &Vec<f64>| numbers.iter().any(|x| !x.is_finite());
+    if read.refusal.is_some_and(|refusal| refusal.reason == Reason::NumberNotFinite) && all.last().is_some_and(refused)
+    {
+        all.pop();
+    }
+    all.concat()
+}
+
+fn numbers(factor: &Factor<f64>) -> Vec<f64> {
+    match shown::factor(factor) {
+        Shown::Prior { xi, w, .. } => [xi, w].concat(),
+        Shown::Likelihood { a, xi, w, .. } => [a, xi, w].concat(),
+    }
+}
+
+/// How the original's own run, which document 01 doesn't follow there, compares with ours.
+fn beside_the_original(bytes: &[u8], text: &[u8]) -> String {
+    let ours = if text.starts_with(b"refused") { "refused" } else { "done" };
+    let theirs = match catch_unwind(|| Smoother::new(job::read(bytes).graph).run().map(|found| lines(&found))) {
+        Err(_) => "panics",
+        Ok(Err(_)) => "fails",
+        Ok(Ok(found)) if found.as_bytes() == text => "the same",
+        Ok(Ok(_)) => "another text",
+    };
+    format!("ours {ours}, the original's run: {theirs}")
+}
