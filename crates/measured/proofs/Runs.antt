@@ -1,0 +1,53 @@
+-- Runs one after the other, and a direct elimination over what a job registers. Assumes nothing.
+use mathlib.Core.Path.{_≡_, refl, ap, _∙_}
+use mathlib.Core.List.{List}
+use Prim.Native.Nat.{ℕ, _+_, _≤_}
+use native.Mathlib.Numerals.{add-one}
+use lib.Ieee.{Float}
+use lib.ListN.{length, replicate}
+use Rattle.matrix.specs.Sums.{plus-zero}
+use Rattle.workspace.specs.Frames.{work-numbers}
+use Rattle.graph.specs.Refusals.{numberOf}
+use Rattle.graph.specs.declared.Graph.{Graph}
+use Rattle.graph.specs.declared.refusal.Refusal.{Refusal}
+use Rattle.job.proofs.Refusals.{number-most}
+use Rattle.records.specs.Records.{readAll}
+use Rattle.records.specs.declared.answer.Read.{Read}
+use Rattle.direct.specs.Direct.{verdict, answerOf, storeOf}
+use Rattle.direct.specs.declared.Direct.{Direct}
+use Rattle.solver.specs.Run as solver
+use Rattle.solver.specs.Stages as stages
+use Rattle.solver.specs.declared.run.Ran.{Ran}
+use Rattle.measured.specs.Measured.{factor-room, message-room, readJob, numberIn, eliminated, Stores, stores, storesIn, again, repeated}
+
+-- no refusal's number is above 30
+pub few : (r : ℕ) (why : Refusal) → r ≡ numberOf why → r ≤ 30
+few r why e = rw e (number-most why)
+
+pub no-run : (g : Graph) (factors : List Float) (s : Stores) → s ≡ again g factors s 0
+unfolding again
+no-run g factors s = refl
+
+pub one-run : (g : Graph) (factors : List Float) (s : Stores) (n : ℕ) (messages marginals : List Float) (work : ℕ) (r : Ran) (messages′ marginals′ : List Float) → work ≡ work-numbers
+    → stores messages marginals ≡ again g factors s n → stages.verdict r messages′ marginals′ ≡ solver.run g factors messages work marginals → stores messages′ marginals′ ≡ again g factors s (n + 1)
+unfolding again
+one-run g factors s n messages marginals work r messages′ marginals′ ew es e =
+    rw (add-one n)
+    (ap storesIn e ∙ ap (λ (w : ℕ). storesIn (solver.run g factors messages w marginals)) ew
+    ∙ ap (λ (t : Stores). storesIn (solver.run g factors (t .messages) work-numbers (t .marginals))) es)
+
+pub all-runs : (g : Graph) (factors : List Float) (s : Stores) (times n : ℕ) (messages marginals : List Float) → n ≡ times → stores messages marginals ≡ again g factors s n → marginals ≡ again g factors s times .marginals
+all-runs g factors s times n messages marginals en es = ap (λ (t : Stores). t .marginals) es ∙ ap (λ (k : ℕ). again g factors s k .marginals) en
+
+pub eliminated-is : (bytes slots kept cleared : List ℕ) (messages : List Float) (read : Read) (factors messages′ : List Float) (d : Direct) (r : ℕ) → read ≡ readAll bytes (replicate factor-room plus-zero) .answer
+    → factors ≡ readAll bytes (replicate factor-room plus-zero) .store → d ≡ answerOf (verdict (read .graph) slots kept cleared factors (length messages) work-numbers)
+    → messages′ ≡ storeOf messages (verdict (read .graph) slots kept cleared factors (length messages) work-numbers) → r ≡ numberIn d
+    → (r ≡ numberIn (answerOf (eliminated (readJob bytes) slots kept cleared (length messages)))) × (messages′ ≡ storeOf messages (eliminated (readJob bytes) slots kept cleared (length messages)))
+unfolding eliminated
+eliminated-is bytes slots kept cleared messages read factors messages′ d r er ef ed em en = (en ∙ rw (ed, er, ef) refl, em ∙ rw (er, ef) refl)
+
+pub repeated-is : (bytes : List ℕ) (marginals : List Float) (times : ℕ) (read : Read) (factors marginals′ : List Float) → read ≡ readAll bytes (replicate factor-room plus-zero) .answer
+    → factors ≡ readAll bytes (replicate factor-room plus-zero) .store → marginals′ ≡ again (read .graph) factors (stores (replicate message-room plus-zero) marginals) times .marginals
+    → marginals′ ≡ repeated (readJob bytes) marginals times
+unfolding repeated
+repeated-is bytes marginals times read factors marginals′ er ef e = e ∙ rw (er, ef) refl

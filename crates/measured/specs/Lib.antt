@@ -1,0 +1,2 @@
+-- The definitions that the contracts of `measured` cite.
+pub mod Measured

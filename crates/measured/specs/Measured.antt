@@ -1,0 +1,57 @@
+-- A job's factors, eliminated directly, and a job's graph, run several times. Definitions only.
+use Prim.Native.Nat.{ℕ, zero, suc, _+_}
+use mathlib.Core.List.{List}
+use lib.Ieee.{Float}
+use lib.ListN.{replicate}
+use Rattle.matrix.specs.Sums.{plus-zero}
+use Rattle.workspace.specs.Frames.{work-numbers}
+use Rattle.graph.specs.Refusals.{numberOf}
+use Rattle.graph.specs.declared.Graph.{Graph}
+use Rattle.records.specs.Records.{Reading, readAll}
+use Rattle.direct.specs.Direct.{Verdict, verdict}
+use Rattle.direct.specs.declared.Direct.{Direct}
+use Rattle.direct.specs.declared.Direct.the-variants.{Rows, Refused}
+use Rattle.solver.specs.Run as solver
+
+-- the numbers of the factor and of the message store, as in `job`
+abbrev pub factor-room : ℕ
+factor-room = 2048
+
+abbrev pub message-room : ℕ
+message-room = 3072
+
+-- what a job registers
+abbrev pub readJob : List ℕ → Reading
+readJob bytes = readAll bytes (replicate factor-room plus-zero)
+
+-- a refusal is marked; no message has as many rows
+abbrev pub refused-mark : ℕ
+refused-mark = 0x10000
+
+abbrev pub numberIn : Direct → ℕ
+numberIn (Rows rows) = rows
+numberIn (Refused why) = refused-mark + numberOf why
+
+-- a direct elimination of some of its factors
+unfoldable pub eliminated : Reading → List ℕ → List ℕ → List ℕ → ℕ → Verdict
+eliminated r slots kept cleared room = verdict (r .answer .graph) slots kept cleared (r .store) room work-numbers
+
+-- the message and the marginal store
+pub record Stores : Type 0 where
+  pub messages : List Float
+  pub marginals : List Float
+
+abbrev pub stores : List Float → List Float → Stores
+stores messages marginals = record { messages = messages; marginals = marginals }
+
+abbrev pub storesIn : solver.Verdict → Stores
+storesIn v = record { messages = v .messages; marginals = v .marginals }
+
+-- n runs, each over the stores that the one before left
+unfoldable pub again : Graph → List Float → Stores → ℕ → Stores
+again g factors s zero = s
+again g factors s (suc n) = let t = again g factors s n in storesIn (solver.run g factors (t .messages) work-numbers (t .marginals))
+
+-- the marginal store after n runs of a job's graph
+unfoldable pub repeated : Reading → List Float → ℕ → List Float
+repeated r marginals n = again (r .answer .graph) (r .store) (stores (replicate message-room plus-zero) marginals) n .marginals
