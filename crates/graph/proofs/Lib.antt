@@ -1,4 +1,5 @@
 -- Laws that several proofs cite.
+pub mod Places
 pub mod Validity
 pub mod Keeping
 pub mod Filling

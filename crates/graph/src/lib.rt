@@ -18,12 +18,12 @@ use factor::limits::TOTAL;
 use factor::limits::VARIABLES;
 use refusal::Refusal;
 ghost use mathlib.Core.Path.{_≡_};
-ghost use mathlib.Core.Bool.{true};
+ghost use mathlib.Core.Bool.{true, cond};
 ghost use mathlib.Core.Logic.{_↔_};
 ghost use Prim.Native.Nat.{ℕ, _*_, _<_, _≤_};
 ghost use lib.ListN.{length};
 ghost use Rattle.factor.specs.Limits.{max-variables, max-factors, max-keys, most-numbers};
-ghost use Rattle.factor.specs.Factor.{fits};
+ghost use Rattle.factor.specs.Factor.{fits, isClear};
 ghost use Rattle.graph.specs.Record as spec;
 ghost use Rattle.graph.specs.Registration as calls;
 ghost use Rattle.graph.specs.Reached.{Reached};
@@ -51,6 +51,17 @@ pub enum Outcome {
 pub struct Added {
     pub graph: Graph,
     pub outcome: Outcome,
+}
+
+// A place of the factors that is used holds a factor of registered keys; one that is not used holds nothing.
+fn factor_place(f: Factor, sizes: [u8; VARIABLES], variables: usize, used: bool) -> bool
+    ensures { λ r. ⌜ (r ≡ cond used (fits sizes variables f) (isClear f)) × (length (f .keys) ≡ max-keys) ⌝ }
+{
+    if used {
+        f.fits(sizes, variables)
+    } else {
+        f.is_clear()
+    }
 }
 
 impl Graph {
@@ -190,20 +201,6 @@ impl Graph {
         }
     }
 
-    // A place of the factors holds a factor of registered keys, or nothing.
-    fn factor_place(self, number: usize) -> bool
-        requires { ⌜ number < max-factors ⌝ }
-        ensures { λ r. ⌜ (r ≡ spec.factorPlace self number) × (length (spec.factorAt self number .keys) ≡ max-keys) ⌝ }
-    {
-        let f = self.factors[number];
-        let sizes = self.sizes;
-        if number < self.count {
-            f.fits(sizes, self.variables)
-        } else {
-            f.is_clear()
-        }
-    }
-
     fn variables_fit(self) -> bool
         ensures { λ r. ⌜ r ≡ spec.variablesFit self ⌝ }
     {
@@ -219,8 +216,11 @@ impl Graph {
         ensures { λ r. ⌜ r ≡ spec.factorsFit self ⌝ }
         ensures { λ r. ⌜ (r ≡ true → (i : ℕ) → i < max-factors → length (spec.factorAt self i .keys) ≡ max-keys) ⌝ }
     {
+        let sizes = self.sizes;
         for number in 0..FACTORS {
-            if !self.factor_place(number) {
+            let f = self.factors[number];
+            let used = number < self.count;
+            if !factor_place(f, sizes, self.variables, used) {
                 return false;
             }
         }

@@ -1,49 +1,63 @@
 -- `graph::Graph::factors_fit` meets its contract. The loop's invariant: the places passed are right, and their keys have room. Assumes nothing.
 use Prim.Native.Nat.{_-_, _<_, _≤_, ℕ}
 use mathlib.Core.Bool.{false≢true, true}
-use mathlib.Core.Path.{_≡_, sym}
-use native.Mathlib.Omega.{arith}
+use mathlib.Core.Path.{_≡_, refl, sym}
 use borrow.Author.Count.{below-more, below-none}
-use borrow.Author.Needs.{needs}
 use borrow.Author.Tests.{not-false, not-true}
 use lib.ListN.{length}
 use Rattle.factor.proofs.Counting.{all-fail, all-more, all-none, tells}
 use Rattle.factor.specs.Counting.{all}
 use Rattle.factor.specs.Limits.{max-factors, max-keys}
 use Rattle.graph.specs.Record.{factorAt, factorPlace, factorsFit}
+use Rattle.graph.proofs.Places.{placed-is}
+use native.Mathlib.Omega.{arith}
+use borrow.Author.Needs.{needs}
 use Rattle.graph.proofs.Graph.factors_fit.Statement.{statement}
 use Rattle.graph.proofs.Graph.factors_fit.Tie as tie
 
 abbrev Inv-loop : tie.InvT-loop
-Inv-loop self number₀ number = (number ≤ max-factors) × (all (λ i. factorPlace self i) number ≡ true) × ((i : ℕ) → i < number → length (factorAt self i .keys) ≡ max-keys)
+Inv-loop self sizes number₀ number = (number ≤ max-factors) × (all (λ i. factorPlace self i) number ≡ true) × ((i : ℕ) → i < number → length (factorAt self i .keys) ≡ max-keys)
 
 abbrev μ-loop : tie.MeasureT-loop
-μ-loop self number₀ number = max-factors - number
+μ-loop self sizes number₀ number = max-factors - number
 
+-- src/lib.rt:220:9
 loop-holds : tie.Need-loop-holds Inv-loop μ-loop
 loop-holds c = (search needs, all-none _, below-none _)
 
+-- src/lib.rt:221:21
+mul-f : tie.Need-mul-f Inv-loop μ-loop
+mul-f c = search needs
+
+-- src/lib.rt:221:21
+element-copy-out-f : tie.Need-element-copy-out-f Inv-loop μ-loop
+element-copy-out-f c = search needs
+
+-- src/lib.rt:223:17
 factor-place-requires : tie.Need-factor-place-requires Inv-loop μ-loop
 factor-place-requires c κs = search needs
 
+-- src/lib.rt:224:17
 returns : tie.Need-returns Inv-loop μ-loop
 unfolding factorsFit
-returns c = (sym (all-fail (λ i. factorPlace (c .before .before .before .before .args .self) i) max-factors (c .before .before .before .loop .number) (search needs) (tells (c .before .factor-place .ensures .0) (not-true _ (c .if1 .taken)))), λ x. absurd (false≢true x))
+returns c = (sym (all-fail (λ i. factorPlace (c .before .before .before .before .before .before .args .t1) i) max-factors (c .before .before .before .before .loop .number) (search needs) (tells (placed-is (c .before .before .before .before .before .before .args .t1) (c .before .before .before .before .loop .number) _ _ _ refl refl (c .before .factor-place .ensures .0)) (not-true _ (c .if1 .taken)))), λ x. absurd (false≢true x))
 
+-- src/lib.rt:220:13
 add-number : tie.Need-add-number Inv-loop μ-loop
 add-number c = search needs
 
+-- src/lib.rt:220:9
 loop-less : tie.Need-loop-less Inv-loop μ-loop
 loop-less c = search needs
 
+-- src/lib.rt:220:9
 loop-again : tie.Need-loop-again Inv-loop μ-loop
-loop-again c = (search needs, all-more _ _ (c .before .before .before .loop .inv .1) (tells (c .before .factor-place .ensures .0) (not-false _ (c .if1 .left))), below-more _ _ (c .before .before .before .loop .inv .2) (c .before .factor-place .ensures .1))
+loop-again c = (search needs, all-more _ _ (c .before .before .before .before .loop .inv .1) (tells (placed-is (c .before .before .before .before .before .before .args .t1) (c .before .before .before .before .loop .number) _ _ _ refl refl (c .before .factor-place .ensures .0)) (not-false _ (c .if1 .left))), below-more _ _ (c .before .before .before .before .loop .inv .2) (c .before .factor-place .ensures .1))
 
+-- src/lib.rt:215:5
 returns-2 : tie.Need-returns-2 Inv-loop μ-loop
 unfolding factorsFit
-returns-2 c =
-    let e : c .before .loop .number ≡ max-factors = omega arith in
-    (sym (rw e at (c .before .loop .inv .1)), λ _ i l. c .before .loop .inv .2 i (omega arith))
+returns-2 c = let e : c .before .loop .number ≡ max-factors = omega arith in (sym (rw e at (c .before .loop .inv .1)), λ _ i l. c .before .loop .inv .2 i (omega arith))
 
 pub factors-fit-spec : {M : Type 1} → statement M
 factors-fit-spec =
@@ -52,6 +66,8 @@ factors-fit-spec =
     Inv-loop
     μ-loop
     loop-holds
+    mul-f
+    element-copy-out-f
     factor-place-requires
     returns
     add-number
