@@ -1,27 +1,19 @@
 -- The rows of a message. Assumes nothing.
 use mathlib.Core.Path.{_≡_, refl}
-use mathlib.Core.Bool.{Bool, true, false, cond}
+use mathlib.Core.Bool.{false}
 use mathlib.Core.List.{List}
 use Prim.Native.Nat.{ℕ, _+_, _*_, _≤_, _<_}
 use native.Mathlib.Nat.{mul-le-mul}
 use native.Mathlib.Omega.{arith}
-use borrow.Author.Tests.{le-leb, lt-leb, leb-true}
-use lib.Dec.{leb}
+use borrow.Author.Tests.{le-leb, lt-leb}
 use lib.ListN.{length}
 use Rattle.slots.specs.Layouts.{dimOf, layoutOf, Listed}
 use Rattle.slots.specs.Tables.{rowsByAll, numbersOf}
 use Rattle.slots.specs.declared.layout.Layout.{Layout}
-use Rattle.gaussian.specs.Asked.{messageRows}
+use Rattle.gaussian.proofs.Lengths.{rows-few}
 use Rattle.factor.specs.Factor.{lay}
 use Rattle.tables.specs.Originals.{withHead}
 use Rattle.messages.specs.Asked.{rowsBy, firstOf}
-
-pub rows-most : (y d : ℕ) → messageRows y d ≤ d
-rows-most y d = go (leb y d) refl
-  where
-    go : (b : Bool) → leb y d ≡ b → cond b y d ≤ d
-    go true e = leb-true y d e
-    go false e = omega arith
 
 module _ (kept cleared slots sizes keys heads : List ℕ) (m : Layout) (y d : ℕ) (em : m ≡ layoutOf kept cleared sizes)
     (ey : y ≡ rowsByAll m keys heads slots (length slots)) (ed : d ≡ dimOf sizes kept) where
@@ -40,7 +32,7 @@ pub placed-small : (kept cleared slots sizes keys heads : List ℕ) (r d : ℕ) 
     → (r ≤ 32) × (d ≤ 32) × (r * d ≤ 1024) × (r * r ≤ 1024)
 placed-small kept cleared slots sizes keys heads r d l er ed =
     let hd : d ≤ 32 = rw ed (l .total) in
-    let hr : r ≤ 32 = rw er (omega (arith, l .total, rows-most (rowsByAll (layoutOf kept cleared sizes) keys heads slots (length slots)) (dimOf sizes kept))) in
+    let hr : r ≤ 32 = rw er (omega (arith, l .total, rows-few (rowsByAll (layoutOf kept cleared sizes) keys heads slots (length slots)) (dimOf sizes kept))) in
     (hr, hd, products r d hr hd .0, products r d hr hd .1)
 
 -- what the placing of a message comes to

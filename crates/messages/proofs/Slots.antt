@@ -28,7 +28,7 @@ use Rattle.tables.proofs.OriginalsRead.{original-fits}
 use Rattle.lists.specs.Lists.{numberOf}
 use Rattle.messages.specs.Figure.{slotRows, rowsTo, rowsAt, widthAt, needTo}
 use Rattle.messages.specs.Tables.{keysOf, Carriable, firstKey, messageHead, PlacedTo, Tables}
-use Rattle.messages.proofs.Rows.{rows-most}
+use Rattle.gaussian.proofs.Lengths.{rows-few}
 use Rattle.messages.proofs.Members.{at-in, placed-in, below-cleared, below-kept, once, kept-length, column-all}
 
 -- ---- the figure grows by one message at a time
@@ -72,7 +72,7 @@ module _ (g : Graph) (ms : List ClosedFactor) (c : Carriable g ms) (j : ℕ) (l 
 
   pub message-rows-most : rowsAt g ms j ≤ max-total
   unfolding Rattle.messages.specs.Figure.rowsIn
-  message-rows-most = omega (arith, rows-most (Rattle.schedule.specs.Count.sum (slotRows g (at ms j .cleared) (rowsTo g ms j)) (at ms j .content)) (widthAt g ms j), message-kept .total)
+  message-rows-most = omega (arith, rows-few (Rattle.schedule.specs.Count.sum (slotRows g (at ms j .cleared) (rowsTo g ms j)) (at ms j .content)) (widthAt g ms j), message-kept .total)
 
 -- ---- a slot
 
