@@ -10,6 +10,7 @@ use Rattle.matrix.specs.Triangles.{filledDiagonal, filledUpper, filledColumn}
 use Rattle.matrix.specs.Finite.{allFinite}
 use Rattle.cholesky.specs.Factor.{factor, column, rooted, below, reduced, pivotOf}
 use Rattle.cholesky.specs.Solve.{solveLower, solvedRow}
+use Rattle.blocks.specs.Blocks as blocks
 use Rattle.workspace.specs.Blocks.{stamp, solvedColumns, transposedTimes}
 use Rattle.workspace.specs.Sums.{change, turns}
 use Rattle.workspace.specs.Frames.{frameOf}
@@ -20,5 +21,5 @@ use Rattle.gaussian.specs.Elimination.{eliminate, branched, run, begun, 
 
 -- the definition, open to computing
 unfoldable pub computed : List FactorView → List ℕ → List ℕ → List ℕ → Outcome
-unfolding eliminate branched run outcome finished ended lost begun frameOf layoutOf rowsOfAll withViews views.withView views.withPrior views.withRows views.withKeys views.withKey views.withOwn views.withProducts views.withProduct views.targetOf views.column change turns stamp filledDiagonal filledUpper filledColumn solvedColumns transposedTimes factor column rooted below reduced pivotOf solveLower solvedRow accumulate deduct dotOf deductOf steps sweep blockColumn block product allFinite rootOf ofBits add sub mul div
+unfolding eliminate branched run outcome finished ended lost begun frameOf layoutOf rowsOfAll withViews views.withView views.withPrior views.withRows views.withKeys views.withKey views.withOwn views.withProducts views.withProduct views.targetOf blocks.column change turns stamp filledDiagonal filledUpper filledColumn solvedColumns transposedTimes factor column rooted below reduced pivotOf solveLower solvedRow accumulate deduct dotOf deductOf steps sweep blockColumn block product allFinite rootOf ofBits add sub mul div
 computed views kept cleared sizes = eliminate views kept cleared sizes

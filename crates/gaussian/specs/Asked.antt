@@ -6,12 +6,13 @@ use mathlib.Core.List.{List}
 use lib.Dec.{leb}
 use lib.ListN.{length, getD}
 use lib.Ieee.{Float}
+use Rattle.blocks.specs.Blocks.{column}
 use Rattle.workspace.specs.Frames.{work-numbers, frameOf}
 use Rattle.workspace.specs.declared.Frame.{Frame}
 use Rattle.factor.specs.Limits.{max-variables, max-size, max-total}
 use Rattle.slots.specs.Limits.{max-slots, head-numbers, scratch-numbers}
 use Rattle.slots.specs.Layouts.{member, dimOf, layoutOf, Listed}
-use Rattle.slots.specs.Views.{column, rowsOfAll}
+use Rattle.slots.specs.Views.{rowsOfAll}
 use Rattle.slots.specs.Tables.{headOf, keysAt, storeOf, numbersOf, viewAt, rowsByAll}
 use Rattle.slots.specs.Fitting.{Ready, Counted}
 use Rattle.slots.specs.declared.layout.Layout.{Layout}

@@ -12,8 +12,8 @@ use borrow.Author.Tests.{eqb-true, eqb-false}
 use Rattle.schedule.specs.Count.{hit, count, In, from}
 use Rattle.schedule.proofs.Counts.{count-cons, count-nil, hit-same, hit-other, mem-in, from-in}
 use Rattle.schedule.proofs.Sums.{length-sum, sum-le, length-from}
+use Rattle.blocks.specs.Blocks.{column}
 use Rattle.slots.specs.Layouts.{member, dimOf}
-use Rattle.slots.specs.Views.{column}
 use Rattle.tables.proofs.Dimensions.{times, Below, Once}
 
 -- what stands at a place is a member

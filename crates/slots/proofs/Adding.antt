@@ -3,7 +3,7 @@ use Prim.Native.Nat.{ℕ, zero, suc, _+_, _-_, _*_, _≤_, _<_}
 use mathlib.Core.Path.{_≡_, refl, ap, _∙_, sym, subst}
 use mathlib.Core.Bool.{Bool, true, false, cond}
 use mathlib.Core.List.{List}
-use native.Mathlib.Nat.{mul-le-mul-right, mul-le-mul, add-zero, add-suc}
+use native.Mathlib.Nat.{mul-le-mul-right, add-zero, add-suc}
 use native.Mathlib.Omega.{arith}
 use native.Mathlib.Numerals.{add-one}
 use lib.ListN.{length, getD, replicate, length-replicate}
@@ -17,6 +17,7 @@ use Rattle.matrix.specs.declared.Update.the-variants.{Add, Store}
 use Rattle.matrix.proofs.Entries.{apart}
 use Rattle.matrix.proofs.Dense.{dense, product-at}
 use Rattle.matrix.proofs.Agreement.{block-same}
+use Rattle.blocks.specs.Blocks.{column, blockColumnOf}
 use Rattle.workspace.specs.Blocks.{corner, stamp, transposedTimes}
 use Rattle.workspace.specs.Sums.{Sums, change, turns}
 use Rattle.workspace.specs.Frames.{from, to, Laid}
@@ -27,7 +28,7 @@ use Rattle.workspace.proofs.Parts.{inner, length-part}
 use Rattle.workspace.proofs.InPlace.{dot-same}
 use Rattle.slots.specs.declared.layout.Layout.{Layout}
 use Rattle.slots.specs.Layouts.{find}
-use Rattle.slots.specs.Views.{column, blockColumnOf, target, targetOf, withProduct, withProducts, withOwn, withKey, withKeys}
+use Rattle.slots.specs.Views.{target, targetOf, withProduct, withProducts, withOwn, withKey, withKeys}
 use Rattle.slots.specs.Fitting.{Sits, Wide}
 use Rattle.slots.specs.declared.layout.Spot.{Spot}
 use Rattle.slots.specs.declared.sums.Target.{Target}
@@ -101,22 +102,25 @@ pub column-next : (size keys : List ℕ) (i : ℕ) → column size keys (i + 1) 
 unfolding column
 column-next size keys i = rw add-one
 
--- the block column of the i-th key, from column c to column e, stands in A
-pub column-fits : {sizes keys : List ℕ} {y len c e s : ℕ} (i : ℕ) → Wide sizes keys y len → i < length keys → c ≡ column sizes keys i → s ≡ getD sizes (getD keys i 0) 0 → e ≡ c + s
-    → (e ≡ column sizes keys (i + 1)) × (e ≤ 32) × (c * y ≤ e * y) × (e * y ≤ len) × (e * y - c * y ≡ y * s) × (e * y ≤ 1024)
-column-fits {sizes} {keys} {y} {len} {c} {e} {s} i w h ec es ee =
-    let n : e ≡ column sizes keys (i + 1) = sym (column-next sizes keys i ∙ omega arith) ∙ refl in
+-- the block column of the i-th key, of s columns from column c on, stands in A
+pub column-fits : {sizes keys : List ℕ} {y len c s : ℕ} (i : ℕ) → Wide sizes keys y len → i < length keys → c ≡ column sizes keys i → s ≡ getD sizes (getD keys i 0) 0
+    → (c + s ≡ column sizes keys (i + 1)) × (c + s ≤ 32) × ((c + s) * y ≤ len)
+column-fits {sizes} {keys} {y} {len} {c} {s} i w h ec es =
+    let n : c + s ≡ column sizes keys (i + 1) = sym (column-next sizes keys i ∙ omega arith) in
     let d : i + 1 + (length keys - (i + 1)) ≡ length keys = omega arith in
-    let b : e ≤ column sizes keys (length keys) = rw n (subst (λ (k : ℕ). column sizes keys (i + 1) ≤ column sizes keys k) d (column-le sizes keys (i + 1) (length keys - (i + 1)))) in
-    let m : e ≤ 32 = omega arith in
-    (n, m, omega (arith, ap (λ (k : ℕ). k * y) ee), omega (arith, mul-le-mul-right y b), omega (arith, ap (λ (k : ℕ). k * y) ee), omega (arith, mul-le-mul m (w .rows)))
+    let b : c + s ≤ column sizes keys (length keys) = rw n (subst (λ (k : ℕ). column sizes keys (i + 1) ≤ column sizes keys k) d (column-le sizes keys (i + 1) (length keys - (i + 1)))) in
+    (n, omega arith, omega (arith, mul-le-mul-right y b))
 
-pub products-more : (z : Bool) (f : Frame) (m : Layout) (keys : List ℕ) (y : ℕ) (a : List Float) (k o : Spot) (t : List Float) (σ₀ σ σ′ : Sums) (j c e : ℕ)
-    → σ ≡ withProducts z f m keys y a k t σ₀ j → c ≡ column (m .size) keys j → o ≡ find m (getD keys j 0) → e ≡ c + o .size
-    → σ′ ≡ withProduct (target z f k o) (k .size) t y (part a (c * y) (e * y)) (o .size) σ
+-- it has y numbers a column
+pub fits-block : (a b : List Float) (y c s : ℕ) → b ≡ blockColumnOf a y c s → (c + s) * y ≤ length a → y * s ≤ length b
+fits-block a b y c s e h = rw e (fits-part a (c * y) ((c + s) * y) (y * s) h (omega arith))
+
+pub products-more : (z : Bool) (f : Frame) (m : Layout) (keys : List ℕ) (y : ℕ) (a : List Float) (k o : Spot) (t b : List Float) (σ₀ σ σ′ : Sums) (j c : ℕ)
+    → σ ≡ withProducts z f m keys y a k t σ₀ j → c ≡ column (m .size) keys j → o ≡ find m (getD keys j 0) → b ≡ blockColumnOf a y c (o .size)
+    → σ′ ≡ withProduct (target z f k o) (k .size) t y b (o .size) σ
     → σ′ ≡ withProducts z f m keys y a k t σ₀ (j + 1)
 unfolding withProducts turns
-products-more z f m keys y a k o t σ₀ σ σ′ j c e es ec eo ee en = rw (en, ee, ec, eo, add-one j, es)
+products-more z f m keys y a k o t b σ₀ σ σ′ j c es ec eo eb en = rw (en, eb, ec, eo, add-one j, es)
 
 -- ---- the block column of k itself
 
@@ -191,12 +195,12 @@ key-is z f m row keys y a xi w k b t₀ t σ σ₁ σ₂ h e₁ et e₂ =
     (λ i j hi hj. rw et (stored-at t₀ (k .size) y b (flip (columns y)) w (columns y) y h i j hi hj)
     ∙ sym (stored-at (replicate (k .size * y) plus-zero) (k .size) y b (flip (columns y)) w (columns y) y (rw (length-replicate (k .size * y) plus-zero) (omega arith)) i j hi hj)))
 
-pub keys-more : (z : Bool) (f : Frame) (m : Layout) (row : ℕ) (keys : List ℕ) (y : ℕ) (a xi w : List Float) (k : Spot) (σ₀ σ σ′ : Sums) (i c e : ℕ)
-    → σ ≡ withKeys z f m row keys y a xi w σ₀ i → c ≡ column (m .size) keys i → k ≡ find m (getD keys i 0) → e ≡ c + k .size
-    → σ′ ≡ withKey z f m row keys y a xi w k (part a (c * y) (e * y)) σ
+pub keys-more : (z : Bool) (f : Frame) (m : Layout) (row : ℕ) (keys : List ℕ) (y : ℕ) (a xi w : List Float) (k : Spot) (b : List Float) (σ₀ σ σ′ : Sums) (i c : ℕ)
+    → σ ≡ withKeys z f m row keys y a xi w σ₀ i → c ≡ column (m .size) keys i → k ≡ find m (getD keys i 0) → b ≡ blockColumnOf a y c (k .size)
+    → σ′ ≡ withKey z f m row keys y a xi w k b σ
     → σ′ ≡ withKeys z f m row keys y a xi w σ₀ (i + 1)
 unfolding withKeys turns
-keys-more z f m row keys y a xi w k σ₀ σ σ′ i c e es ec ek ee en = rw (en, ee, ec, ek, add-one i, es)
+keys-more z f m row keys y a xi w k b σ₀ σ σ′ i c es ec ek eb en = rw (en, eb, ec, ek, add-one i, es)
 
 -- B'W of any key fits the slice that takes it
 pub scratch : (s y m n : ℕ) → s ≤ 6 → 6 * y ≤ n → m ≡ n → s * y ≤ m

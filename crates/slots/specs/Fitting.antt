@@ -5,11 +5,12 @@ use mathlib.Core.Bool.{Bool, true, false, cond}
 use mathlib.Core.List.{List, []}
 use lib.ListN.{length, getD}
 use lib.Ieee.{Float}
+use Rattle.blocks.specs.Blocks.{column}
 use Rattle.workspace.specs.declared.Frame.{Frame}
 use Rattle.factor.specs.Limits.{max-variables, max-size, max-total}
 use Rattle.slots.specs.Limits.{max-slots, head-numbers}
 use Rattle.slots.specs.Layouts.{find}
-use Rattle.slots.specs.Views.{column, rowsOf}
+use Rattle.slots.specs.Views.{rowsOf}
 use Rattle.slots.specs.Tables.{headOf, keysAt, storeOf, numbersOf, viewOf}
 use Rattle.slots.specs.declared.layout.Layout.{Layout}
 use Rattle.slots.specs.declared.layout.Spot.{Spot}

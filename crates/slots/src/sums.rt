@@ -1,6 +1,7 @@
 // One factor is added to the matrices of an elimination: block columns times W times block columns, each where it belongs.
 use crate::layout::Layout;
 use crate::layout::Spot;
+use blocks::block_at;
 use matrix::Update;
 use matrix::View;
 use workspace::Frame;
@@ -132,11 +133,9 @@ fn add_products(
     let mut column = 0;
     for j in 0..keys.len() {
         let o = layout.find(keys[j]);
-        let next = column + o.size;
-        let p = column * y;
-        let q = next * y;
-        add_product(work, f, z, t, y, k, o, &a[p..q]);
-        column = next;
+        let b = block_at(a, y, column, o.size);
+        add_product(work, f, z, t, y, k, o, b);
+        column = column + o.size;
     }
 }
 
@@ -279,11 +278,9 @@ fn add_keys(
     let mut column = 0;
     for i in 0..keys.len() {
         let k = layout.find(keys[i]);
-        let next = column + k.size;
-        let p = column * y;
-        let q = next * y;
-        add_key(work, t, f, z, row, layout, keys, y, a, xi, w, k, &a[p..q]);
-        column = next;
+        let b = block_at(a, y, column, k.size);
+        add_key(work, t, f, z, row, layout, keys, y, a, xi, w, k, b);
+        column = column + k.size;
     }
 }
 

@@ -8,6 +8,7 @@ use native.Mathlib.Numerals.{add-one}
 use lib.Ieee.{Float}
 use lib.ListN.{length, getD, take, drop, length-drop}
 use lib.Seq.{length-take-le, getD-take, getD-drop, ext-getD}
+use Rattle.blocks.specs.Blocks.{column}
 use Rattle.factor.specs.Limits.{max-total, max-factors, max-keys}
 use Rattle.factor.specs.Factor.{keyAt, sizeOf, firstColumn, width, aNumbers, numbers, fits}
 use Rattle.factor.specs.declared.Factor.{Factor}
@@ -17,7 +18,6 @@ use Rattle.graph.specs.Record.{factorAt, offset, valid}
 use Rattle.graph.specs.declared.Graph.{Graph}
 use Rattle.graph.proofs.Validity.{size-most, valid-variables, valid-count, valid-size, valid-factor, valid-touched, rows-most, width-most, offset-within}
 use Rattle.slots.specs.Layouts.{member}
-use Rattle.slots.specs.Views.{column}
 use Rattle.slots.specs.Tables.{headOf, keysAt, numbersOf, readView}
 use Rattle.slots.specs.declared.Head.{Head}
 use Rattle.gaussian.specs.Asked.{KeyFits, HeadFits}

@@ -4,12 +4,13 @@ use mathlib.Core.Path.{_≡_, refl, ap, _∙_}
 use native.Mathlib.Omega.{arith}
 use borrow.Author.Needs.{needs}
 use lib.ListN.{length}
+use Rattle.blocks.specs.Blocks.{column}
 use Rattle.workspace.specs.Sums.{turns}
 use Rattle.workspace.specs.Frames.{cut}
 use Rattle.workspace.proofs.Cuts.{relaid}
-use Rattle.slots.specs.Views.{column, withProducts}
+use Rattle.slots.specs.Views.{withProducts}
 use Rattle.slots.specs.declared.layout.Spot.{Spot}
-use Rattle.slots.proofs.Adding.{fits-part, column-fits, products-more}
+use Rattle.slots.proofs.Adding.{column-fits, fits-block, products-more}
 use Rattle.slots.proofs.sums.add_products.Statement.{statement}
 use Rattle.slots.proofs.sums.add_products.Tie as tie
 
@@ -33,29 +34,14 @@ shared-slice-read-find c = omega arith
 find-requires : tie.Need-find-requires Inv-loop μ-loop
 find-requires c κs = c .before .before .before .before .before .before .before .pre .1 .1 .0 (c .before .before .loop .j) (omega (arith, c .before .loop-test .taken, c .before .before .loop .inv .1)) .listed
 
-add-next : tie.Need-add-next Inv-loop μ-loop
-add-next c = let b = column-fits (c .before .before .before .before .loop .j) (c .before .before .before .before .before .before .before .before .before .pre .1 .1 .1) (omega (arith, c .before .before .before .loop-test .taken, c .before .before .before .before .loop .inv .1)) (c .before .before .before .before .loop .inv .3) (ap (λ (s : Spot). s .size) (c .before .find .ensures)) refl in omega (arith, c .before .before .before .before .before .before .before .before .before .pre .1 .1 .1 .rows)
-
-mul-p : tie.Need-mul-p Inv-loop μ-loop
-mul-p c = let b = column-fits (c .before .before .before .before .loop .j) (c .before .before .before .before .before .before .before .before .before .pre .1 .1 .1) (omega (arith, c .before .before .before .loop-test .taken, c .before .before .before .before .loop .inv .1)) (c .before .before .before .before .loop .inv .3) (ap (λ (s : Spot). s .size) (c .before .find .ensures)) refl in omega (arith, c .before .before .before .before .before .before .before .before .before .pre .1 .1 .1 .rows)
-
-mul-q : tie.Need-mul-q Inv-loop μ-loop
-mul-q c = let b = column-fits (c .before .before .before .before .loop .j) (c .before .before .before .before .before .before .before .before .before .pre .1 .1 .1) (omega (arith, c .before .before .before .loop-test .taken, c .before .before .before .before .loop .inv .1)) (c .before .before .before .before .loop .inv .3) (ap (λ (s : Spot). s .size) (c .before .find .ensures)) refl in omega (arith, c .before .before .before .before .before .before .before .before .before .pre .1 .1 .1 .rows)
-
-mul-add-product : tie.Need-mul-add-product Inv-loop μ-loop
-mul-add-product c = let b = column-fits (c .before .before .before .before .before .loop .j) (c .before .before .before .before .before .before .before .before .before .before .pre .1 .1 .1) (omega (arith, c .before .before .before .before .loop-test .taken, c .before .before .before .before .before .loop .inv .1)) (c .before .before .before .before .before .loop .inv .3) (ap (λ (s : Spot). s .size) (c .before .before .find .ensures)) refl in omega (arith, c .before .before .before .before .before .before .before .before .before .before .pre .1 .1 .1 .rows)
-
-sub-add-product : tie.Need-sub-add-product Inv-loop μ-loop
-sub-add-product c = let b = column-fits (c .before .before .before .before .before .loop .j) (c .before .before .before .before .before .before .before .before .before .before .pre .1 .1 .1) (omega (arith, c .before .before .before .before .loop-test .taken, c .before .before .before .before .before .loop .inv .1)) (c .before .before .before .before .before .loop .inv .3) (ap (λ (s : Spot). s .size) (c .before .before .find .ensures)) refl in omega (arith, c .before .before .before .before .before .before .before .before .before .before .pre .1 .1 .1 .rows)
-
-part-add-product-start : tie.Need-part-add-product-start Inv-loop μ-loop
-part-add-product-start c = let b = column-fits (c .before .before .before .before .before .loop .j) (c .before .before .before .before .before .before .before .before .before .before .pre .1 .1 .1) (omega (arith, c .before .before .before .before .loop-test .taken, c .before .before .before .before .before .loop .inv .1)) (c .before .before .before .before .before .loop .inv .3) (ap (λ (s : Spot). s .size) (c .before .before .find .ensures)) refl in omega (arith, c .before .before .before .before .before .before .before .before .before .before .pre .1 .1 .1 .rows)
-
-part-add-product-end : tie.Need-part-add-product-end Inv-loop μ-loop
-part-add-product-end c = let b = column-fits (c .before .before .before .before .before .loop .j) (c .before .before .before .before .before .before .before .before .before .before .pre .1 .1 .1) (omega (arith, c .before .before .before .before .loop-test .taken, c .before .before .before .before .before .loop .inv .1)) (c .before .before .before .before .before .loop .inv .3) (ap (λ (s : Spot). s .size) (c .before .before .find .ensures)) refl in omega (arith, c .before .before .before .before .before .before .before .before .before .before .pre .1 .1 .1 .rows)
+block-at-requires : tie.Need-block-at-requires Inv-loop μ-loop
+block-at-requires c κs = column-fits (c .before .before .before .loop .j) (c .before .before .before .before .before .before .before .before .pre .1 .1 .1) (omega (arith, c .before .before .loop-test .taken, c .before .before .before .loop .inv .1)) (c .before .before .before .loop .inv .3) (ap (λ (s : Spot). s .size) (c .find .ensures)) .2
 
 add-product-requires : tie.Need-add-product-requires Inv-loop μ-loop
-add-product-requires c κs = let b = column-fits (c .before .before .before .before .before .before .loop .j) (c .before .before .before .before .before .before .before .before .before .before .before .pre .1 .1 .1) (omega (arith, c .before .before .before .before .before .loop-test .taken, c .before .before .before .before .before .before .loop .inv .1)) (c .before .before .before .before .before .before .loop .inv .3) (ap (λ (s : Spot). s .size) (c .before .before .before .find .ensures)) refl in (relaid _ (c .before .before .before .before .before .before .loop .inv .2) (c .before .before .before .before .before .before .before .before .before .before .before .pre .0), ((c .before .before .before .before .before .before .before .before .before .before .before .pre .1 .0 .0, c .before .before .before .before .before .before .before .before .before .before .before .pre .1 .0 .1, rw (c .before .before .before .find .ensures) (c .before .before .before .before .before .before .before .before .before .before .before .pre .1 .1 .0 (c .before .before .before .before .before .before .loop .j) (omega (arith, c .before .before .before .before .before .loop-test .taken, c .before .before .before .before .before .before .loop .inv .1)) .sits)), (c .before .before .before .before .before .before .before .before .before .before .before .pre .1 .0 .2, fits-part (c .before .before .before .before .before .before .before .before .before .before .before .args .a .now) _ _ _ (b .3) (b .4))))
+add-product-requires c κs = let b = column-fits (c .before .before .before .before .before .loop .j) (c .before .before .before .before .before .before .before .before .before .before .pre .1 .1 .1) (omega (arith, c .before .before .before .before .loop-test .taken, c .before .before .before .before .before .loop .inv .1)) (c .before .before .before .before .before .loop .inv .3) (ap (λ (s : Spot). s .size) (c .before .before .find .ensures)) in (relaid _ (c .before .before .before .before .before .loop .inv .2) (c .before .before .before .before .before .before .before .before .before .before .pre .0), ((c .before .before .before .before .before .before .before .before .before .before .pre .1 .0 .0, c .before .before .before .before .before .before .before .before .before .before .pre .1 .0 .1, rw (c .before .before .find .ensures) (c .before .before .before .before .before .before .before .before .before .before .pre .1 .1 .0 (c .before .before .before .before .before .loop .j) (omega (arith, c .before .before .before .before .loop-test .taken, c .before .before .before .before .before .loop .inv .1)) .sits)), (c .before .before .before .before .before .before .before .before .before .before .pre .1 .0 .2, fits-block (c .before .before .before .before .before .before .before .before .before .before .args .a .now) _ _ (c .before .before .before .before .before .loop .column) _ (c .before .block-at .ensures) (b .2))))
+
+add-column : tie.Need-add-column Inv-loop μ-loop
+add-column c = let b = column-fits (c .before .before .before .before .before .before .before .before .before .loop .j) (c .before .before .before .before .before .before .before .before .before .before .before .before .before .before .pre .1 .1 .1) (omega (arith, c .before .before .before .before .before .before .before .before .loop-test .taken, c .before .before .before .before .before .before .before .before .before .loop .inv .1)) (c .before .before .before .before .before .before .before .before .before .loop .inv .3) (ap (λ (s : Spot). s .size) (c .before .before .before .before .before .before .find .ensures)) in omega arith
 
 add-j : tie.Need-add-j Inv-loop μ-loop
 add-j c = omega (arith, c .before .before .before .before .before .before .before .before .loop-test .taken, c .before .before .before .before .before .before .before .before .before .loop .inv .1, c .before .before .before .before .before .before .before .before .before .before .before .before .before .before .pre .1 .1 .1 .count)
@@ -64,7 +50,7 @@ loop-less : tie.Need-loop-less Inv-loop μ-loop
 loop-less c = omega arith
 
 loop-again : tie.Need-loop-again Inv-loop μ-loop
-loop-again c = (omega (arith, c .before .before .before .before .before .before .before .before .loop-test .taken), omega (arith, c .before .before .before .before .before .before .before .before .before .loop .inv .1), c .before .before .add-product .kept .0 ∙ c .before .before .before .before .before .before .before .before .before .loop .inv .2, column-fits (c .before .before .before .before .before .before .before .before .before .loop .j) (c .before .before .before .before .before .before .before .before .before .before .before .before .before .before .pre .1 .1 .1) (omega (arith, c .before .before .before .before .before .before .before .before .loop-test .taken, c .before .before .before .before .before .before .before .before .before .loop .inv .1)) (c .before .before .before .before .before .before .before .before .before .loop .inv .3) (ap (λ (s : Spot). s .size) (c .before .before .before .before .before .before .find .ensures)) refl .0, products-more (c .before .before .before .before .before .before .before .before .before .before .before .before .before .before .args .z) (c .before .before .before .before .before .before .before .before .before .before .before .before .before .before .args .f) (c .before .before .before .before .before .before .before .before .before .before .before .before .before .before .args .layout) (c .before .before .before .before .before .before .before .before .before .before .before .before .before .before .args .keys .now) (c .before .before .before .before .before .before .before .before .before .before .before .before .before .before .args .y) (c .before .before .before .before .before .before .before .before .before .before .before .before .before .before .args .a .now) (c .before .before .before .before .before .before .before .before .before .before .before .before .before .before .args .k) _ (c .before .before .before .before .before .before .before .before .before .before .before .before .before .before .args .t .now) _ _ _ (c .before .before .before .before .before .before .before .before .before .loop .j) (c .before .before .before .before .before .before .before .before .before .loop .column) _ (c .before .before .before .before .before .before .before .before .before .loop .inv .4) (c .before .before .before .before .before .before .before .before .before .loop .inv .3) (c .before .before .before .before .before .before .find .ensures) refl (c .before .before .add-product .ensures))
+loop-again c = (omega (arith, c .before .before .before .before .before .before .before .before .loop-test .taken), omega (arith, c .before .before .before .before .before .before .before .before .before .loop .inv .1), c .before .before .before .add-product .kept .0 ∙ c .before .before .before .before .before .before .before .before .before .loop .inv .2, column-fits (c .before .before .before .before .before .before .before .before .before .loop .j) (c .before .before .before .before .before .before .before .before .before .before .before .before .before .before .pre .1 .1 .1) (omega (arith, c .before .before .before .before .before .before .before .before .loop-test .taken, c .before .before .before .before .before .before .before .before .before .loop .inv .1)) (c .before .before .before .before .before .before .before .before .before .loop .inv .3) (ap (λ (s : Spot). s .size) (c .before .before .before .before .before .before .find .ensures)) .0, products-more (c .before .before .before .before .before .before .before .before .before .before .before .before .before .before .args .z) (c .before .before .before .before .before .before .before .before .before .before .before .before .before .before .args .f) (c .before .before .before .before .before .before .before .before .before .before .before .before .before .before .args .layout) (c .before .before .before .before .before .before .before .before .before .before .before .before .before .before .args .keys .now) (c .before .before .before .before .before .before .before .before .before .before .before .before .before .before .args .y) (c .before .before .before .before .before .before .before .before .before .before .before .before .before .before .args .a .now) (c .before .before .before .before .before .before .before .before .before .before .before .before .before .before .args .k) _ (c .before .before .before .before .before .before .before .before .before .before .before .before .before .before .args .t .now) _ _ _ _ (c .before .before .before .before .before .before .before .before .before .loop .j) (c .before .before .before .before .before .before .before .before .before .loop .column) (c .before .before .before .before .before .before .before .before .before .loop .inv .4) (c .before .before .before .before .before .before .before .before .before .loop .inv .3) (c .before .before .before .before .before .before .find .ensures) (c .before .before .before .before .before .block-at .ensures) (c .before .before .before .add-product .ensures))
 
 same-length : tie.Need-same-length Inv-loop μ-loop
 same-length c = search needs
@@ -82,14 +68,9 @@ add-products-spec =
     mul-find
     shared-slice-read-find
     find-requires
-    add-next
-    mul-p
-    mul-q
-    mul-add-product
-    sub-add-product
-    part-add-product-start
-    part-add-product-end
+    block-at-requires
     add-product-requires
+    add-column
     add-j
     loop-less
     loop-again
