@@ -1,12 +1,14 @@
 -- A work store that is all zero holds the sums before the first factor. Assumes nothing.
-use Prim.Native.Nat.{ℕ, _-_, _*_, _≤_}
-use mathlib.Core.Path.{_≡_, ap, _∙_}
+use Prim.Native.Nat.{ℕ, _+_, _-_, _*_, _≤_, _<_}
+use mathlib.Core.Path.{_≡_, ap, _∙_, sym, subst}
 use mathlib.Core.Bool.{Bool, true, false}
 use mathlib.Core.List.{List}
 use native.Mathlib.Omega.{arith}
-use lib.ListN.{length, replicate}
-use lib.Ieee.{Float}
-use Rattle.matrix.specs.Views.{columns, part}
+use native.Mathlib.Nat.{zero-add}
+use lib.ListN.{length, getD, replicate, length-replicate, getD-replicate}
+use lib.Seq.{ext-getD}
+use lib.Ieee.{Float, nan}
+use Rattle.matrix.specs.Views.{columns, part, splice}
 use Rattle.matrix.specs.Sums.{plus-zero, one}
 use Rattle.matrix.specs.Triangles.{filledDiagonal}
 use Rattle.workspace.specs.Blocks.{zeroed}
@@ -14,12 +16,32 @@ use Rattle.workspace.specs.Sums.{Sums, change}
 use Rattle.workspace.specs.Frames.{cut, Laid}
 use Rattle.workspace.specs.declared.Frame.{Frame}
 use Rattle.workspace.specs.declared.Part.the-variants.{A}
-use Rattle.workspace.proofs.Parts.{zeroed-is, part-replicate}
+use Rattle.workspace.proofs.Parts.{length-part, getD-part, length-splice, splice-in, zeroed-is}
 use Rattle.gaussian.specs.Elimination.{begun}
 
-module _ (f : Frame) (w t : List Float) (l : Laid f (length w)) (e : t ≡ zeroed w (length w)) where
-  part-zero : (a b n : ℕ) → b ≤ length w → b - a ≡ n → part t a b ≡ replicate n plus-zero
-  part-zero a b n h g = rw (e ∙ zeroed-is w, ← g) (part-replicate (length w) a b h)
+module _ (f : Frame) (w x : List Float) (l : Laid f (length w)) (e : x ≡ zeroed (part w 0 (f .end)) (length (part w 0 (f .end)))) where
+  abbrev t : List Float
+  t = splice w 0 (f .end) x
+
+  x-zero : x ≡ replicate (f .end) plus-zero
+  x-zero =
+      let n : length (part w 0 (f .end)) ≡ f .end = omega (arith, length-part w 0 (f .end) (l .fits)) in
+      e ∙ zeroed-is (part w 0 (f .end)) ∙ ap (λ (n : ℕ). replicate n plus-zero) n
+
+  x-long : length x ≡ f .end - 0
+  x-long = omega (arith, ap (λ (y : List Float). length y) x-zero, length-replicate (f .end) plus-zero)
+
+  at-zero : (k : ℕ) → k < f .end → getD t k nan ≡ plus-zero
+  at-zero k h =
+      subst (λ (n : ℕ). getD (splice w 0 (f .end) x) n nan ≡ getD x k nan) (zero-add k) (splice-in w 0 (f .end) x (omega arith) (l .fits) x-long k (omega arith))
+      ∙ ap (λ (y : List Float). getD y k nan) x-zero
+      ∙ getD-replicate (f .end) k plus-zero nan h
+
+  part-zero : (a b n : ℕ) → b ≤ f .end → b - a ≡ n → part t a b ≡ replicate n plus-zero
+  part-zero a b n h g =
+      let r : length (part (splice w 0 (f .end) x) a b) ≡ n = length-part (splice w 0 (f .end) x) a b (rw (length-splice w 0 (f .end) x (omega arith) (l .fits) x-long) (omega (arith, l .fits))) ∙ g in
+      ext-getD nan _ _ (r ∙ sym (length-replicate n plus-zero))
+      (λ k b′. getD-part (splice w 0 (f .end) x) a b k (omega arith) ∙ at-zero (a + k) (omega arith) ∙ sym (getD-replicate n k plus-zero nan (omega arith)))
 
   all-zero : cut f t ≡ begun true f
   unfolding begun
@@ -39,3 +61,6 @@ module _ (f : Frame) (w t : List Float) (l : Laid f (length w)) (e : t ≡ zeroe
   pub begun-x : (z : Bool) (σ : Sums) → z ≡ false → σ ≡ change A (λ c. filledDiagonal (columns (f .rows)) one c (f .rows)) (cut f t) → σ ≡ begun z f
   unfolding begun change
   begun-x z σ ez es = rw ez (es ∙ ap (change A (λ c. filledDiagonal (columns (f .rows)) one c (f .rows))) all-zero)
+
+  pub begun-long : length t ≡ length w
+  begun-long = length-splice w 0 (f .end) x (omega arith) (l .fits) x-long

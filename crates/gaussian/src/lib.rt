@@ -45,12 +45,14 @@ pub enum Eliminated {
     Unbounded,
 }
 
-// All sums are zero; in x A is the identity.
+// All sums are zero; in x A is the identity. What the frame doesn't reach stays as it is.
 fn begin_sums(work: &mut [f64], f: Frame, z: bool)
     requires { ⌜ Laid f (length (now work)) × (z ≡ false → f .rows ≡ f .kept) ⌝ }
     ensures { λ _. ⌜ cut f (now (work .exit)) ≡ begun z f ⌝ }
 {
-    zero(work);
+    let p = 0;
+    let q = f.end;
+    zero(&mut work[p..q]);
     if z {
         return;
     }

@@ -5,7 +5,7 @@ ghost use Prim.Native.Nat.{ℕ, _+_, _*_, _<_, _≤_, _^_};
 ghost use lib.ListN.{length, set};
 ghost use Rattle.matrix.specs.Views.{place, entry, Inside, flip};
 ghost use Rattle.matrix.specs.Sums.{dotOf, deductOf};
-ghost use Rattle.matrix.specs.Stores.{blockColumn};
+ghost use Rattle.matrix.specs.Stores.{blockColumn, Continued};
 ghost use Rattle.matrix.specs.Products.{updated, productEntry, product, quadformOf};
 ghost use Rattle.matrix.specs.Triangles.{filledDiagonal, filledColumn, filledUpper};
 ghost use Rattle.matrix.specs.Finite.{isFinite, allFinite};
@@ -100,7 +100,94 @@ pub fn updated(how: Update, old: f64, x: f64) -> f64
     }
 }
 
-// Column j of C, m rows: A times B.
+// Four product sums side by side.
+pub struct Four {
+    pub s0: f64,
+    pub s1: f64,
+    pub s2: f64,
+    pub s3: f64,
+}
+
+// The product sums of rows i to i + 3 of A with column j of B. None waits for another, so a processor makes them at once.
+fn dots(a: &[f64], av: View, i: usize, b: &[f64], bv: View, j: usize, n: usize) -> Four
+    requires { ⌜ (i + 3 < 2 ^ 64) × Inside av (i + 4) n (length (now a)) ⌝ }
+    requires { ⌜ ((k : ℕ) → k < n → place bv k j < length (now b)) ⌝ }
+    ensures { λ r. ⌜ (r .s0 ≡ dotOf (now (a .entry)) av i (now (b .entry)) bv j n) × (r .s1 ≡ dotOf (now (a .entry)) av (i + 1) (now (b .entry)) bv j n) × (r .s2 ≡ dotOf (now (a .entry)) av (i + 2) (now (b .entry)) bv j n) × (r .s3 ≡ dotOf (now (a .entry)) av (i + 3) (now (b .entry)) bv j n) ⌝ }
+{
+    let mut s0 = 0.0;
+    let mut s1 = 0.0;
+    let mut s2 = 0.0;
+    let mut s3 = 0.0;
+    for k in 0..n {
+        let x = get(b, bv, k, j);
+        s0 = s0 + get(a, av, i, k) * x;
+        s1 = s1 + get(a, av, i + 1, k) * x;
+        s2 = s2 + get(a, av, i + 2, k) * x;
+        s3 = s3 + get(a, av, i + 3, k) * x;
+    }
+    Four { s0, s1, s2, s3 }
+}
+
+// A finished product sum meets entry (i, j) of C.
+fn meet(c: &mut [f64], cv: View, i: usize, j: usize, how: Update, x: f64)
+    requires { ⌜ place cv i j < length (now c) ⌝ }
+    ensures { λ _. ⌜ now (c .exit) ≡ set (now (c .entry)) (place cv i j) (updated how (entry (now (c .entry)) cv i j) x) ⌝ }
+{
+    let old = get(&c[..], cv, i, j);
+    put(c, cv, i, j, updated(how, old, x));
+}
+
+// Rows i to i + 3 of column j of C: A times B.
+fn gemm_four(
+    c: &mut [f64],
+    cv: View,
+    i: usize,
+    j: usize,
+    how: Update,
+    a: &[f64],
+    av: View,
+    b: &[f64],
+    bv: View,
+    n: usize,
+)
+    requires { ⌜ (i + 3 < 2 ^ 64) × ((r : ℕ) → r < i + 4 → place cv r j < length (now c)) × Inside av (i + 4) n (length (now a)) ⌝ }
+    requires { ⌜ ((k : ℕ) → k < n → place bv k j < length (now b)) ⌝ }
+    ensures { λ _. ⌜ Continued cv (productEntry how (now (a .entry)) av (now (b .entry)) bv n) j (now (c .entry)) i (now (c .exit)) (i + 4) ⌝ }
+{
+    let s = dots(a, av, i, b, bv, j, n);
+    meet(c, cv, i, j, how, s.s0);
+    meet(c, cv, i + 1, j, how, s.s1);
+    meet(c, cv, i + 2, j, how, s.s2);
+    meet(c, cv, i + 3, j, how, s.s3);
+}
+
+// Rows of column j of C from one row on, up to row m: A times B.
+fn gemm_rows(
+    c: &mut [f64],
+    cv: View,
+    from: usize,
+    m: usize,
+    j: usize,
+    how: Update,
+    a: &[f64],
+    av: View,
+    b: &[f64],
+    bv: View,
+    n: usize,
+)
+    requires { ⌜ (from ≤ m) × ((i : ℕ) → i < m → place cv i j < length (now c)) ⌝ }
+    requires { ⌜ Inside av m n (length (now a)) ⌝ }
+    requires { ⌜ ((k : ℕ) → k < n → place bv k j < length (now b)) ⌝ }
+    ensures { λ _. ⌜ Continued cv (productEntry how (now (a .entry)) av (now (b .entry)) bv n) j (now (c .entry)) from (now (c .exit)) m ⌝ }
+{
+    let mut i = from;
+    while i < m {
+        meet(c, cv, i, j, how, dot(a, av, i, b, bv, j, n));
+        i += 1;
+    }
+}
+
+// Column j of C, m rows: A times B. Four rows at a time as long as there are four.
 fn gemm_column(
     c: &mut [f64],
     cv: View,
@@ -118,11 +205,12 @@ fn gemm_column(
     requires { ⌜ ((k : ℕ) → k < n → place bv k j < length (now b)) ⌝ }
     ensures { λ _. ⌜ now (c .exit) ≡ blockColumn cv (productEntry how (now (a .entry)) av (now (b .entry)) bv n) j (now (c .entry)) m ⌝ }
 {
-    for i in 0..m {
-        let x = dot(a, av, i, b, bv, j, n);
-        let old = get(&c[..], cv, i, j);
-        put(c, cv, i, j, updated(how, old, x));
+    let mut i = 0;
+    while 4 <= m - i {
+        gemm_four(c, cv, i, j, how, a, av, b, bv, n);
+        i += 4;
     }
+    gemm_rows(c, cv, i, m, j, how, a, av, b, bv, n);
 }
 
 // C(m × w) with A(m × n) times B(n × w) added, subtracted or stored.

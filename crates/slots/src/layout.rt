@@ -1,9 +1,10 @@
 // Where the columns of each key stand among the kept or the cleared keys.
 use factor::limits::VARIABLES;
 ghost use mathlib.Core.Path.{_≡_};
-ghost use mathlib.Core.Bool.{cond};
-ghost use Prim.Native.Nat.{_<_, _≤_};
-ghost use Rattle.factor.specs.Limits.{max-variables, max-total};
+ghost use mathlib.Core.Bool.{false, cond};
+ghost use Prim.Native.Nat.{ℕ, _<_};
+ghost use lib.ListN.{length, getD};
+ghost use Rattle.factor.specs.Limits.{max-variables};
 ghost use Rattle.slots.specs.Layouts.{member, dimOf, firstOf, layoutOf, find, Listed};
 
 // For each key: whether it is cleared, its first column among the cleared or the kept keys, and its size.
@@ -39,22 +40,6 @@ pub fn member(list: &[usize], key: usize) -> bool
     false
 }
 
-// The first column of a key in a list of keys.
-fn first_of(list: &[usize], sizes: [u8; VARIABLES], key: usize) -> usize
-    requires { ⌜ Listed (now list) sizes ⌝ }
-    ensures { λ r. ⌜ (r ≡ firstOf sizes (now (list .entry)) key) × (r ≤ max-total) ⌝ }
-{
-    let mut column = 0;
-    for i in 0..list.len() {
-        let here = list[i];
-        if here == key {
-            return column;
-        }
-        column = column + wide(sizes[here]);
-    }
-    column
-}
-
 // The dimension of a list of keys.
 pub fn dim_of(list: &[usize], sizes: [u8; VARIABLES]) -> usize
     requires { ⌜ Listed (now list) sizes ⌝ }
@@ -68,16 +53,43 @@ pub fn dim_of(list: &[usize], sizes: [u8; VARIABLES]) -> usize
     sum
 }
 
-// The first column of a key among the cleared keys if it is one of them, and among the kept keys otherwise.
-fn column_of(kept: &[usize], cleared: &[usize], sizes: [u8; VARIABLES], key: usize) -> usize
-    requires { ⌜ Listed (now kept) sizes ⌝ }
-    requires { ⌜ Listed (now cleared) sizes ⌝ }
-    ensures { λ r. ⌜ (r ≡ cond (member key (now (cleared .entry))) (firstOf sizes (now (cleared .entry)) key) (firstOf sizes (now (kept .entry)) key)) × (r ≤ max-total) ⌝ }
+// The first column of every key in a list of keys, and the list's dimension for a key that it lacks. From the last key on, so that of a key
+// that stands twice the first place counts.
+fn firsts(list: &[usize], sizes: [u8; VARIABLES]) -> [u8; VARIABLES]
+    requires { ⌜ Listed (now list) sizes ⌝ }
+    ensures { λ r. ⌜ (length r ≡ max-variables) × ((key : ℕ) → key < max-variables → getD r key 0 ≡ firstOf sizes (now (list .entry)) key) ⌝ }
 {
-    if member(cleared, key) {
-        return first_of(cleared, sizes, key);
+    let mut column = dim_of(list, sizes);
+    let mut r = [column as u8; VARIABLES];
+    let mut i = list.len();
+    while 0 < i {
+        i -= 1;
+        let key = list[i];
+        column -= wide(sizes[key]);
+        r[key] = column as u8;
     }
-    first_of(kept, sizes, key)
+    r
+}
+
+// Whether a list has each key.
+fn marks(list: &[usize]) -> [bool; VARIABLES]
+    requires { ⌜ ((i : ℕ) → i < length (now list) → getD (now list) i 0 < max-variables) ⌝ }
+    ensures { λ r. ⌜ (length r ≡ max-variables) × ((key : ℕ) → key < max-variables → getD r key false ≡ member key (now (list .entry))) ⌝ }
+{
+    let mut r = [false; VARIABLES];
+    let mut i = list.len();
+    while 0 < i {
+        i -= 1;
+        let key = list[i];
+        r[key] = true;
+    }
+    r
+}
+
+fn chosen(which: bool, a: u8, b: u8) -> u8
+    ensures { λ r. ⌜ r ≡ cond which a b ⌝ }
+{
+    if which { a } else { b }
 }
 
 // The layout of the kept and the cleared keys.
@@ -86,11 +98,11 @@ pub fn layout_of(kept: &[usize], cleared: &[usize], sizes: [u8; VARIABLES]) -> L
     requires { ⌜ Listed (now cleared) sizes ⌝ }
     ensures { λ r. ⌜ r ≡ layoutOf (now (kept .entry)) (now (cleared .entry)) sizes ⌝ }
 {
-    let mut gone = [false; VARIABLES];
-    let mut first = [0u8; VARIABLES];
+    let gone = marks(cleared);
+    let among = firsts(cleared, sizes);
+    let mut first = firsts(kept, sizes);
     for key in 0..VARIABLES {
-        gone[key] = member(cleared, key);
-        first[key] = column_of(kept, cleared, sizes, key) as u8;
+        first[key] = chosen(gone[key], among[key], first[key]);
     }
     Layout {
         cleared: gone,

@@ -1,13 +1,25 @@
--- `gaussian::begin_sums` meets its contract: a store of zeros holds the sums before the first factor. Assumes nothing.
+-- `gaussian::begin_sums` meets its contract: zeros as far as the frame reaches are the sums before the first factor. Assumes nothing.
 use Prim.Native.Nat.{ℕ, _*_}
 use mathlib.Core.Path.{ap}
 use native.Mathlib.Omega.{arith}
 use borrow.Author.Needs.{needs}
 use Rattle.matrix.proofs.Dense.{dense}
 use Rattle.workspace.proofs.Cuts.{relaid}
-use Rattle.gaussian.proofs.Beginning.{begun-z, begun-x}
+use Rattle.gaussian.proofs.Beginning.{begun-z, begun-x, begun-long}
 use Rattle.gaussian.proofs.begin_sums.Statement.{statement}
 use Rattle.gaussian.proofs.begin_sums.Tie as tie
+
+mul-zero : tie.Need-mul-zero
+mul-zero c = omega (arith, c .before .pre .0 .fits)
+
+sub-zero : tie.Need-sub-zero
+sub-zero c = omega arith
+
+part-zero-start : tie.Need-part-zero-start
+part-zero-start c = omega arith
+
+part-zero-end : tie.Need-part-zero-end
+part-zero-end c = c .before .pre .0 .fits
 
 zero-requires : tie.Need-zero-requires
 zero-requires c κs = search needs
@@ -19,7 +31,12 @@ returns : tie.Need-returns
 returns c = begun-z (c .before .before .before .before .before .before .args .f) (c .before .before .before .before .before .before .args .work .now) _ (c .before .before .before .before .before .before .pre .0) (c .before .before .before .zero .ensures) _ (c .if1 .taken)
 
 fill-diagonal-at-requires : tie.Need-fill-diagonal-at-requires
-fill-diagonal-at-requires c κs = let l = c .before .before .before .before .before .before .before .pre .0 in let e = c .before .before .before .before .before .before .before .pre .1 (c .before .if1 .left) in (relaid (c .before .before .before .before .before .before .before .args .f) (c .before .before .before .before .zero .kept .0) l, λ i j hi hj. dense (c .before .before .before .before .before .before .before .args .f .rows) (c .before .before .before .before .before .before .before .args .f .rows) _ (omega (arith, ap (λ (k : ℕ). c .before .before .before .before .before .before .before .args .f .rows * k) e)) i j hi hj)
+fill-diagonal-at-requires c κs =
+    let f = c .before .before .before .before .before .before .before .args .f in
+    let e = c .before .before .before .before .before .before .before .pre .1 (c .before .if1 .left) in (
+      relaid f (begun-long f (c .before .before .before .before .before .before .before .args .work .now) _ (c .before .before .before .before .before .before .before .pre .0) (c .before .before .before .before .zero .ensures)) (c .before .before .before .before .before .before .before .pre .0),
+      λ i j hi hj. dense (f .rows) (f .rows) _ (omega (arith, c .before .before .before .before .before .before .before .pre .0, ap (λ (k : ℕ). f .rows * k) e)) i j hi hj,
+    )
 
 same-length-2 : tie.Need-same-length-2
 same-length-2 c = search needs
@@ -31,6 +48,10 @@ pub begin-sums-spec : {M : Type 1} → statement M
 begin-sums-spec =
     tie.close
     (tie.spec
+    mul-zero
+    sub-zero
+    part-zero-start
+    part-zero-end
     zero-requires
     same-length
     returns

@@ -1,0 +1,61 @@
+-- `matrix::gemm_rows` meets its contract. The loop's invariant: the slice is the definition's after the rows passed. Assumes nothing.
+use Prim.Native.Nat.{_≤_, _-_}
+use mathlib.Core.Path.{_≡_, refl}
+use native.Mathlib.Omega.{arith}
+use borrow.Author.Needs.{needs}
+use lib.ListN.{length}
+use Rattle.matrix.specs.Products.{productEntry}
+use Rattle.matrix.specs.Stores.{Continued}
+use Rattle.matrix.proofs.Turns.{row-met}
+use Rattle.matrix.proofs.gemm_rows.Statement.{statement}
+use Rattle.matrix.proofs.gemm_rows.Tie as tie
+
+abbrev Inv-loop : tie.InvT-loop
+Inv-loop c₀ cv from m j how a av b bv n i₀ c i =
+    (i ≤ m) × (length c ≡ length c₀) × Continued cv (productEntry how a av b bv n) j c₀ from c i
+
+abbrev μ-loop : tie.MeasureT-loop
+μ-loop c₀ cv from m j how a av b bv n i₀ c i = m - i
+
+loop-holds : tie.Need-loop-holds Inv-loop μ-loop
+loop-holds c = (omega arith, refl, λ u e. e)
+
+dot-requires : tie.Need-dot-requires Inv-loop μ-loop
+dot-requires c κs = (λ k h. c .before .before .before .before .before .before .pre .1 .0 _ k (c .before .loop-test .taken) h, c .before .before .before .before .before .before .pre .1 .1)
+
+meet-requires : tie.Need-meet-requires Inv-loop μ-loop
+meet-requires c κs = omega (arith, c .before .before .before .before .before .before .before .pre .0 .1 _ (c .before .before .loop-test .taken))
+
+add-i : tie.Need-add-i Inv-loop μ-loop
+add-i c = omega arith
+
+loop-less : tie.Need-loop-less Inv-loop μ-loop
+loop-less c = omega arith
+
+loop-again : tie.Need-loop-again Inv-loop μ-loop
+loop-again c = (
+  omega arith,
+  omega (arith, c .before .before .meet .kept .0),
+  λ u e. row-met _ (c .before .before .before .before .before .before .before .before .before .before .args .how) _ _ _ _ _ _ _ _ u _ _ _ refl (c .before .before .before .before .before .before .loop .inv .2 u e) (c .before .before .before .dot .ensures) (c .before .before .meet .ensures),
+)
+
+same-length : tie.Need-same-length Inv-loop μ-loop
+same-length c = search needs
+
+returns : tie.Need-returns Inv-loop μ-loop
+returns c = let e : c .before .loop .i ≡ c .before .before .before .before .before .args .m = omega arith in λ u h. let q = c .before .loop .inv .2 u h in cc
+
+pub gemm-rows-spec : {M : Type 1} → statement M
+gemm-rows-spec =
+    tie.close
+    (tie.spec
+    Inv-loop
+    μ-loop
+    loop-holds
+    dot-requires
+    meet-requires
+    add-i
+    loop-less
+    loop-again
+    same-length
+    returns)
