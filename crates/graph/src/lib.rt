@@ -18,11 +18,14 @@ use factor::limits::TOTAL;
 use factor::limits::VARIABLES;
 use refusal::Refusal;
 ghost use mathlib.Core.Path.{_≡_};
-ghost use mathlib.Core.Bool.{true, cond};
+ghost use mathlib.Core.Bool.{true, cond, not};
+ghost use mathlib.Core.List.{[], _∷_};
 ghost use mathlib.Core.Logic.{_↔_};
 ghost use Prim.Native.Nat.{ℕ, _*_, _<_, _≤_};
-ghost use lib.ListN.{length};
+ghost use lib.Dec.{eqb};
+ghost use lib.ListN.{length, getD};
 ghost use Rattle.factor.specs.Limits.{max-variables, max-factors, max-keys, most-numbers};
+ghost use Rattle.factor.specs.Counting.{every, all};
 ghost use Rattle.factor.specs.Factor.{fits, isClear};
 ghost use Rattle.graph.specs.Record as spec;
 ghost use Rattle.graph.specs.Registration as calls;
@@ -51,6 +54,44 @@ pub enum Outcome {
 pub struct Added {
     pub graph: Graph,
     pub outcome: Outcome,
+}
+
+// None of the first n names is this one. Their letters and indices stand in arrays of numbers, which are lent and not copied.
+fn new_name(letters: &[u32; VARIABLES], indices: &[u32; VARIABLES], n: usize, name: Symbol) -> bool
+    requires { ⌜ n ≤ max-variables ⌝ }
+    ensures { λ r. ⌜ r ≡ all (λ j. not (spec.same (getD (now (letters .entry)) j 0, getD (now (indices .entry)) j 0) name)) n ⌝ }
+{
+    for key in 0..n {
+        let other = Symbol(letters[key], indices[key]);
+        if same(other, name) {
+            return false;
+        }
+    }
+    true
+}
+
+// A place of the variables that is used holds a name unlike the n before it, and a size; one that is not used holds nothing.
+fn variable_place(
+    letters: &[u32; VARIABLES],
+    indices: &[u32; VARIABLES],
+    n: usize,
+    name: Symbol,
+    size: u8,
+    used: bool,
+) -> bool
+    requires { ⌜ n ≤ max-variables ⌝ }
+    ensures { λ r. ⌜ r ≡ cond used (every (spec.scalar (name .0) ∷ spec.sizeFits size ∷ all (λ j. not (spec.same (getD (now (letters .entry)) j 0, getD (now (indices .entry)) j 0) name)) n ∷ [])) (every (spec.same name spec.noName ∷ eqb size 0 ∷ [])) ⌝ }
+{
+    if !used {
+        return same(name, Symbol(0, 0)) && size == 0;
+    }
+    if !scalar(name.0) {
+        return false;
+    }
+    if !size_fits(size as usize) {
+        return false;
+    }
+    new_name(letters, indices, n, name)
 }
 
 // A place of the factors that is used holds a factor of registered keys; one that is not used holds nothing.
@@ -157,57 +198,27 @@ impl Graph {
     fn total(self) -> usize
         ensures { λ r. ⌜ r ≡ spec.total self ⌝ }
     {
-        let sizes = self.sizes;
         let mut sum = 0;
         for key in 0..VARIABLES {
-            sum += factor::size_of(sizes, key);
+            sum += self.sizes[key] as usize;
         }
         sum
-    }
-
-    // The place of a key holds a variable.
-    fn registered(self, key: usize) -> bool
-        requires { ⌜ key < max-variables ⌝ }
-        ensures { λ r. ⌜ r ≡ spec.registered self key ⌝ }
-    {
-        let name = self.symbols[key];
-        if !scalar(name.0) {
-            return false;
-        }
-        let sizes = self.sizes;
-        if !size_fits(factor::size_of(sizes, key)) {
-            return false;
-        }
-        self.free(key, name)
-    }
-
-    // The place of a key holds nothing.
-    fn clear(self, key: usize) -> bool
-        requires { ⌜ key < max-variables ⌝ }
-        ensures { λ r. ⌜ r ≡ spec.clear self key ⌝ }
-    {
-        let name = self.symbols[key];
-        same(name, Symbol(0, 0)) && self.sizes[key] == 0
-    }
-
-    fn place(self, key: usize) -> bool
-        requires { ⌜ key < max-variables ⌝ }
-        ensures { λ r. ⌜ r ≡ spec.place self key ⌝ }
-    {
-        if key < self.variables {
-            self.registered(key)
-        } else {
-            self.clear(key)
-        }
     }
 
     fn variables_fit(self) -> bool
         ensures { λ r. ⌜ r ≡ spec.variablesFit self ⌝ }
     {
+        let mut letters = [0; VARIABLES];
+        let mut indices = [0; VARIABLES];
         for key in 0..VARIABLES {
-            if !self.place(key) {
+            let name = self.symbols[key];
+            let size = self.sizes[key];
+            let used = key < self.variables;
+            if !variable_place(&letters, &indices, key, name, size, used) {
                 return false;
             }
+            letters[key] = name.0;
+            indices[key] = name.1;
         }
         true
     }
@@ -270,13 +281,11 @@ impl Graph {
         }
     }
 
-    // A variable gets the next key.
-    pub fn add_variable(mut self, name: Symbol, size: usize) -> Added
+    // A variable gets the next key, in a record known to be valid: `add_variable` without its test.
+    pub fn enter_variable(mut self, name: Symbol, size: usize) -> Added
+        requires { ⌜ spec.valid self ≡ true ⌝ }
         ensures { λ r. ⌜ r ≡ calls.addVariable self name size ⌝ }
     {
-        if !self.valid() {
-            return self.refused(Refusal::NoSuchGraph);
-        }
         if !scalar(name.0) {
             return self.refused(Refusal::NotALetter);
         }
@@ -300,6 +309,16 @@ impl Graph {
             graph: self,
             outcome: Outcome::Key(n),
         }
+    }
+
+    // A variable gets the next key.
+    pub fn add_variable(mut self, name: Symbol, size: usize) -> Added
+        ensures { λ r. ⌜ r ≡ calls.addVariable self name size ⌝ }
+    {
+        if !self.valid() {
+            return self.refused(Refusal::NoSuchGraph);
+        }
+        self.enter_variable(name, size)
     }
 
     // A factor gets the next number, and its numbers follow the last one's. The checks from the lengths on are those of priors and observations alike.
@@ -343,6 +362,26 @@ impl Graph {
         }
     }
 
+    // A prior on a key, in a record known to be valid.
+    pub fn enter_prior(
+        mut self,
+        key: usize,
+        mean: &[f64],
+        variance: &[f64],
+        store: &mut [f64],
+    ) -> Added
+        requires { ⌜ spec.valid self ≡ true ⌝ }
+        ensures { λ r. ⌜ r ≡ calls.addPrior self key (now (mean .entry)) (now (variance .entry)) (now (store .entry)) ⌝ }
+        ensures { λ _. ⌜ now (store .exit) ≡ calls.priorStore self key (now (mean .entry)) (now (variance .entry)) (now (store .entry)) ⌝ }
+    {
+        if self.variables <= key {
+            return self.refused(Refusal::NoSuchKey);
+        }
+        let sizes = self.sizes;
+        let f = factor::prior_of(key, factor::size_of(sizes, key));
+        self.add_factor(f, &mean[0..0], mean, variance, store)
+    }
+
     // A prior on a key: xi and W are stored.
     pub fn add_prior(
         mut self,
@@ -357,12 +396,34 @@ impl Graph {
         if !self.valid() {
             return self.refused(Refusal::NoSuchGraph);
         }
-        if self.variables <= key {
+        self.enter_prior(key, mean, variance, store)
+    }
+
+    // An observation of keys, in a record known to be valid.
+    pub fn enter_observation(
+        mut self,
+        keys: &[usize],
+        rows: usize,
+        a: &[f64],
+        mean: &[f64],
+        variance: &[f64],
+        store: &mut [f64],
+    ) -> Added
+        requires { ⌜ spec.valid self ≡ true ⌝ }
+        ensures { λ r. ⌜ r ≡ calls.addObservation self (now (keys .entry)) rows (now (a .entry)) (now (mean .entry)) (now (variance .entry)) (now (store .entry)) ⌝ }
+        ensures { λ _. ⌜ now (store .exit) ≡ calls.observationStore self (now (keys .entry)) rows (now (a .entry)) (now (mean .entry)) (now (variance .entry)) (now (store .entry)) ⌝ }
+    {
+        if !counts_fit(keys.len(), rows) {
+            return self.refused(Refusal::CountOutside);
+        }
+        if !factor::rising(keys) {
+            return self.refused(Refusal::KeysNotRising);
+        }
+        if !factor::known(self.variables, keys) {
             return self.refused(Refusal::NoSuchKey);
         }
-        let sizes = self.sizes;
-        let f = factor::prior_of(key, factor::size_of(sizes, key));
-        self.add_factor(f, &mean[0..0], mean, variance, store)
+        let f = factor::observation_of(keys, rows);
+        self.add_factor(f, a, mean, variance, store)
     }
 
     // An observation of keys, rising, by rows of A: A, xi and W are stored.
@@ -381,16 +442,6 @@ impl Graph {
         if !self.valid() {
             return self.refused(Refusal::NoSuchGraph);
         }
-        if !counts_fit(keys.len(), rows) {
-            return self.refused(Refusal::CountOutside);
-        }
-        if !factor::rising(keys) {
-            return self.refused(Refusal::KeysNotRising);
-        }
-        if !factor::known(self.variables, keys) {
-            return self.refused(Refusal::NoSuchKey);
-        }
-        let f = factor::observation_of(keys, rows);
-        self.add_factor(f, a, mean, variance, store)
+        self.enter_observation(keys, rows, a, mean, variance, store)
     }
 }

@@ -68,7 +68,7 @@ fn went(added: Added, next: usize) -> Step
 
 // A variable, from its letter on.
 fn read_variable(g: Graph, bytes: &[u8], at: usize) -> Step
-    requires { ⌜ at ≤ length (now bytes) ⌝ }
+    requires { ⌜ (valid g ≡ true) × (at ≤ length (now bytes)) ⌝ }
     ensures { λ r. ⌜ r ≡ spec.stepOf g (spec.variableAt (now (bytes .entry)) at) ⌝ }
 {
     if cut(bytes, at, VARIABLE_BYTES) {
@@ -77,7 +77,7 @@ fn read_variable(g: Graph, bytes: &[u8], at: usize) -> Step
     let letter = word(bytes, at);
     let index = word(bytes, at + 4);
     let size = byte(bytes, at + 8);
-    let added = g.add_variable(Symbol(letter, index), size);
+    let added = g.enter_variable(Symbol(letter, index), size);
     went(added, at + VARIABLE_BYTES)
 }
 
@@ -90,7 +90,7 @@ fn read_prior_numbers(
     s: usize,
     store: &mut [f64],
 ) -> Step
-    requires { ⌜ (at ≤ length (now bytes)) × (s ≤ max-size) ⌝ }
+    requires { ⌜ (at ≤ length (now bytes)) × (s ≤ max-size) × (valid g ≡ true) ⌝ }
     ensures { λ r. ⌜ r ≡ spec.stepOf g (spec.priorNumbers (now (store .entry)) (now (bytes .entry)) key s at) ⌝ }
     ensures { λ _. ⌜ now (store .exit) ≡ spec.storeAfter g (now (store .entry)) (spec.priorNumbers (now (store .entry)) (now (bytes .entry)) key s at) ⌝ }
 {
@@ -103,7 +103,7 @@ fn read_prior_numbers(
     let mut variance = [0.0; SIZE * SIZE];
     input::numbers(bytes, at, &mut mean, s);
     input::numbers(bytes, at + FLOAT_BYTES * s, &mut variance, square);
-    let added = g.add_prior(key, &mean[0..s], &variance[0..square], store);
+    let added = g.enter_prior(key, &mean[0..s], &variance[0..square], store);
     went(added, end)
 }
 
@@ -149,7 +149,7 @@ fn read_observed_numbers(
     n: usize,
     store: &mut [f64],
 ) -> Step
-    requires { ⌜ (at ≤ length (now bytes)) × (spec.flagKnown flag ≡ true) ⌝ }
+    requires { ⌜ (at ≤ length (now bytes)) × (spec.flagKnown flag ≡ true) × (valid g ≡ true) ⌝ }
     requires { ⌜ (1 ≤ rows) × (rows ≤ max-rows) × (n ≤ max-rows * max-total) ⌝ }
     ensures { λ r. ⌜ r ≡ spec.stepOf g (spec.observedNumbers (now (store .entry)) (now (bytes .entry)) (now (keys .entry)) rows flag n at) ⌝ }
     ensures { λ _. ⌜ now (store .exit) ≡ spec.storeAfter g (now (store .entry)) (spec.observedNumbers (now (store .entry)) (now (bytes .entry)) (now (keys .entry)) rows flag n at) ⌝ }
@@ -172,7 +172,7 @@ fn read_observed_numbers(
         rows,
         &mut variance,
     );
-    let added = g.add_observation(
+    let added = g.enter_observation(
         keys,
         rows,
         &a[0..n],

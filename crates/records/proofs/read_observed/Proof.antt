@@ -68,7 +68,7 @@ a-numbers-requires : tie.Need-a-numbers-requires
 a-numbers-requires c κs = few-touched (c .before .before .before .before .before .before .before .before .before .args .keys .now) (c .before .before .before .before .before .before .before .before .before .args .rows) (c .observation-of .result) (c .observation-of .ensures) (few-keys _ _ (c .before .before .before .before .before .before .before .before .before .pre .1 .0))
 
 read-observed-numbers-requires : tie.Need-read-observed-numbers-requires
-read-observed-numbers-requires c κs = ((c .before .before .before .before .before .before .before .before .before .before .before .pre .0 .1, c .before .before .before .before .before .before .before .before .before .before .before .pre .1 .1), (some-rows _ _ (c .before .before .before .before .before .before .before .before .before .before .before .pre .1 .0), most-rows _ _ (c .before .before .before .before .before .before .before .before .before .before .before .pre .1 .0), numbers-most (c .before .before .before .before .before .before .before .before .before .before .before .args .g) (c .before .before .before .before .before .before .before .before .before .before .before .args .keys .now) (c .before .before .before .before .before .before .before .before .before .before .before .args .rows) (c .before .before .observation-of .result) _ (c .before .before .before .before .before .before .before .before .before .before .before .pre .0 .0) (c .before .before .before .before .before .before .before .before .before .before .before .pre .1 .0) (tells (c .before .before .before .before .before .before .before .rising .ensures) (not-false _ (c .before .before .before .before .before .before .if1 .left))) (tells (c .before .before .before .before .before .known .ensures) (not-false _ (c .before .before .before .before .if2 .left))) (c .before .before .observation-of .ensures) (c .before .a-numbers .ensures .0)))
+read-observed-numbers-requires c κs = ((c .before .before .before .before .before .before .before .before .before .before .before .pre .0 .1, c .before .before .before .before .before .before .before .before .before .before .before .pre .1 .1, c .before .before .before .before .before .before .before .before .before .before .before .pre .0 .0), (some-rows _ _ (c .before .before .before .before .before .before .before .before .before .before .before .pre .1 .0), most-rows _ _ (c .before .before .before .before .before .before .before .before .before .before .before .pre .1 .0), numbers-most (c .before .before .before .before .before .before .before .before .before .before .before .args .g) (c .before .before .before .before .before .before .before .before .before .before .before .args .keys .now) (c .before .before .before .before .before .before .before .before .before .before .before .args .rows) (c .before .before .observation-of .result) _ (c .before .before .before .before .before .before .before .before .before .before .before .pre .0 .0) (c .before .before .before .before .before .before .before .before .before .before .before .pre .1 .0) (tells (c .before .before .before .before .before .before .before .rising .ensures) (not-false _ (c .before .before .before .before .before .before .if1 .left))) (tells (c .before .before .before .before .before .known .ensures) (not-false _ (c .before .before .before .before .if2 .left))) (c .before .before .observation-of .ensures) (c .before .a-numbers .ensures .0)))
 
 same-length : tie.Need-same-length
 same-length c = search needs

@@ -61,7 +61,7 @@ add-read-prior-numbers : tie.Need-add-read-prior-numbers
 add-read-prior-numbers c = omega (arith, there (c .before .before .before .before .before .before .before .before .before .args .bytes .now) (c .before .before .before .before .before .before .before .before .before .args .at) 1 (tells (c .before .before .before .before .before .before .cut .ensures) (c .before .before .before .before .before .if1 .left)))
 
 read-prior-numbers-requires : tie.Need-read-prior-numbers-requires
-read-prior-numbers-requires c κs = (omega (arith, there (c .before .before .before .before .before .before .before .before .before .before .args .bytes .now) (c .before .before .before .before .before .before .before .before .before .before .args .at) 1 (tells (c .before .before .before .before .before .before .before .cut .ensures) (c .before .before .before .before .before .before .if1 .left))), of-size (c .before .before .before .before .before .before .before .before .before .before .args .g) (c .before .before .before .before .before .before .before .before .before .before .args .store .now) (c .before .before .before .before .before .before .before .before .before .before .args .bytes .now) (c .before .before .before .before .before .before .before .before .before .before .args .at) (c .before .before .before .before .before .byte .result) (c .before .size-of .result) (c .before .size-of .ensures .0) (size-most _ (valid-size (c .before .before .before .before .before .before .before .before .before .before .args .g) (c .before .before .before .before .before .before .before .before .before .before .pre .0) (c .before .before .before .before .before .byte .result) (c .before .before .before .if2 .left))))
+read-prior-numbers-requires c κs = (omega (arith, there (c .before .before .before .before .before .before .before .before .before .before .args .bytes .now) (c .before .before .before .before .before .before .before .before .before .before .args .at) 1 (tells (c .before .before .before .before .before .before .before .cut .ensures) (c .before .before .before .before .before .before .if1 .left))), of-size (c .before .before .before .before .before .before .before .before .before .before .args .g) (c .before .before .before .before .before .before .before .before .before .before .args .store .now) (c .before .before .before .before .before .before .before .before .before .before .args .bytes .now) (c .before .before .before .before .before .before .before .before .before .before .args .at) (c .before .before .before .before .before .byte .result) (c .before .size-of .result) (c .before .size-of .ensures .0) (size-most _ (valid-size (c .before .before .before .before .before .before .before .before .before .before .args .g) (c .before .before .before .before .before .before .before .before .before .before .pre .0) (c .before .before .before .before .before .byte .result) (c .before .before .before .if2 .left))), c .before .before .before .before .before .before .before .before .before .before .pre .0)
 
 same-length : tie.Need-same-length
 same-length c = search needs

@@ -75,26 +75,26 @@ slice-aggregate-numbers-2 c = search needs
 numbers-requires-2 : tie.Need-numbers-requires-2
 numbers-requires-2 c κs = omega (arith, mul-le-mul (c .before .before .before .before .before .before .before .before .pre .1) (c .before .before .before .before .before .before .before .before .pre .1), there (c .before .before .before .before .before .before .before .before .args .bytes .now) (c .before .before .before .before .before .before .before .before .args .at) (8 * (c .before .before .before .before .before .before .before .before .args .s + c .before .before .before .before .before .before .before .before .args .s * c .before .before .before .before .before .before .before .before .args .s)) (tells (c .before .before .before .before .before .cut .ensures) (c .before .before .before .before .if1 .left)))
 
-sub-add-prior : tie.Need-sub-add-prior
-sub-add-prior c = search needs
+sub-enter-prior : tie.Need-sub-enter-prior
+sub-enter-prior c = search needs
 
-part-add-prior-start : tie.Need-part-add-prior-start
-part-add-prior-start c = search needs
+part-enter-prior-start : tie.Need-part-enter-prior-start
+part-enter-prior-start c = search needs
 
-part-add-prior-end : tie.Need-part-add-prior-end
-part-add-prior-end c = omega (arith, mul-le-mul (c .before .before .before .before .before .before .before .before .before .before .before .pre .1) (c .before .before .before .before .before .before .before .before .before .before .before .pre .1))
+part-enter-prior-end : tie.Need-part-enter-prior-end
+part-enter-prior-end c = omega (arith, mul-le-mul (c .before .before .before .before .before .before .before .before .before .before .before .pre .1) (c .before .before .before .before .before .before .before .before .before .before .before .pre .1))
 
-sub-add-prior-2 : tie.Need-sub-add-prior-2
-sub-add-prior-2 c = search needs
+sub-enter-prior-2 : tie.Need-sub-enter-prior-2
+sub-enter-prior-2 c = search needs
 
-part-add-prior-start-2 : tie.Need-part-add-prior-start-2
-part-add-prior-start-2 c = search needs
+part-enter-prior-start-2 : tie.Need-part-enter-prior-start-2
+part-enter-prior-start-2 c = search needs
 
-part-add-prior-end-2 : tie.Need-part-add-prior-end-2
-part-add-prior-end-2 c = omega (arith, mul-le-mul (c .before .before .before .before .before .before .before .before .before .before .before .before .before .pre .1) (c .before .before .before .before .before .before .before .before .before .before .before .before .before .pre .1))
+part-enter-prior-end-2 : tie.Need-part-enter-prior-end-2
+part-enter-prior-end-2 c = omega (arith, mul-le-mul (c .before .before .before .before .before .before .before .before .before .before .before .before .before .pre .1) (c .before .before .before .before .before .before .before .before .before .before .before .before .before .pre .1))
 
-add-prior-requires : tie.Need-add-prior-requires
-add-prior-requires c κs = search needs
+enter-prior-requires : tie.Need-enter-prior-requires
+enter-prior-requires c κs = search needs
 
 went-requires : tie.Need-went-requires
 went-requires c κs = search needs
@@ -103,7 +103,7 @@ same-length : tie.Need-same-length
 same-length c = search needs
 
 returns-2 : tie.Need-returns-2
-returns-2 c = taken (c .before .before .before .before .before .before .before .before .before .before .before .before .before .before .before .before .before .before .before .args .g) (c .before .before .before .before .before .before .before .before .before .before .before .before .before .before .before .before .before .before .before .args .store .now) (c .before .before .before .before .before .before .before .before .before .before .before .before .before .before .before .before .before .before .before .args .bytes .now) (c .before .before .before .before .before .before .before .before .before .before .before .before .before .before .before .before .before .before .before .args .key) (c .before .before .before .before .before .before .before .before .before .before .before .before .before .before .before .before .before .before .before .args .s) (c .before .before .before .before .before .before .before .before .before .before .before .before .before .before .before .before .before .before .before .args .at) (tells (c .before .before .before .before .before .before .before .before .before .before .before .before .before .before .before .before .cut .ensures) (c .before .before .before .before .before .before .before .before .before .before .before .before .before .before .before .if1 .left)) _ _ (c .before .before .before .add-prior .result) _ _ (front (λ i. numberAt (c .before .before .before .before .before .before .before .before .before .before .before .before .before .before .before .before .before .before .before .args .bytes .now) (c .before .before .before .before .before .before .before .before .before .before .before .before .before .before .before .before .before .before .before .args .at + 8 * i)) (c .before .before .before .before .before .before .before .before .before .before .before .before .before .before .before .before .before .before .before .args .s) _ _ (c .before .before .before .before .before .before .before .before .before .before .before .before .before .numbers .ensures)) (front (λ i. numberAt (c .before .before .before .before .before .before .before .before .before .before .before .before .before .before .before .before .before .before .before .args .bytes .now) (c .before .before .before .before .before .before .before .before .before .before .before .before .before .before .before .before .before .before .before .args .at + 8 * c .before .before .before .before .before .before .before .before .before .before .before .before .before .before .before .before .before .before .before .args .s + 8 * i)) (c .before .before .before .before .before .before .before .before .before .before .before .before .before .before .before .before .before .before .before .args .s * c .before .before .before .before .before .before .before .before .before .before .before .before .before .before .before .before .before .before .before .args .s) _ _ (c .before .before .before .before .before .before .before .before .before .before .numbers2 .ensures)) (c .before .before .before .add-prior .ensures .0) (c .went .ensures) (c .before .before .before .add-prior .ensures .1)
+returns-2 c = taken (c .before .before .before .before .before .before .before .before .before .before .before .before .before .before .before .before .before .before .before .args .g) (c .before .before .before .before .before .before .before .before .before .before .before .before .before .before .before .before .before .before .before .args .store .now) (c .before .before .before .before .before .before .before .before .before .before .before .before .before .before .before .before .before .before .before .args .bytes .now) (c .before .before .before .before .before .before .before .before .before .before .before .before .before .before .before .before .before .before .before .args .key) (c .before .before .before .before .before .before .before .before .before .before .before .before .before .before .before .before .before .before .before .args .s) (c .before .before .before .before .before .before .before .before .before .before .before .before .before .before .before .before .before .before .before .args .at) (tells (c .before .before .before .before .before .before .before .before .before .before .before .before .before .before .before .before .cut .ensures) (c .before .before .before .before .before .before .before .before .before .before .before .before .before .before .before .if1 .left)) _ _ (c .before .before .before .enter-prior .result) _ _ (front (λ i. numberAt (c .before .before .before .before .before .before .before .before .before .before .before .before .before .before .before .before .before .before .before .args .bytes .now) (c .before .before .before .before .before .before .before .before .before .before .before .before .before .before .before .before .before .before .before .args .at + 8 * i)) (c .before .before .before .before .before .before .before .before .before .before .before .before .before .before .before .before .before .before .before .args .s) _ _ (c .before .before .before .before .before .before .before .before .before .before .before .before .before .numbers .ensures)) (front (λ i. numberAt (c .before .before .before .before .before .before .before .before .before .before .before .before .before .before .before .before .before .before .before .args .bytes .now) (c .before .before .before .before .before .before .before .before .before .before .before .before .before .before .before .before .before .before .before .args .at + 8 * c .before .before .before .before .before .before .before .before .before .before .before .before .before .before .before .before .before .before .before .args .s + 8 * i)) (c .before .before .before .before .before .before .before .before .before .before .before .before .before .before .before .before .before .before .before .args .s * c .before .before .before .before .before .before .before .before .before .before .before .before .before .before .before .before .before .before .before .args .s) _ _ (c .before .before .before .before .before .before .before .before .before .before .numbers2 .ensures)) (c .before .before .before .enter-prior .ensures .0) (c .went .ensures) (c .before .before .before .enter-prior .ensures .1)
 
 pub read-prior-numbers-spec : {M : Type 1} → statement M
 read-prior-numbers-spec =
@@ -124,13 +124,13 @@ read-prior-numbers-spec =
     add-numbers
     slice-aggregate-numbers-2
     numbers-requires-2
-    sub-add-prior
-    part-add-prior-start
-    part-add-prior-end
-    sub-add-prior-2
-    part-add-prior-start-2
-    part-add-prior-end-2
-    add-prior-requires
+    sub-enter-prior
+    part-enter-prior-start
+    part-enter-prior-end
+    sub-enter-prior-2
+    part-enter-prior-start-2
+    part-enter-prior-end-2
+    enter-prior-requires
     went-requires
     same-length
     returns-2)

@@ -57,7 +57,7 @@ add-read-variable : tie.Need-add-read-variable
 add-read-variable c = omega (arith, there (c .before .before .before .before .before .before .before .before .before .args .bytes .now) (c .before .before .before .before .before .before .before .before .before .args .at) 2 (tells (c .before .before .before .before .before .before .cut .ensures) (c .before .before .before .before .before .if1 .left)))
 
 read-variable-requires : tie.Need-read-variable-requires
-read-variable-requires c κs = there (c .before .before .before .before .before .before .before .before .before .args .bytes .now) (c .before .before .before .before .before .before .before .before .before .args .at) 2 (tells (c .before .before .before .before .before .before .cut .ensures) (c .before .before .before .before .before .if1 .left))
+read-variable-requires c κs = (c .before .before .before .before .before .before .before .before .before .pre .0, there (c .before .before .before .before .before .before .before .before .before .args .bytes .now) (c .before .before .before .before .before .before .before .before .before .args .at) 2 (tells (c .before .before .before .before .before .before .cut .ensures) (c .before .before .before .before .before .if1 .left)))
 
 enum-told-2 : tie.Need-enum-told-2
 enum-told-2 c = search needs

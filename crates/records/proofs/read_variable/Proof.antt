@@ -51,8 +51,8 @@ add-byte c = omega (arith, there (c .before .before .before .before .before .arg
 byte-requires : tie.Need-byte-requires
 byte-requires c κs = omega (arith, there (c .before .before .before .before .before .args .bytes .now) (c .before .before .before .before .before .args .at) 9 (tells (c .before .before .before .cut .ensures) (c .before .before .if1 .left)))
 
-add-variable-requires : tie.Need-add-variable-requires
-add-variable-requires c κs = search needs
+enter-variable-requires : tie.Need-enter-variable-requires
+enter-variable-requires c κs = search needs
 
 add-went : tie.Need-add-went
 add-went c = omega (arith, there (c .before .before .before .before .before .before .before .args .bytes .now) (c .before .before .before .before .before .before .before .args .at) 9 (tells (c .before .before .before .before .before .cut .ensures) (c .before .before .before .before .if1 .left)))
@@ -61,7 +61,7 @@ went-requires : tie.Need-went-requires
 went-requires c κs = search needs
 
 returns-2 : tie.Need-returns-2
-returns-2 c = taken (c .before .before .before .before .before .before .before .before .args .g) (c .before .before .before .before .before .before .before .before .args .bytes .now) (c .before .before .before .before .before .before .before .before .args .at) _ (tells (c .before .before .before .before .before .before .cut .ensures) (c .before .before .before .before .before .if1 .left)) (c .before .before .before .before .word .result) (c .before .before .before .word2 .result) (c .before .before .byte .result) (c .before .add-variable .result) (c .before .before .before .before .word .ensures .0) (c .before .before .before .word2 .ensures .0) (c .before .before .byte .ensures .0) (c .before .add-variable .ensures) (c .went .ensures)
+returns-2 c = taken (c .before .before .before .before .before .before .before .before .args .g) (c .before .before .before .before .before .before .before .before .args .bytes .now) (c .before .before .before .before .before .before .before .before .args .at) _ (tells (c .before .before .before .before .before .before .cut .ensures) (c .before .before .before .before .before .if1 .left)) (c .before .before .before .before .word .result) (c .before .before .before .word2 .result) (c .before .before .byte .result) (c .before .enter-variable .result) (c .before .before .before .before .word .ensures .0) (c .before .before .before .word2 .ensures .0) (c .before .before .byte .ensures .0) (c .before .enter-variable .ensures) (c .went .ensures)
 
 pub read-variable-spec : {M : Type 1} → statement M
 read-variable-spec =
@@ -75,7 +75,7 @@ read-variable-spec =
     word-requires-2
     add-byte
     byte-requires
-    add-variable-requires
+    enter-variable-requires
     add-went
     went-requires
     returns-2)

@@ -1,50 +1,25 @@
--- `graph::Graph::add_prior` meets its contract, by its ways out. Assumes nothing.
-use Prim.Native.Nat.{_<_, _≤_, ℕ}
-use mathlib.Core.Bool.{false, true}
-use mathlib.Core.List.{List, []}
-use mathlib.Core.Path.{_∙_, _≡_, ap, refl}
-use native.Mathlib.Omega.{arith}
+-- `graph::Graph::add_prior` meets its contract: a record that fails the test is refused, and of any other `enter_prior` says the same. Assumes nothing.
+use Prim.Native.Nat.{ℕ}
+use mathlib.Core.Bool.{false}
+use mathlib.Core.List.{List}
+use mathlib.Core.Path.{_≡_, refl}
 use borrow.Author.Needs.{needs}
-use borrow.Author.Tests.{le-ltb, lt-ltb, not-false, not-true}
+use borrow.Author.Tests.{not-false, not-true}
 use lib.Ieee.{Float}
-use denote.Ref.{now}
 use Rattle.factor.proofs.Counting.{tells}
-use Rattle.factor.proofs.Fitting.{prior-fits}
-use Rattle.factor.specs.Factor.{fits, priorOf}
-use Rattle.factor.specs.Limits.{max-variables}
-use Rattle.factor.specs.declared.Factor.{Factor}
-use Rattle.graph.proofs.Validity.{valid-variables}
 use Rattle.graph.proofs.Verdicts.{turned-back}
-use Rattle.graph.specs.Record.{sizeAt, valid}
-use Rattle.graph.specs.Registration.{addPrior, factorVerdict, priorStore, priorVerdict, refuse, refused, settle, stored}
-use Rattle.graph.specs.declared.Added.{Added}
+use Rattle.graph.specs.Record.{valid}
+use Rattle.graph.specs.Registration.{addPrior, priorStore, priorVerdict, refuse}
 use Rattle.graph.specs.declared.Graph.{Graph}
-use Rattle.graph.specs.declared.refusal.Refusal.the-variants.{NoSuchGraph, NoSuchKey}
+use Rattle.graph.specs.declared.refusal.Refusal.the-variants.{NoSuchGraph}
 use Rattle.graph.proofs.Graph.add_prior.Statement.{statement}
 use Rattle.graph.proofs.Graph.add_prior.Tie as tie
 
--- the verdict of a prior, over plain values
+-- the way out at the test, over plain values
 module _ (g : Graph) (key : ℕ) (mean variance store : List Float) where
   no-graph : valid g ≡ false → priorVerdict g key mean variance store ≡ refuse NoSuchGraph
   unfolding priorVerdict
   no-graph h = rw h
-
-  module _ (h30 : valid g ≡ true) where
-    no-key : g .variables ≤ key → priorVerdict g key mean variance store ≡ refuse NoSuchKey
-    unfolding priorVerdict
-    no-key l = rw (h30, le-ltb _ _ l)
-
-    as-factor : key < g .variables → (f : Factor) (a : List Float) → f ≡ priorOf key (sizeAt g key) → a ≡ [] → factorVerdict g f a mean variance store ≡ priorVerdict g key mean variance store
-    unfolding priorVerdict
-    as-factor l f a ef ea = rw (h30, lt-ltb _ _ l, ef, ea)
-
-    fits-as : (f : Factor) (size : ℕ) → key < g .variables → f ≡ priorOf key size → size ≡ sizeAt g key → fits (g .sizes) (g .variables) f ≡ true
-    fits-as f size l ef es = rw (ef, es) (prior-fits (g .sizes) (g .variables) key l)
-
-    taken : key < g .variables → (f : Factor) (a s : List Float) (r : Added) → f ≡ priorOf key (sizeAt g key) → a ≡ [] → (r ≡ settle g f (factorVerdict g f a mean variance store)) × (s ≡ stored g store (factorVerdict g f a mean variance store))
-        → (r ≡ addPrior g key mean variance store) × (s ≡ priorStore g key mean variance store)
-    unfolding addPrior priorStore
-    taken l f a s r ef ea h = rw (as-factor l f a ef ea, ef) at h
 
 valid-requires : tie.Need-valid-requires
 valid-requires c κs = search needs
@@ -56,51 +31,14 @@ returns : tie.Need-returns
 unfolding addPrior priorStore
 returns c = turned-back (c .before .before .before .before .before .before .args .self) _ (c .before .before .before .before .before .before .args .store .now) _ _ _ _ (no-graph (c .before .before .before .before .before .before .args .self) (c .before .before .before .before .before .before .args .key) (c .before .before .before .before .before .before .args .mean .now) (c .before .before .before .before .before .before .args .variance .now) (c .before .before .before .before .before .before .args .store .now) (tells (c .before .before .valid .ensures .0) (not-true _ (c .before .if1 .taken)))) (c .refused .ensures) refl
 
-refused-requires-2 : tie.Need-refused-requires-2
-refused-requires-2 c κs = search needs
-
-returns-2 : tie.Need-returns-2
-unfolding addPrior priorStore
-returns-2 c = turned-back (c .before .before .before .before .before .before .before .before .args .self) _ (c .before .before .before .before .before .before .before .before .args .store .now) _ _ _ _ (no-key (c .before .before .before .before .before .before .before .before .args .self) (c .before .before .before .before .before .before .before .before .args .key) (c .before .before .before .before .before .before .before .before .args .mean .now) (c .before .before .before .before .before .before .before .before .args .variance .now) (c .before .before .before .before .before .before .before .before .args .store .now) (tells (c .before .before .before .before .valid .ensures .0) (not-false _ (c .before .before .before .if1 .left))) (c .before .if2 .taken)) (c .refused2 .ensures) refl
-
-size-of-requires : tie.Need-size-of-requires
-size-of-requires c κs = search needs
-
-prior-of-requires : tie.Need-prior-of-requires
-prior-of-requires c κs = let v : c .before .before .before .before .before .before .before .before .before .args .self .variables ≤ max-variables = valid-variables (c .before .before .before .before .before .before .before .before .before .args .self) (tells (c .before .before .before .before .before .valid .ensures .0) (not-false _ (c .before .before .before .before .if1 .left))) in (omega (arith, c .before .before .if2 .left), c .size-of .ensures .1)
-
-sub-add-factor : tie.Need-sub-add-factor
-sub-add-factor c = search needs
-
-part-add-factor-start : tie.Need-part-add-factor-start
-part-add-factor-start c = search needs
-
-part-add-factor-end : tie.Need-part-add-factor-end
-part-add-factor-end c = search needs
-
-add-factor-requires : tie.Need-add-factor-requires
-add-factor-requires c κs = (tells (c .before .before .before .before .before .before .before .before .valid .ensures .0) (not-false _ (c .before .before .before .before .before .before .before .if1 .left)), fits-as (c .before .before .before .before .before .before .before .before .before .before .before .before .args .self) (c .before .before .before .before .before .before .before .before .before .before .before .before .args .key) (c .before .before .before .before .before .before .before .before .before .before .before .before .args .mean .now) (c .before .before .before .before .before .before .before .before .before .before .before .before .args .variance .now) (c .before .before .before .before .before .before .before .before .before .before .before .before .args .store .now) (tells (c .before .before .before .before .before .before .before .before .valid .ensures .0) (not-false _ (c .before .before .before .before .before .before .before .if1 .left))) (c .before .before .prior-of .result) (c .before .before .before .size-of .result) (c .before .before .before .before .before .if2 .left) (c .before .before .prior-of .ensures) (c .before .before .before .size-of .ensures .0))
+enter-prior-requires : tie.Need-enter-prior-requires
+enter-prior-requires c κs = tells (c .before .before .valid .ensures .0) (not-false _ (c .before .if1 .left))
 
 same-length : tie.Need-same-length
 same-length c = search needs
 
-returns-3 : tie.Need-returns-3
-returns-3 c = taken (c .before .before .before .before .before .before .before .before .before .before .before .before .before .before .before .args .self) (c .before .before .before .before .before .before .before .before .before .before .before .before .before .before .before .args .key) (c .before .before .before .before .before .before .before .before .before .before .before .before .before .before .before .args .mean .now) (c .before .before .before .before .before .before .before .before .before .before .before .before .before .before .before .args .variance .now) (c .before .before .before .before .before .before .before .before .before .before .before .before .before .before .before .args .store .now) (tells (c .before .before .before .before .before .before .before .before .before .before .before .valid .ensures .0) (not-false _ (c .before .before .before .before .before .before .before .before .before .before .if1 .left))) (c .before .before .before .before .before .before .before .before .if2 .left) (c .before .before .before .before .before .prior-of .result) _ _ _ (c .before .before .before .before .before .prior-of .ensures ∙ ap (priorOf (c .before .before .before .before .before .before .before .before .before .before .before .before .before .before .before .args .key)) (c .before .before .before .before .before .before .size-of .ensures .0)) refl (c .before .before .add-factor .ensures)
+returns-2 : tie.Need-returns-2
+returns-2 c = c .before .before .enter-prior .ensures
 
 pub add-prior-spec : {M : Type 1} → statement M
-add-prior-spec =
-    tie.close
-    (tie.spec
-    valid-requires
-    refused-requires
-    returns
-    refused-requires-2
-    returns-2
-    size-of-requires
-    prior-of-requires
-    sub-add-factor
-    part-add-factor-start
-    part-add-factor-end
-    add-factor-requires
-    same-length
-    returns-3)
+add-prior-spec = tie.close (tie.spec valid-requires refused-requires returns enter-prior-requires same-length returns-2)

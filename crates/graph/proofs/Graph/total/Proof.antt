@@ -4,27 +4,44 @@ use mathlib.Core.Path.{_∙_, _≡_, ap, sym}
 use native.Mathlib.Omega.{arith}
 use borrow.Author.Needs.{needs}
 use lib.ListN.{getD}
+use mir.Syntax.{w8}
+use mir.Val.{Fits}
 use Rattle.factor.proofs.Counting.{sum-more, sum-none}
 use Rattle.factor.specs.Limits.{max-variables}
-use Rattle.graph.specs.Record.{total}
+use Rattle.graph.specs.Record.{sizeAt, total}
+use Rattle.graph.specs.declared.Graph.{Graph}
 use Rattle.factor.specs.Counting as counting
 use Rattle.graph.proofs.Graph.total.Statement.{statement}
 use Rattle.graph.proofs.Graph.total.Tie as tie
 
+-- a turn, and after the last one
+module _ (g : Graph) (i : ℕ) {s : ℕ} where
+  added : s ≡ counting.sum (λ k. sizeAt g k) i → s + sizeAt g i ≡ counting.sum (λ k. sizeAt g k) (i + 1)
+  added e = ap (λ (x : ℕ). x + sizeAt g i) e ∙ sym (sum-more (λ k. sizeAt g k) i)
+
+  summed : i ≡ max-variables → s ≡ counting.sum (λ k. sizeAt g k) i → s ≡ total g
+  unfolding total
+  summed l e = e ∙ ap (counting.sum (λ k. sizeAt g k)) l
+
 abbrev Inv-loop : tie.InvT-loop
-Inv-loop sizes sum₀ key₀ sum key = (key ≤ max-variables) × (sum ≤ 255 * key) × (sum ≡ counting.sum (λ i. getD sizes i 0) key)
+Inv-loop self sum₀ key₀ sum key = (key ≤ max-variables) × (sum ≤ 255 * key) × (sum ≡ counting.sum (λ i. sizeAt self i) key)
 
 abbrev μ-loop : tie.MeasureT-loop
-μ-loop sizes sum₀ key₀ sum key = max-variables - key
+μ-loop self sum₀ key₀ sum key = max-variables - key
 
 loop-holds : tie.Need-loop-holds Inv-loop μ-loop
 loop-holds c = (search needs, search needs, sym (sum-none _))
 
-size-of-requires : tie.Need-size-of-requires Inv-loop μ-loop
-size-of-requires c κs = search needs
+element-copy-out-sum : tie.Need-element-copy-out-sum Inv-loop μ-loop
+element-copy-out-sum c = search needs
+
+cast-sum : tie.Need-cast-sum Inv-loop μ-loop
+cast-sum c = search needs
 
 add-sum : tie.Need-add-sum Inv-loop μ-loop
-add-sum c = omega (arith, c .size-of .ensures .1, c .before .before .loop .inv .1)
+add-sum c =
+    let b : Fits w8 (getD (c .before .before .before .args .t1 .sizes) (c .before .before .loop .key) 0) = search needs in
+    omega (arith, b .fits, c .before .before .loop .inv .1)
 
 add-key : tie.Need-add-key Inv-loop μ-loop
 add-key c = search needs
@@ -33,11 +50,12 @@ loop-less : tie.Need-loop-less Inv-loop μ-loop
 loop-less c = search needs
 
 loop-again : tie.Need-loop-again Inv-loop μ-loop
-loop-again c = (omega arith, omega (arith, c .size-of .ensures .1, c .before .before .loop .inv .1), ap (λ (x : ℕ). c .before .before .loop .sum + x) (c .size-of .ensures .0) ∙ ap (λ (x : ℕ). x + getD (c .before .before .before .before .args .self .sizes) (c .before .before .loop .key) 0) (c .before .before .loop .inv .2) ∙ sym (sum-more (λ i. getD (c .before .before .before .before .args .self .sizes) i 0) (c .before .before .loop .key)))
+loop-again c =
+    let b : Fits w8 (getD (c .before .before .before .args .t1 .sizes) (c .before .before .loop .key) 0) = search needs in
+    (omega arith, omega (arith, b .fits, c .before .before .loop .inv .1), added (c .before .before .before .args .t1) (c .before .before .loop .key) (c .before .before .loop .inv .2))
 
 returns : tie.Need-returns Inv-loop μ-loop
-unfolding total
-returns c = let e : c .before .loop .key ≡ max-variables = omega arith in c .before .loop .inv .2 ∙ ap (counting.sum (λ i. getD (c .before .before .before .args .self .sizes) i 0)) e
+returns c = let e : c .before .loop .key ≡ max-variables = omega arith in summed (c .before .before .args .t1) (c .before .loop .key) e (c .before .loop .inv .2)
 
 pub total-spec : {M : Type 1} → statement M
 total-spec =
@@ -46,7 +64,8 @@ total-spec =
     Inv-loop
     μ-loop
     loop-holds
-    size-of-requires
+    element-copy-out-sum
+    cast-sum
     add-sum
     add-key
     loop-less

@@ -1,32 +1,56 @@
--- `graph::Graph::variables_fit` meets its contract. The loop's invariant: the places passed are right. Assumes nothing.
+-- `graph::Graph::variables_fit` meets its contract. The loop's invariant: the places passed are right, and the arrays have their names. Assumes nothing.
 use Prim.Native.Nat.{_-_, _≤_}
 use mathlib.Core.Bool.{true}
-use mathlib.Core.Path.{_≡_, sym}
+use mathlib.Core.Path.{_≡_, refl, sym}
 use native.Mathlib.Omega.{arith}
+use borrow.Author.Count.{below-none}
 use borrow.Author.Needs.{needs}
 use borrow.Author.Tests.{not-false, not-true}
+use lib.ListN.{length}
 use Rattle.factor.proofs.Counting.{all-fail, all-more, all-none, tells}
 use Rattle.factor.specs.Counting.{all}
 use Rattle.factor.specs.Limits.{max-variables}
+use Rattle.graph.proofs.Places.{Names, names-more, variable-placed}
 use Rattle.graph.specs.Record.{place, variablesFit}
 use Rattle.graph.proofs.Graph.variables_fit.Statement.{statement}
 use Rattle.graph.proofs.Graph.variables_fit.Tie as tie
 
 abbrev Inv-loop : tie.InvT-loop
-Inv-loop self key₀ key = (key ≤ max-variables) × (all (λ i. place self i) key ≡ true)
+Inv-loop self letters₀ indices₀ key₀ letters indices key = (key ≤ max-variables) × (all (λ i. place self i) key ≡ true) × (length letters ≡ max-variables) × (length indices ≡ max-variables) × Names self letters indices key
 
 abbrev μ-loop : tie.MeasureT-loop
-μ-loop self key₀ key = max-variables - key
+μ-loop self letters₀ indices₀ key₀ letters indices key = max-variables - key
 
 loop-holds : tie.Need-loop-holds Inv-loop μ-loop
-loop-holds c = (search needs, all-none _)
+loop-holds c = (search needs, all-none _, search needs, search needs, below-none _)
 
-place-requires : tie.Need-place-requires Inv-loop μ-loop
-place-requires c κs = search needs
+mul-name : tie.Need-mul-name Inv-loop μ-loop
+mul-name c = search needs
+
+element-copy-out-name : tie.Need-element-copy-out-name Inv-loop μ-loop
+element-copy-out-name c = search needs
+
+element-copy-out-size : tie.Need-element-copy-out-size Inv-loop μ-loop
+element-copy-out-size c = search needs
+
+variable-place-requires : tie.Need-variable-place-requires Inv-loop μ-loop
+variable-place-requires c κs = search needs
 
 returns : tie.Need-returns Inv-loop μ-loop
 unfolding variablesFit
-returns c = sym (all-fail (λ i. place (c .before .before .before .before .args .self) i) max-variables (c .before .before .before .loop .key) (search needs) (tells (c .before .place .ensures) (not-true _ (c .if1 .taken))))
+returns c = sym (all-fail (λ i. place (c .before .before .before .before .before .before .before .before .args .t1) i) max-variables (c .before .before .before .before .before .before .before .loop .key) (search needs) (tells (variable-placed (c .before .before .before .before .before .before .before .before .args .t1) (c .before .before .before .before .before .before .before .loop .letters) (c .before .before .before .before .before .before .before .loop .indices) (c .before .before .before .before .before .before .before .loop .key) _ _ (c .before .before .before .before .before .before .before .loop .inv .4) refl (c .before .variable-place .ensures)) (not-true _ (c .if1 .taken))))
+
+mul-letters : tie.Need-mul-letters Inv-loop μ-loop
+mul-letters c = search needs
+
+array-write-letters : tie.Need-array-write-letters Inv-loop μ-loop
+array-write-letters c = search needs
+
+mul-indices : tie.Need-mul-indices Inv-loop μ-loop
+mul-indices c = search needs
+
+array-write-indices : tie.Need-array-write-indices Inv-loop μ-loop
+array-write-indices c = search needs
 
 add-key : tie.Need-add-key Inv-loop μ-loop
 add-key c = search needs
@@ -35,7 +59,13 @@ loop-less : tie.Need-loop-less Inv-loop μ-loop
 loop-less c = search needs
 
 loop-again : tie.Need-loop-again Inv-loop μ-loop
-loop-again c = (search needs, all-more _ _ (c .before .before .before .loop .inv .1) (tells (c .before .place .ensures) (not-false _ (c .if1 .left))))
+loop-again c = (
+  search needs,
+  all-more _ _ (c .before .before .before .before .before .before .before .loop .inv .1) (tells (variable-placed (c .before .before .before .before .before .before .before .before .args .t1) (c .before .before .before .before .before .before .before .loop .letters) (c .before .before .before .before .before .before .before .loop .indices) (c .before .before .before .before .before .before .before .loop .key) _ _ (c .before .before .before .before .before .before .before .loop .inv .4) refl (c .before .variable-place .ensures)) (not-false _ (c .if1 .left))),
+  search needs,
+  search needs,
+  names-more (c .before .before .before .before .before .before .before .before .args .t1) (c .before .before .before .before .before .before .before .loop .letters) (c .before .before .before .before .before .before .before .loop .indices) (c .before .before .before .before .before .before .before .loop .key) (omega arith) (omega arith) (c .before .before .before .before .before .before .before .loop .inv .4),
+)
 
 returns-2 : tie.Need-returns-2 Inv-loop μ-loop
 unfolding variablesFit
@@ -48,8 +78,15 @@ variables-fit-spec =
     Inv-loop
     μ-loop
     loop-holds
-    place-requires
+    mul-name
+    element-copy-out-name
+    element-copy-out-size
+    variable-place-requires
     returns
+    mul-letters
+    array-write-letters
+    mul-indices
+    array-write-indices
     add-key
     loop-less
     loop-again

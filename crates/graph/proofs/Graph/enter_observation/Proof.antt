@@ -1,0 +1,140 @@
+-- `graph::Graph::enter_observation` meets its contract, by its ways out. Assumes nothing.
+use Prim.Native.Nat.{_<_, _≤_, ℕ}
+use mathlib.Core.Bool.{false, true}
+use mathlib.Core.List.{List}
+use mathlib.Core.Path.{_≡_, refl}
+use native.Mathlib.Omega.{arith}
+use borrow.Author.Needs.{needs}
+use borrow.Author.Tests.{leb-true, lt-ltb, ltb-true, not-false, not-true}
+use lib.Dec.{ltb}
+use lib.Ieee.{Float}
+use lib.ListN.{getD, length}
+use denote.Ref.{now}
+use Rattle.factor.proofs.Counting.{all-at, all-of, every-at, tells}
+use Rattle.factor.proofs.Fitting.{observation-fits}
+use Rattle.factor.specs.Factor.{fits, known, observationOf, rising}
+use Rattle.factor.specs.Limits.{max-keys, max-rows, max-variables}
+use Rattle.factor.specs.declared.Factor.{Factor}
+use Rattle.graph.proofs.Validity.{valid-variables}
+use Rattle.graph.proofs.Verdicts.{turned-back}
+use Rattle.graph.specs.Record.{valid}
+use Rattle.graph.specs.Registration.{Verdict, addObservation, countsFit, factorVerdict, observationStore, observationVerdict, refuse, refused, settle, stored}
+use Rattle.graph.specs.declared.Added.{Added}
+use Rattle.graph.specs.declared.Graph.{Graph}
+use Rattle.graph.specs.declared.refusal.Refusal.the-variants.{CountOutside, KeysNotRising, NoSuchKey}
+use Rattle.graph.proofs.Graph.enter_observation.Statement.{statement}
+use Rattle.graph.proofs.Graph.enter_observation.Tie as tie
+
+-- the verdict of an observation, over plain values
+module _ (g : Graph) (keys : List ℕ) (rows : ℕ) (a mean variance store : List Float) where
+  abbrev verdict : Verdict
+  verdict = observationVerdict g keys rows a mean variance store
+
+  module _ (h30 : valid g ≡ true) where
+    outside : countsFit (length keys) rows ≡ false → verdict ≡ refuse CountOutside
+    unfolding observationVerdict
+    outside h = rw (h30, h)
+
+    module _ (h4 : countsFit (length keys) rows ≡ true) where
+      few : length keys ≤ max-keys
+      unfolding countsFit
+      few = leb-true _ _ (every-at _ 0 h4)
+
+      some : 1 ≤ rows
+      unfolding countsFit
+      some = leb-true _ _ (every-at _ 1 h4)
+
+      most : rows ≤ max-rows
+      unfolding countsFit
+      most = leb-true _ _ (every-at _ 2 h4)
+
+      not-rising : rising keys ≡ false → verdict ≡ refuse KeysNotRising
+      unfolding observationVerdict
+      not-rising h = rw (h30, h4, h)
+
+      module _ (h3 : rising keys ≡ true) where
+        no-key : known (g .variables) keys ≡ false → verdict ≡ refuse NoSuchKey
+        unfolding observationVerdict
+        no-key h = rw (h30, h4, h3, h)
+
+        module _ (h11 : known (g .variables) keys ≡ true) where
+          as-factor : factorVerdict g (observationOf keys rows) a mean variance store ≡ verdict
+          unfolding observationVerdict
+          as-factor = rw (h30, h4, h3, h11)
+
+          fitting : (f : Factor) → f ≡ observationOf keys rows → fits (g .sizes) (g .variables) f ≡ true
+          fitting f e = rw e (observation-fits keys (g .sizes) (g .variables) rows few some most h3 h11)
+
+          -- keys that are registered are within the limit
+          all-known : known max-variables keys ≡ true
+          all-known =
+              all-of (λ j. ltb (getD keys j 0) max-variables) (length keys)
+              (λ j l.
+              let k : getD keys j 0 < g .variables = ltb-true _ _ (all-at (λ i. ltb (getD keys i 0) (g .variables)) (length keys) j h11 l) in
+              let m : getD keys j 0 < max-variables = omega (arith, valid-variables g h30) in
+              lt-ltb _ _ m)
+
+          taken : (f : Factor) (s : List Float) (r : Added) → f ≡ observationOf keys rows → (r ≡ settle g f (factorVerdict g f a mean variance store)) × (s ≡ stored g store (factorVerdict g f a mean variance store))
+              → (r ≡ addObservation g keys rows a mean variance store) × (s ≡ observationStore g keys rows a mean variance store)
+          unfolding addObservation observationStore
+          taken f s r e h = rw (e, as-factor) at h
+
+counts-fit-requires : tie.Need-counts-fit-requires
+counts-fit-requires c κs = search needs
+
+refused-requires : tie.Need-refused-requires
+refused-requires c κs = search needs
+
+returns : tie.Need-returns
+unfolding addObservation observationStore
+returns c = turned-back (c .before .before .before .before .before .before .before .before .args .self) _ (c .before .before .before .before .before .before .before .before .args .store .now) _ _ _ _ (outside (c .before .before .before .before .before .before .before .before .args .self) (c .before .before .before .before .before .before .before .before .args .keys .now) (c .before .before .before .before .before .before .before .before .args .rows) (c .before .before .before .before .before .before .before .before .args .a .now) (c .before .before .before .before .before .before .before .before .args .mean .now) (c .before .before .before .before .before .before .before .before .args .variance .now) (c .before .before .before .before .before .before .before .before .args .store .now) (c .before .before .before .before .before .before .before .before .pre) (tells (c .before .before .counts-fit .ensures) (not-true _ (c .before .if1 .taken)))) (c .refused .ensures) refl
+
+rising-requires : tie.Need-rising-requires
+rising-requires c κs = search needs
+
+refused-requires-2 : tie.Need-refused-requires-2
+refused-requires-2 c κs = search needs
+
+returns-2 : tie.Need-returns-2
+unfolding addObservation observationStore
+returns-2 c = turned-back (c .before .before .before .before .before .before .before .before .before .before .args .self) _ (c .before .before .before .before .before .before .before .before .before .before .args .store .now) _ _ _ _ (not-rising (c .before .before .before .before .before .before .before .before .before .before .args .self) (c .before .before .before .before .before .before .before .before .before .before .args .keys .now) (c .before .before .before .before .before .before .before .before .before .before .args .rows) (c .before .before .before .before .before .before .before .before .before .before .args .a .now) (c .before .before .before .before .before .before .before .before .before .before .args .mean .now) (c .before .before .before .before .before .before .before .before .before .before .args .variance .now) (c .before .before .before .before .before .before .before .before .before .before .args .store .now) (c .before .before .before .before .before .before .before .before .before .before .pre) (tells (c .before .before .before .before .counts-fit .ensures) (not-false _ (c .before .before .before .if1 .left))) (tells (c .before .before .rising .ensures) (not-true _ (c .before .if2 .taken)))) (c .refused2 .ensures) refl
+
+known-requires : tie.Need-known-requires
+known-requires c κs = search needs
+
+refused-requires-3 : tie.Need-refused-requires-3
+refused-requires-3 c κs = search needs
+
+returns-3 : tie.Need-returns-3
+unfolding addObservation observationStore
+returns-3 c = turned-back (c .before .before .before .before .before .before .before .before .before .before .before .before .args .self) _ (c .before .before .before .before .before .before .before .before .before .before .before .before .args .store .now) _ _ _ _ (no-key (c .before .before .before .before .before .before .before .before .before .before .before .before .args .self) (c .before .before .before .before .before .before .before .before .before .before .before .before .args .keys .now) (c .before .before .before .before .before .before .before .before .before .before .before .before .args .rows) (c .before .before .before .before .before .before .before .before .before .before .before .before .args .a .now) (c .before .before .before .before .before .before .before .before .before .before .before .before .args .mean .now) (c .before .before .before .before .before .before .before .before .before .before .before .before .args .variance .now) (c .before .before .before .before .before .before .before .before .before .before .before .before .args .store .now) (c .before .before .before .before .before .before .before .before .before .before .before .before .pre) (tells (c .before .before .before .before .before .before .counts-fit .ensures) (not-false _ (c .before .before .before .before .before .if1 .left))) (tells (c .before .before .before .before .rising .ensures) (not-false _ (c .before .before .before .if2 .left))) (tells (c .before .before .known .ensures) (not-true _ (c .before .if3 .taken)))) (c .refused3 .ensures) refl
+
+observation-of-requires : tie.Need-observation-of-requires
+observation-of-requires c κs = (few (c .before .before .before .before .before .before .before .before .before .before .before .args .self) (c .before .before .before .before .before .before .before .before .before .before .before .args .keys .now) (c .before .before .before .before .before .before .before .before .before .before .before .args .rows) (c .before .before .before .before .before .before .before .before .before .before .before .args .a .now) (c .before .before .before .before .before .before .before .before .before .before .before .args .mean .now) (c .before .before .before .before .before .before .before .before .before .before .before .args .variance .now) (c .before .before .before .before .before .before .before .before .before .before .before .args .store .now) (c .before .before .before .before .before .before .before .before .before .before .before .pre) (tells (c .before .before .before .before .before .counts-fit .ensures) (not-false _ (c .before .before .before .before .if1 .left))), omega (arith, most (c .before .before .before .before .before .before .before .before .before .before .before .args .self) (c .before .before .before .before .before .before .before .before .before .before .before .args .keys .now) (c .before .before .before .before .before .before .before .before .before .before .before .args .rows) (c .before .before .before .before .before .before .before .before .before .before .before .args .a .now) (c .before .before .before .before .before .before .before .before .before .before .before .args .mean .now) (c .before .before .before .before .before .before .before .before .before .before .before .args .variance .now) (c .before .before .before .before .before .before .before .before .before .before .before .args .store .now) (c .before .before .before .before .before .before .before .before .before .before .before .pre) (tells (c .before .before .before .before .before .counts-fit .ensures) (not-false _ (c .before .before .before .before .if1 .left)))), all-known (c .before .before .before .before .before .before .before .before .before .before .before .args .self) (c .before .before .before .before .before .before .before .before .before .before .before .args .keys .now) (c .before .before .before .before .before .before .before .before .before .before .before .args .rows) (c .before .before .before .before .before .before .before .before .before .before .before .args .a .now) (c .before .before .before .before .before .before .before .before .before .before .before .args .mean .now) (c .before .before .before .before .before .before .before .before .before .before .before .args .variance .now) (c .before .before .before .before .before .before .before .before .before .before .before .args .store .now) (c .before .before .before .before .before .before .before .before .before .before .before .pre) (tells (c .before .before .before .before .before .counts-fit .ensures) (not-false _ (c .before .before .before .before .if1 .left))) (tells (c .before .before .before .rising .ensures) (not-false _ (c .before .before .if2 .left))) (tells (c .before .known .ensures) (not-false _ (c .if3 .left))))
+
+add-factor-requires : tie.Need-add-factor-requires
+add-factor-requires c κs = (c .before .before .before .before .before .before .before .before .before .before .before .before .before .pre, fitting (c .before .before .before .before .before .before .before .before .before .before .before .before .before .args .self) (c .before .before .before .before .before .before .before .before .before .before .before .before .before .args .keys .now) (c .before .before .before .before .before .before .before .before .before .before .before .before .before .args .rows) (c .before .before .before .before .before .before .before .before .before .before .before .before .before .args .a .now) (c .before .before .before .before .before .before .before .before .before .before .before .before .before .args .mean .now) (c .before .before .before .before .before .before .before .before .before .before .before .before .before .args .variance .now) (c .before .before .before .before .before .before .before .before .before .before .before .before .before .args .store .now) (c .before .before .before .before .before .before .before .before .before .before .before .before .before .pre) (tells (c .before .before .before .before .before .before .before .counts-fit .ensures) (not-false _ (c .before .before .before .before .before .before .if1 .left))) (tells (c .before .before .before .before .before .rising .ensures) (not-false _ (c .before .before .before .before .if2 .left))) (tells (c .before .before .before .known .ensures) (not-false _ (c .before .before .if3 .left))) (c .before .observation-of .result) (c .before .observation-of .ensures))
+
+same-length : tie.Need-same-length
+same-length c = search needs
+
+returns-4 : tie.Need-returns-4
+returns-4 c = taken (c .before .before .before .before .before .before .before .before .before .before .before .before .before .before .before .before .args .self) (c .before .before .before .before .before .before .before .before .before .before .before .before .before .before .before .before .args .keys .now) (c .before .before .before .before .before .before .before .before .before .before .before .before .before .before .before .before .args .rows) (c .before .before .before .before .before .before .before .before .before .before .before .before .before .before .before .before .args .a .now) (c .before .before .before .before .before .before .before .before .before .before .before .before .before .before .before .before .args .mean .now) (c .before .before .before .before .before .before .before .before .before .before .before .before .before .before .before .before .args .variance .now) (c .before .before .before .before .before .before .before .before .before .before .before .before .before .before .before .before .args .store .now) (c .before .before .before .before .before .before .before .before .before .before .before .before .before .before .before .before .pre) (tells (c .before .before .before .before .before .before .before .before .before .before .counts-fit .ensures) (not-false _ (c .before .before .before .before .before .before .before .before .before .if1 .left))) (tells (c .before .before .before .before .before .before .before .before .rising .ensures) (not-false _ (c .before .before .before .before .before .before .before .if2 .left))) (tells (c .before .before .before .before .before .before .known .ensures) (not-false _ (c .before .before .before .before .before .if3 .left))) (c .before .before .before .before .observation-of .result) _ _ (c .before .before .before .before .observation-of .ensures) (c .before .before .add-factor .ensures)
+
+pub enter-observation-spec : {M : Type 1} → statement M
+enter-observation-spec =
+    tie.close
+    (tie.spec
+    counts-fit-requires
+    refused-requires
+    returns
+    rising-requires
+    refused-requires-2
+    returns-2
+    known-requires
+    refused-requires-3
+    returns-3
+    observation-of-requires
+    add-factor-requires
+    same-length
+    returns-4)
