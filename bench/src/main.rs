@@ -49,13 +49,14 @@ fn times(graph: &Graph) {
     let problem = dense::Problem::of(&job::read(&bytes).graph);
     let mut out = vec![0; ours::OUTPUT];
     let mut store = [0.0; job::FACTOR_STORE];
+    let mut messages = [0.0; job::MESSAGE_STORE];
     let mut marginals = [0.0; ours::MARGINALS];
     let mut least = [f64::INFINITY; SIDES];
     for _ in 0..ROUNDS {
         let mut note = |side: usize, time: f64| least[side] = f64::min(least[side], time);
         note(0, each(|| ours::store(black_box(&bytes), &mut store)));
         note(1, each(|| drop(black_box(job::read(black_box(&bytes))))));
-        note(2, each_of(REPEATS, || ours::repeat(black_box(&bytes), REPEATS, &mut marginals)));
+        note(2, each_of(REPEATS, || ours::repeat(black_box(&bytes), REPEATS, &mut messages, &mut marginals)));
         note(3, each(|| drop(black_box(smoother.run().unwrap()))));
         note(4, each_of(REPEATS, || drop(black_box(problem.solve(dense::PLAIN, REPEATS)))));
         note(5, each_of(REPEATS, || drop(black_box(problem.solve(dense::WIDE, REPEATS)))));
@@ -97,9 +98,9 @@ fn show(graph: &Graph, least: &[f64; SIDES]) {
 fn repeat(only_run: bool, name: &str, times: usize) {
     let graphs = all(EXAMPLES);
     let graph = graphs.iter().find(|graph| graph.name == name).expect("a graph of that name");
-    let (bytes, mut out, mut marginals) = (graph.job.bytes(), vec![0; ours::OUTPUT], [0.0; ours::MARGINALS]);
+    let (bytes, mut out) = (graph.job.bytes(), vec![0; ours::OUTPUT]);
     if only_run {
-        return ours::repeat(&bytes, times, &mut marginals);
+        return ours::repeat(&bytes, times, &mut [0.0; job::MESSAGE_STORE], &mut [0.0; ours::MARGINALS]);
     }
     (0..times).for_each(|_| assert_ne!(ours::solve(black_box(&bytes), &mut out), 0));
 }

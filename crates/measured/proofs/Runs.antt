@@ -18,7 +18,7 @@ use Rattle.direct.specs.declared.Direct.{Direct}
 use Rattle.solver.specs.Run as solver
 use Rattle.solver.specs.Stages as stages
 use Rattle.solver.specs.declared.run.Ran.{Ran}
-use Rattle.measured.specs.Measured.{factor-room, message-room, readJob, numberIn, eliminated, Stores, stores, storesIn, again, repeated}
+use Rattle.measured.specs.Measured.{factor-room, readJob, numberIn, eliminated, Stores, stores, storesIn, again, repeated}
 
 -- no refusal's number is above 30
 pub few : (r : ℕ) (why : Refusal) → r ≡ numberOf why → r ≤ 30
@@ -36,8 +36,8 @@ one-run g factors s n messages marginals work r messages′ marginals′ ew es e
     (ap storesIn e ∙ ap (λ (w : ℕ). storesIn (solver.run g factors messages w marginals)) ew
     ∙ ap (λ (t : Stores). storesIn (solver.run g factors (t .messages) work-numbers (t .marginals))) es)
 
-pub all-runs : (g : Graph) (factors : List Float) (s : Stores) (times n : ℕ) (messages marginals : List Float) → n ≡ times → stores messages marginals ≡ again g factors s n → marginals ≡ again g factors s times .marginals
-all-runs g factors s times n messages marginals en es = ap (λ (t : Stores). t .marginals) es ∙ ap (λ (k : ℕ). again g factors s k .marginals) en
+pub all-runs : (g : Graph) (factors : List Float) (s : Stores) (times n : ℕ) (t : Stores) → n ≡ times → t ≡ again g factors s n → t ≡ again g factors s times
+all-runs g factors s times n t en es = es ∙ ap (again g factors s) en
 
 pub eliminated-is : (bytes slots kept cleared : List ℕ) (messages : List Float) (read : Read) (factors messages′ : List Float) (d : Direct) (r : ℕ) → read ≡ readAll bytes (replicate factor-room plus-zero) .answer
     → factors ≡ readAll bytes (replicate factor-room plus-zero) .store → d ≡ answerOf (verdict (read .graph) slots kept cleared factors (length messages) work-numbers)
@@ -46,8 +46,7 @@ pub eliminated-is : (bytes slots kept cleared : List ℕ) (messages : List Float
 unfolding eliminated
 eliminated-is bytes slots kept cleared messages read factors messages′ d r er ef ed em en = (en ∙ rw (ed, er, ef) refl, em ∙ rw (er, ef) refl)
 
-pub repeated-is : (bytes : List ℕ) (marginals : List Float) (times : ℕ) (read : Read) (factors marginals′ : List Float) → read ≡ readAll bytes (replicate factor-room plus-zero) .answer
-    → factors ≡ readAll bytes (replicate factor-room plus-zero) .store → marginals′ ≡ again (read .graph) factors (stores (replicate message-room plus-zero) marginals) times .marginals
-    → marginals′ ≡ repeated (readJob bytes) marginals times
+pub repeated-is : (bytes : List ℕ) (s t : Stores) (times : ℕ) (read : Read) (factors : List Float) → read ≡ readAll bytes (replicate factor-room plus-zero) .answer
+    → factors ≡ readAll bytes (replicate factor-room plus-zero) .store → t ≡ again (read .graph) factors s times → t ≡ repeated (readJob bytes) s times
 unfolding repeated
-repeated-is bytes marginals times read factors marginals′ er ef e = e ∙ rw (er, ef) refl
+repeated-is bytes s t times read factors er ef e = e ∙ rw (er, ef) refl

@@ -13,12 +13,9 @@ use Rattle.direct.specs.declared.Direct.{Direct}
 use Rattle.direct.specs.declared.Direct.the-variants.{Rows, Refused}
 use Rattle.solver.specs.Run as solver
 
--- the numbers of the factor and of the message store, as in `job`
+-- the numbers of the factor store, as in `job`
 abbrev pub factor-room : ℕ
 factor-room = 2048
-
-abbrev pub message-room : ℕ
-message-room = 3072
 
 -- what a job registers
 abbrev pub readJob : List ℕ → Reading
@@ -52,6 +49,6 @@ unfoldable pub again : Graph → List Float → Stores → ℕ → Stores
 again g factors s zero = s
 again g factors s (suc n) = let t = again g factors s n in storesIn (solver.run g factors (t .messages) work-numbers (t .marginals))
 
--- the marginal store after n runs of a job's graph
-unfoldable pub repeated : Reading → List Float → ℕ → List Float
-repeated r marginals n = again (r .answer .graph) (r .store) (stores (replicate message-room plus-zero) marginals) n .marginals
+-- the stores after n runs of a job's graph
+unfoldable pub repeated : Reading → Stores → ℕ → Stores
+repeated r s n = again (r .answer .graph) (r .store) s n

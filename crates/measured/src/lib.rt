@@ -11,10 +11,8 @@ ghost use Rattle.records.specs.Records.{readAll};
 ghost use Rattle.direct.specs.Direct.{answerOf, storeOf};
 ghost use Rattle.measured.specs.Measured as spec;
 
-// The numbers of the factor and of the message store, as in `job`.
+// The numbers of the factor store, as in `job`.
 const FACTOR_ROOM: usize = 2048;
-
-const MESSAGE_ROOM: usize = 3072;
 
 // The numbers of a job's factors, at the start of the lent store. The rest of the store is as it was.
 #[no_mangle]
@@ -34,24 +32,28 @@ fn repeat(
     marginals: &mut [f64],
 )
     requires { ⌜ length (now work) ≡ work-numbers ⌝ }
-    ensures { λ _. ⌜ now (marginals .exit) ≡ spec.again g (now (factors .entry)) (spec.stores (now (messages .entry)) (now (marginals .entry))) times .marginals ⌝ }
+    ensures { λ _. ⌜ spec.stores (now (messages .exit)) (now (marginals .exit)) ≡ spec.again g (now (factors .entry)) (spec.stores (now (messages .entry)) (now (marginals .entry))) times ⌝ }
 {
     for _ in 0..times {
         run(g, factors, messages, work, marginals);
     }
 }
 
-// Reads a job once and runs its graph as often as is asked. The marginals are the caller's, so that a run has somebody who reads them.
+// Reads a job once and runs its graph as often as is asked. Messages and marginals are the caller's, who compares them or times the runs.
 #[no_mangle]
-pub extern "C" fn strips_repeat(bytes: &[u8], times: usize, marginals: &mut [f64])
-    ensures { λ _. ⌜ now (marginals .exit) ≡ spec.repeated (spec.readJob (now (bytes .entry))) (now (marginals .entry)) times ⌝ }
+pub extern "C" fn strips_repeat(
+    bytes: &[u8],
+    times: usize,
+    messages: &mut [f64],
+    marginals: &mut [f64],
+)
+    ensures { λ _. ⌜ spec.stores (now (messages .exit)) (now (marginals .exit)) ≡ spec.repeated (spec.readJob (now (bytes .entry))) (spec.stores (now (messages .entry)) (now (marginals .entry))) times ⌝ }
 {
     let mut factors = [0.0; FACTOR_ROOM];
-    let mut messages = [0.0; MESSAGE_ROOM];
     let mut work = [0.0; WORK];
     let read = records::read(bytes, &mut factors);
     let g = read.graph;
-    repeat(g, times, &factors, &mut messages, &mut work, marginals);
+    repeat(g, times, &factors, messages, &mut work, marginals);
 }
 
 // Marks a refusal in an answer of `strips_eliminate`. No message has as many rows.

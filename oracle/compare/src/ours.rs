@@ -1,5 +1,5 @@
 //! The library's calls for C. A slice is a pointer and a length.
-use oracle::job::FACTOR_STORE;
+use oracle::job::{FACTOR_STORE, MESSAGE_STORE};
 
 unsafe extern "C" {
     fn strips_solve(job: *const u8, job_length: usize, out: *mut u8, out_length: usize) -> usize;
@@ -16,7 +16,15 @@ unsafe extern "C" {
         messages: *mut f64,
         length: usize,
     ) -> usize;
-    fn strips_repeat(job: *const u8, job_length: usize, times: usize, marginals: *mut f64, length: usize);
+    fn strips_repeat(
+        job: *const u8,
+        job_length: usize,
+        times: usize,
+        messages: *mut f64,
+        message_length: usize,
+        marginals: *mut f64,
+        marginal_length: usize,
+    );
 }
 
 /// Room for the longest text.
@@ -38,9 +46,19 @@ pub fn store(job: &[u8], store: &mut [f64; FACTOR_STORE]) {
 pub const MARGINALS: usize = 224;
 
 /// Reads a job once and runs it so many times.
-pub fn repeat(job: &[u8], times: usize, marginals: &mut [f64; MARGINALS]) {
-    // Both are lent whole, with their own lengths.
-    unsafe { strips_repeat(job.as_ptr(), job.len(), times, marginals.as_mut_ptr(), marginals.len()) }
+pub fn repeat(job: &[u8], times: usize, messages: &mut [f64; MESSAGE_STORE], marginals: &mut [f64; MARGINALS]) {
+    // Each is lent whole, with its own length.
+    unsafe {
+        strips_repeat(
+            job.as_ptr(),
+            job.len(),
+            times,
+            messages.as_mut_ptr(),
+            messages.len(),
+            marginals.as_mut_ptr(),
+            marginals.len(),
+        )
+    }
 }
 
 /// The mark of a refusal among the answers of `eliminate`.

@@ -4,9 +4,9 @@ use std::panic::catch_unwind;
 use oracle::cases::Job;
 use oracle::gaussian::Factor;
 use oracle::gaussian::shown::{self, Shown};
-use oracle::job::{self, FACTOR_STORE, Read};
+use oracle::job::{self, FACTOR_STORE, MESSAGE_STORE, Read};
 use oracle::refusal::Reason;
-use oracle::run::{expected, lines};
+use oracle::run::{End, expected, lines, parts, run};
 use oracle::solver::Smoother;
 
 use crate::ours;
@@ -14,7 +14,7 @@ use crate::ours;
 /// What the comparison says of a job.
 #[derive(Debug, Clone, PartialEq, Eq, PartialOrd, Ord)]
 pub enum Outcome {
-    /// The same text and the same factor store; the text's kind.
+    /// The same text and the same stores; the text's kind.
     Same(String),
     /// Inside the domain of equality: a finding.
     Differs(String),
@@ -40,6 +40,9 @@ pub fn compare_bytes(bytes: &[u8]) -> Outcome {
     if !same_store(bytes) {
         return Outcome::Differs("factor store".to_string());
     }
+    if !catch_unwind(|| same_run(bytes)).unwrap_or(true) {
+        return Outcome::Differs("message or marginal store".to_string());
+    }
     match catch_unwind(|| expected(bytes)) {
         Err(_) => Outcome::Differs("the original disagrees with document 01".to_string()),
         Ok(Err(_)) => Outcome::Outside(beside_the_original(bytes, &text)),
@@ -64,9 +67,34 @@ pub const UNTOUCHED: u64 = 0x7FF4_DEAD_BEEF_0001;
 fn same_store(bytes: &[u8]) -> bool {
     let mut store = [f64::from_bits(UNTOUCHED); FACTOR_STORE];
     ours::store(bytes, &mut store);
-    let wanted = accepted(&job::read(bytes));
+    begins_with(&store, &accepted(&job::read(bytes)))
+}
+
+/// The finished messages of a run, forward ones first, and the marginals of one that is done; nothing behind them. Outside the
+/// domain there is nothing to compare with.
+fn same_run(bytes: &[u8]) -> bool {
+    let Read { graph, refusal } = job::read(bytes);
+    let order: Vec<usize> = graph.keys().collect();
+    let wanted = run(&graph, &order);
+    if refusal.is_some() || matches!(wanted.end, Some(End::Outside(_))) {
+        return true;
+    }
+    let mut messages = [f64::from_bits(UNTOUCHED); MESSAGE_STORE];
+    let mut marginals = [f64::from_bits(UNTOUCHED); ours::MARGINALS];
+    ours::repeat(bytes, 1, &mut messages, &mut marginals);
+    let finished = wanted.forward.iter().chain(&wanted.backward).map(|message| parts(&message.factor));
+    let found = if wanted.end.is_none() { &wanted.marginals[..] } else { &[] };
+    begins_with(&messages, &finished.map(|(a, xi, w)| [a, xi, w].concat()).collect::<Vec<_>>().concat())
+        && begins_with(
+            &marginals,
+            &found.iter().map(|m| [&m.mean.data[..], &m.cov.data[..]].concat()).collect::<Vec<_>>().concat(),
+        )
+}
+
+/// These numbers, bit by bit, and nothing written behind them.
+fn begins_with(store: &[f64], wanted: &[f64]) -> bool {
     let (taken, rest) = store.split_at(wanted.len());
-    taken.iter().zip(&wanted).all(|(x, y)| x.to_bits() == y.to_bits()) && rest.iter().all(|x| x.to_bits() == UNTOUCHED)
+    taken.iter().zip(wanted).all(|(x, y)| x.to_bits() == y.to_bits()) && rest.iter().all(|x| x.to_bits() == UNTOUCHED)
 }
 
 /// The numbers of the accepted factors. The original has also stored one that document 01 refuses for what was computed.

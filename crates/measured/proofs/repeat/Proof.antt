@@ -1,3 +1,4 @@
+-- `measured::repeat` meets its contract. The loop's invariant: the stores are those after so many runs. Assumes nothing.
 use mathlib.Core.Path.{_≡_, refl, _∙_}
 use Prim.Native.Nat.{_-_, _≤_}
 use lib.ListN.{length}
@@ -15,41 +16,32 @@ Inv-loop g times factors messages₀ work₀ marginals₀ counter₀ messages wo
 abbrev μ-loop : tie.MeasureT-loop
 μ-loop g times factors messages₀ work₀ marginals₀ counter₀ messages work marginals counter = times - counter
 
--- src/lib.rt:32:5
 loop-holds : tie.Need-loop-holds Inv-loop μ-loop
 loop-holds c = (omega arith, (c .before .before .before .before .pre), no-run (c .before .before .before .before .args .g) (c .before .before .before .before .args .factors .now) (stores (c .before .before .before .before .args .messages .now) (c .before .before .before .before .args .marginals .now)), refl, refl)
 
--- src/lib.rt:33:9
 run-requires : tie.Need-run-requires Inv-loop μ-loop
 run-requires c κs = search needs
 
--- src/lib.rt:32:9
 add-counter : tie.Need-add-counter Inv-loop μ-loop
 add-counter c = search needs
 
--- src/lib.rt:32:5
 loop-less : tie.Need-loop-less Inv-loop μ-loop
 loop-less c = search needs
 
--- src/lib.rt:32:5
 loop-again : tie.Need-loop-again Inv-loop μ-loop
 loop-again c = (omega arith, c .before .before .before .before .before .before .run .kept .1 .1 .1 .0 ∙ c .before .before .before .before .before .before .before .before .before .before .before .loop .inv .1, one-run (c .before .before .before .before .before .before .before .before .before .before .before .before .before .before .before .before .args .g) (c .before .before .before .before .before .before .before .before .before .before .before .before .before .before .before .before .args .factors .now) (stores (c .before .before .before .before .before .before .before .before .before .before .before .before .before .before .before .before .args .messages .now) (c .before .before .before .before .before .before .before .before .before .before .before .before .before .before .before .before .args .marginals .now)) (c .before .before .before .before .before .before .before .before .before .before .before .loop .counter) (c .before .before .before .before .before .before .before .before .before .before .before .loop .messages) (c .before .before .before .before .before .before .before .before .before .before .before .loop .marginals) (length (c .before .before .before .before .before .before .before .before .before .before .before .loop .work)) _ _ _ (c .before .before .before .before .before .before .before .before .before .before .before .loop .inv .1) (c .before .before .before .before .before .before .before .before .before .before .before .loop .inv .2) (c .before .before .before .before .before .before .run .ensures), c .before .before .before .before .before .before .run .kept .1 .1 .0 ∙ c .before .before .before .before .before .before .before .before .before .before .before .loop .inv .3, c .before .before .before .before .before .before .run .kept .1 .1 .1 .1 .0 ∙ c .before .before .before .before .before .before .before .before .before .before .before .loop .inv .4)
 
--- src/lib.rt:28:1
 same-length : tie.Need-same-length Inv-loop μ-loop
 same-length c = search needs
 
--- src/lib.rt:28:1
 same-length-2 : tie.Need-same-length-2 Inv-loop μ-loop
 same-length-2 c = search needs
 
--- src/lib.rt:28:1
 same-length-3 : tie.Need-same-length-3 Inv-loop μ-loop
 same-length-3 c = search needs
 
--- src/lib.rt:28:1
 returns : tie.Need-returns Inv-loop μ-loop
-returns c = all-runs (c .before .before .before .before .before .before .args .g) (c .before .before .before .before .before .before .args .factors .now) (stores (c .before .before .before .before .before .before .args .messages .now) (c .before .before .before .before .before .before .args .marginals .now)) (c .before .before .before .before .before .before .args .times) (c .before .loop .counter) _ _ (omega arith) (c .before .loop .inv .2)
+returns c = all-runs (c .before .before .before .before .before .before .args .g) (c .before .before .before .before .before .before .args .factors .now) (stores (c .before .before .before .before .before .before .args .messages .now) (c .before .before .before .before .before .before .args .marginals .now)) (c .before .before .before .before .before .before .args .times) (c .before .loop .counter) _ (omega arith) (c .before .loop .inv .2)
 
 pub repeat-spec : {M : Type 1} → statement M
 repeat-spec =
