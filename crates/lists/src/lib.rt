@@ -1,7 +1,10 @@
 // The lists of an elimination, out of a plan's arrays: kept keys, cleared keys and slots.
+use factor::limits::FACTORS;
+use factor::limits::VARIABLES;
 use plan::gather::Gathered;
 use plan::masks::single;
 use plan::pass::Pass;
+use slots::limits::SLOTS;
 ghost use mathlib.Core.Path.{_≡_};
 ghost use mathlib.Core.List.{_++_, map};
 ghost use Prim.Native.Nat.{_+_, _-_, _<_, _≤_};
@@ -13,15 +16,15 @@ ghost use Rattle.plan.specs.Gather.{Held, gatheredOf};
 ghost use Rattle.lists.specs.Lists.{raised, Holds, HoldsGathered};
 
 // How far the backward messages' numbers stand after the forward ones'.
-pub const BACKWARD: usize = 32;
+pub const BACKWARD: usize = VARIABLES;
 
 // Each list in the first places of its array.
 pub struct Lists {
-    pub kept: [usize; 32],
+    pub kept: [usize; VARIABLES],
     pub keeps: usize,
-    pub cleared: [usize; 32],
+    pub cleared: [usize; VARIABLES],
     pub clears: usize,
-    pub slots: [usize; 128],
+    pub slots: [usize; SLOTS],
     pub count: usize,
 }
 
@@ -32,7 +35,7 @@ fn put_set(list: &mut [usize], at: usize, set: u32, shift: usize) -> usize
     ensures { λ r. ⌜ r ≤ at + 32 ⌝ }
 {
     let mut to = at;
-    for j in 0..32 {
+    for j in 0..VARIABLES {
         if set & single(j) != 0 {
             list[to] = shift + j;
             to += 1;
@@ -46,7 +49,7 @@ fn raised(s: u8, shift: usize) -> usize
     ensures { λ r. ⌜ r ≡ raised shift s ⌝ }
 {
     let n = s as usize;
-    if n < 64 { n } else { n + shift }
+    if n < FACTORS { n } else { n + shift }
 }
 
 // The slots from one place to another follow, with the messages raised by so much.
@@ -78,11 +81,11 @@ pub fn message_lists(p: Pass, j: usize, shift: usize) -> Lists
     let content = b.content;
     let from = p.starts[j] as usize;
     let to = p.ends[j] as usize;
-    let keeps = p.masks[64 + j];
+    let keeps = p.masks[FACTORS + j];
     let clears = p.cleared[j];
-    let mut kept = [0; 32];
-    let mut cleared = [0; 32];
-    let mut slots = [0; 128];
+    let mut kept = [0; VARIABLES];
+    let mut cleared = [0; VARIABLES];
+    let mut slots = [0; SLOTS];
     let k = put_set(&mut kept, 0, keeps, 0);
     let c = put_set(&mut cleared, 0, clears, 0);
     let n = put_slots(&mut slots, 0, &content, from, to, shift);
@@ -105,13 +108,13 @@ pub fn gathered_lists(q: Gathered, key: usize) -> Lists
     let last = q.last;
     let forward = q.forward;
     let backward = q.backward;
-    let mut kept = [0; 32];
-    let mut cleared = [0; 32];
-    let mut slots = [0; 128];
+    let mut kept = [0; VARIABLES];
+    let mut cleared = [0; VARIABLES];
+    let mut slots = [0; SLOTS];
     kept[0] = key;
     let c = put_set(&mut cleared, 0, last, 0);
-    let f = put_set(&mut slots, 0, forward, 64);
-    let b = put_set(&mut slots, f, backward, 64 + BACKWARD);
+    let f = put_set(&mut slots, 0, forward, FACTORS);
+    let b = put_set(&mut slots, f, backward, FACTORS + BACKWARD);
     let n = put_slots(&mut slots, b, &items, q.covered, q.count, 0);
     Lists {
         kept: kept,

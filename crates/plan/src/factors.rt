@@ -1,5 +1,7 @@
 // From a table of the factors' keys to key sets.
 use crate::masks::single;
+use factor::limits::FACTORS;
+use factor::limits::KEYS;
 ghost use mathlib.Core.Path.{_≡_};
 ghost use Prim.Native.Nat.{_≤_};
 ghost use Rattle.plan.specs.Mask.{Set};
@@ -8,7 +10,7 @@ ghost use Rattle.plan.specs.Factors as spec;
 // The keys that a factor touches: the first `touched` of keys.
 pub struct FactorKeys {
     pub touched: u8,
-    pub keys: [u8; 8],
+    pub keys: [u8; KEYS],
 }
 
 // A byte as an index.
@@ -35,12 +37,12 @@ pub fn mask_of(f: FactorKeys) -> u32
 }
 
 // The sets of all factors: of the first `count` their keys, of the others none.
-pub fn masks_of(factors: [FactorKeys; 64], count: usize) -> [u32; 64]
+pub fn masks_of(factors: [FactorKeys; FACTORS], count: usize) -> [u32; FACTORS]
     requires { ⌜ count ≤ 64 ⌝ }
     requires { ⌜ spec.AllFit factors count ⌝ }
     ensures { λ r. ⌜ spec.Masked factors count r ⌝ }
 {
-    let mut r = [0u32; 64];
+    let mut r = [0u32; FACTORS];
     let mut i = 0;
     while i < count {
         let f = factors[i];

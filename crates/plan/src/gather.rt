@@ -1,8 +1,11 @@
 // What a key gathers from the two passes: `alive_messages`, `mark_leaves` and the loop over the keys of the original.
+use crate::PASS_SLOTS;
 use crate::masks::single;
 use crate::masks::single64;
 use crate::masks::union;
 use crate::pass::Pass;
+use factor::limits::FACTORS;
+use factor::limits::VARIABLES;
 ghost use Prim.Native.Nat.{_≤_, _<_};
 ghost use lib.ListN.{take};
 ghost use Rattle.plan.specs.Mask.{Set};
@@ -12,9 +15,9 @@ ghost use Rattle.plan.specs.Gather as spec;
 // Originals in the order in which they are listed, the first `count` of items; and the messages still to be opened, the first
 // `top` of stack with the top last.
 pub struct Listing {
-    pub items: [u8; 64],
+    pub items: [u8; FACTORS],
     pub count: usize,
-    pub stack: [u8; 32],
+    pub stack: [u8; VARIABLES],
     pub top: usize,
 }
 
@@ -23,14 +26,14 @@ pub struct Listing {
 pub struct Gathered {
     pub forward: u32,
     pub backward: u32,
-    pub items: [u8; 64],
+    pub items: [u8; FACTORS],
     pub covered: usize,
     pub count: usize,
     pub last: u32,
 }
 
 // The messages among the slots from one place to another.
-fn messages_in(content: &[u8; 96], from: usize, to: usize) -> u32
+fn messages_in(content: &[u8; PASS_SLOTS], from: usize, to: usize) -> u32
     requires { ⌜ pass.Codes to (now content) ⌝ }
     requires { ⌜ from ≤ to ⌝ }
     ensures { λ r. ⌜ spec.Inner from to (now (content .entry)) r ⌝ }
@@ -39,8 +42,8 @@ fn messages_in(content: &[u8; 96], from: usize, to: usize) -> u32
     let mut i = from;
     while i < to {
         let s = content[i] as usize;
-        if 64 <= s {
-            r |= single(s - 64);
+        if FACTORS <= s {
+            r |= single(s - FACTORS);
         }
         i += 1;
     }
@@ -72,7 +75,7 @@ fn alive_messages(messages: Pass, t: usize) -> u32
 }
 
 // One message is opened: the originals of its content are listed, its messages pushed, in content order.
-fn visit(content: &[u8; 96], from: usize, to: usize, listing: Listing) -> Listing
+fn visit(content: &[u8; PASS_SLOTS], from: usize, to: usize, listing: Listing) -> Listing
     requires { ⌜ spec.Visitable (now content) from to listing ⌝ }
     ensures { λ r. ⌜ spec.Visited (now (content .entry)) from to listing r ⌝ }
 {
@@ -81,13 +84,13 @@ fn visit(content: &[u8; 96], from: usize, to: usize, listing: Listing) -> Listin
     while i < to {
         let s = content[i] as usize;
         i += 1;
-        if s < 64 {
+        if s < FACTORS {
             let c = l.count;
             l.items[c] = s as u8;
             l.count = c + 1;
         } else {
             let t = l.top;
-            l.stack[t] = (s - 64) as u8;
+            l.stack[t] = (s - FACTORS) as u8;
             l.top = t + 1;
         }
     }
@@ -137,7 +140,7 @@ fn leaves_of(messages: Pass, set: u32, listing: Listing) -> Listing
 }
 
 // The set of the originals listed first.
-fn items_set(items: &[u8; 64], count: usize) -> u64
+fn items_set(items: &[u8; FACTORS], count: usize) -> u64
     requires { ⌜ spec.Items count (now items) ⌝ }
     ensures { λ r. ⌜ Set (take count (now (items .entry))) r ⌝ }
 {
@@ -152,7 +155,7 @@ fn items_set(items: &[u8; 64], count: usize) -> u64
 }
 
 // The live originals that are not listed yet follow, in their own order: they are uncovered.
-fn uncovered(live: [u8; 64], count: usize, listing: Listing) -> Listing
+fn uncovered(live: [u8; FACTORS], count: usize, listing: Listing) -> Listing
     requires { ⌜ pass.Live live count ⌝ }
     requires { ⌜ spec.Space listing ⌝ }
     requires { ⌜ spec.Coverable live count listing ⌝ }
@@ -184,7 +187,7 @@ fn kept_keys(messages: Pass, set: u32) -> u32
     let mut j = 0;
     while j < n {
         if set & single(j) != 0 {
-            let m = messages.masks[64 + j];
+            let m = messages.masks[FACTORS + j];
             r |= m;
         }
         j += 1;
@@ -197,8 +200,8 @@ fn kept_keys(messages: Pass, set: u32) -> u32
 pub fn gather(
     fw: Pass,
     bw: Pass,
-    keys: [u32; 64],
-    live: [u8; 64],
+    keys: [u32; FACTORS],
+    live: [u8; FACTORS],
     count: usize,
     r: usize,
     s: usize,
@@ -211,8 +214,8 @@ pub fn gather(
 {
     let forward = alive_messages(fw, r);
     let backward = alive_messages(bw, s);
-    let none = [0u8; 64];
-    let stack = [0u8; 32];
+    let none = [0u8; FACTORS];
+    let stack = [0u8; VARIABLES];
     let empty = Listing {
         items: none,
         count: 0,

@@ -1,6 +1,9 @@
 // The schedule of one pass: `full_pass` of the original, without its arithmetic.
+use crate::PASS_SLOTS;
 use crate::masks::single;
 use crate::masks::union;
+use factor::limits::FACTORS;
+use factor::limits::VARIABLES;
 ghost use Prim.Native.Nat.{_+_, _≤_, _<_};
 ghost use mathlib.Core.Path.{_≡_};
 ghost use lib.ListN.{take};
@@ -9,27 +12,32 @@ ghost use Rattle.plan.specs.Pass as spec;
 // The active slots are the first `used` of slots; the contents of all messages so far, one after the other, are the first
 // `filled` of content.
 pub struct Board {
-    pub slots: [u8; 96],
+    pub slots: [u8; PASS_SLOTS],
     pub used: usize,
-    pub content: [u8; 96],
+    pub content: [u8; PASS_SLOTS],
     pub filled: usize,
 }
 
 // A pass on its way, and at its end the messages it made: of the message j, kept keys masks[64 + j], cleared keys cleared[j],
 // step steps[j], content the slots of board.content from starts[j] to ends[j]. The keys of the original i are masks[i].
 pub struct Pass {
-    pub masks: [u32; 96],
-    pub cleared: [u32; 32],
-    pub steps: [u8; 32],
-    pub starts: [u8; 32],
-    pub ends: [u8; 32],
+    pub masks: [u32; PASS_SLOTS],
+    pub cleared: [u32; VARIABLES],
+    pub steps: [u8; VARIABLES],
+    pub starts: [u8; VARIABLES],
+    pub ends: [u8; VARIABLES],
     pub count: usize,
     pub active: u32,
     pub board: Board,
 }
 
 // The coupled keys: those of every active slot that touches a key which is not active.
-fn coupled<'a>(masks: &'a [u32; 96], slots: &'a [u8; 96], used: usize, active: u32) -> u32
+fn coupled<'a>(
+    masks: &'a [u32; PASS_SLOTS],
+    slots: &'a [u8; PASS_SLOTS],
+    used: usize,
+    active: u32,
+) -> u32
     requires { ⌜ spec.Codes used (now slots) ⌝ }
     ensures { λ r. ⌜ spec.Coupled (now (masks .entry)) active (take used (now (slots .entry))) r ⌝ }
 {
@@ -48,7 +56,7 @@ fn coupled<'a>(masks: &'a [u32; 96], slots: &'a [u8; 96], used: usize, active: u
 
 // The walk over the active slots: one that touches a cleared key is taken out to the content, and the last slot moves into its
 // place, which is looked at again. The order of the content is the order of the walk.
-fn walk(masks: &[u32; 96], board: Board, cleared: u32) -> Board
+fn walk(masks: &[u32; PASS_SLOTS], board: Board, cleared: u32) -> Board
     requires { ⌜ spec.Room board ⌝ }
     ensures { λ r. ⌜ spec.Walks (now (masks .entry)) cleared board r ⌝ }
 {
@@ -74,12 +82,12 @@ fn walk(masks: &[u32; 96], board: Board, cleared: u32) -> Board
 }
 
 // The masks of the originals, and none yet of a message.
-fn laid_masks(keys: [u32; 64]) -> [u32; 96]
+fn laid_masks(keys: [u32; FACTORS]) -> [u32; PASS_SLOTS]
     ensures { λ r. ⌜ r ≡ spec.laid keys ⌝ }
 {
-    let mut r = [0u32; 96];
+    let mut r = [0u32; PASS_SLOTS];
     let mut i = 0;
-    while i < 64 {
+    while i < FACTORS {
         r[i] = keys[i];
         i += 1;
     }
@@ -87,11 +95,11 @@ fn laid_masks(keys: [u32; 64]) -> [u32; 96]
 }
 
 // The live originals in the first places: a pass starts with them as its active slots.
-fn laid_slots(live: [u8; 64], count: usize) -> [u8; 96]
+fn laid_slots(live: [u8; FACTORS], count: usize) -> [u8; PASS_SLOTS]
     requires { ⌜ count ≤ 64 ⌝ }
     ensures { λ r. ⌜ spec.Laid live count r ⌝ }
 {
-    let mut r = [0u8; 96];
+    let mut r = [0u8; PASS_SLOTS];
     let mut i = 0;
     while i < count {
         r[i] = live[i];
@@ -101,16 +109,16 @@ fn laid_slots(live: [u8; 64], count: usize) -> [u8; 96]
 }
 
 // The pass before its first step: no key is active, and there is no message.
-fn begin(keys: [u32; 64], live: [u8; 64], count: usize) -> Pass
+fn begin(keys: [u32; FACTORS], live: [u8; FACTORS], count: usize) -> Pass
     requires { ⌜ spec.Live live count ⌝ }
     ensures { λ r. ⌜ spec.Ready 0 r ⌝ }
     ensures { λ r. ⌜ spec.Begins keys live count r ⌝ }
 {
     let masks = laid_masks(keys);
     let slots = laid_slots(live, count);
-    let content = [0u8; 96];
-    let cleared = [0u32; 32];
-    let zeros = [0u8; 32];
+    let content = [0u8; PASS_SLOTS];
+    let cleared = [0u32; VARIABLES];
+    let zeros = [0u8; VARIABLES];
     Pass {
         masks: masks,
         cleared: cleared,
@@ -145,7 +153,7 @@ impl Pass {
         let stop = w.filled;
         let keys = union(&self.masks, &content, start, stop);
         let u = w.used;
-        let s = 64 + c;
+        let s = FACTORS + c;
         w.slots[u] = s as u8;
         w.used = u + 1;
         self.masks[s] = self.active & keys;
@@ -184,7 +192,13 @@ impl Pass {
 }
 
 // The pass along an order of the n keys, over the first `count` of the live originals: its messages are those of the definition.
-pub fn full_pass(keys: [u32; 64], live: [u8; 64], count: usize, order: [u8; 32], n: usize) -> Pass
+pub fn full_pass(
+    keys: [u32; FACTORS],
+    live: [u8; FACTORS],
+    count: usize,
+    order: [u8; VARIABLES],
+    n: usize,
+) -> Pass
     requires { ⌜ spec.Live live count ⌝ }
     requires { ⌜ spec.Order order n ⌝ }
     ensures { λ r. ⌜ spec.Ready n r ⌝ }

@@ -5,6 +5,8 @@ use crate::gather::Gathered;
 use crate::gather::gather;
 use crate::pass::Pass;
 use crate::pass::full_pass;
+use factor::limits::FACTORS;
+use factor::limits::VARIABLES;
 ghost use mathlib.Core.Path.{_≡_};
 ghost use mathlib.Core.List.{reverse};
 ghost use Prim.Native.Nat.{_≤_};
@@ -16,15 +18,15 @@ ghost use Rattle.plan.specs.Plan as spec;
 pub struct Plan {
     pub forward: Pass,
     pub backward: Pass,
-    pub at: [Gathered; 32],
+    pub at: [Gathered; VARIABLES],
 }
 
 // The order of the backward pass.
-fn reversed(order: [u8; 32], n: usize) -> [u8; 32]
+fn reversed(order: [u8; VARIABLES], n: usize) -> [u8; VARIABLES]
     requires { ⌜ n ≤ 32 ⌝ }
     ensures { λ r. ⌜ take n r ≡ reverse (take n order) ⌝ }
 {
-    let mut r = [0u8; 32];
+    let mut r = [0u8; VARIABLES];
     let mut i = 0;
     while i < n {
         r[i] = order[n - 1 - i];
@@ -34,7 +36,7 @@ fn reversed(order: [u8; 32], n: usize) -> [u8; 32]
 }
 
 // The place of a key in the order, which is its step in the forward pass.
-fn place(order: [u8; 32], n: usize, k: usize) -> usize
+fn place(order: [u8; VARIABLES], n: usize, k: usize) -> usize
     requires { ⌜ n ≤ 32 ⌝ }
     ensures { λ r. ⌜ r ≡ spec.place k (take n order) ⌝ }
 {
@@ -51,7 +53,13 @@ fn place(order: [u8; 32], n: usize, k: usize) -> usize
 
 // The plan for n keys along an order, over the first `count` of the live originals, from the key sets of the originals. What is
 // required says only that keys are below n, that no live original stands twice, and that the order is one of the n keys.
-pub fn make_plan(keys: [u32; 64], live: [u8; 64], count: usize, order: [u8; 32], n: usize) -> Plan
+pub fn make_plan(
+    keys: [u32; FACTORS],
+    live: [u8; FACTORS],
+    count: usize,
+    order: [u8; VARIABLES],
+    n: usize,
+) -> Plan
     requires { ⌜ spec.Sound keys live count order n ⌝ }
     ensures { λ r. ⌜ spec.Plans keys (take count live) (take n order) n r ⌝ }
     ensures { λ r. ⌜ spec.Bounded n r ⌝ }
@@ -59,7 +67,7 @@ pub fn make_plan(keys: [u32; 64], live: [u8; 64], count: usize, order: [u8; 32],
     let fw = full_pass(keys, live, count, order, n);
     let back = reversed(order, n);
     let bw = full_pass(keys, live, count, back, n);
-    let none = [0u8; 64];
+    let none = [0u8; FACTORS];
     let blank = Gathered {
         forward: 0,
         backward: 0,
@@ -68,7 +76,7 @@ pub fn make_plan(keys: [u32; 64], live: [u8; 64], count: usize, order: [u8; 32],
         count: 0,
         last: 0,
     };
-    let mut at = [blank; 32];
+    let mut at = [blank; VARIABLES];
     let mut k = 0;
     while k < n {
         let r = place(order, n, k);
@@ -84,12 +92,12 @@ pub fn make_plan(keys: [u32; 64], live: [u8; 64], count: usize, order: [u8; 32],
 }
 
 // All keys, rising: the order where none is named.
-fn rising_keys() -> [u8; 32]
+fn rising_keys() -> [u8; VARIABLES]
     ensures { λ r. ⌜ r ≡ from 0 32 ⌝ }
 {
-    let mut r = [0u8; 32];
+    let mut r = [0u8; VARIABLES];
     let mut i = 0;
-    while i < 32 {
+    while i < VARIABLES {
         r[i] = i as u8;
         i += 1;
     }
@@ -97,12 +105,12 @@ fn rising_keys() -> [u8; 32]
 }
 
 // All originals, rising: the first `count` of them are live where none is superseded.
-fn rising_originals() -> [u8; 64]
+fn rising_originals() -> [u8; FACTORS]
     ensures { λ r. ⌜ r ≡ from 0 64 ⌝ }
 {
-    let mut r = [0u8; 64];
+    let mut r = [0u8; FACTORS];
     let mut i = 0;
-    while i < 64 {
+    while i < FACTORS {
         r[i] = i as u8;
         i += 1;
     }
@@ -110,7 +118,7 @@ fn rising_originals() -> [u8; 64]
 }
 
 // The plan of the first `count` factors over n keys, with keys and originals rising: the plan of document 01.
-pub fn rising_plan(factors: [FactorKeys; 64], count: usize, n: usize) -> Plan
+pub fn rising_plan(factors: [FactorKeys; FACTORS], count: usize, n: usize) -> Plan
     requires { ⌜ spec.Registered factors count n ⌝ }
     ensures { λ r. ⌜ spec.planOf n r ≡ spec.risingPlan factors count n ⌝ }
     ensures { λ r. ⌜ spec.Bounded n r ⌝ }
