@@ -12,8 +12,8 @@ use Rattle.matrix.specs.Views.{place, entry, Inside, Apart, flip}
 use Rattle.matrix.specs.Sums.{terms, deductOf}
 use Rattle.cholesky.specs.Factor.{pivotOf, Left, whole, stuck, below, rooted, column, factor, reduced}
 use Rattle.matrix.specs.declared.View.{View}
-use Rattle.root.specs.declared.answer.Root.{Root}
-use Rattle.root.specs.declared.answer.Root.the-variants.{Number, Refused}
+use Rattle.root.specs.declared.Pivot.{Pivot}
+use Rattle.root.specs.declared.Pivot.the-variants.{Root, Refused}
 use Rattle.matrix.proofs.Agreement.{deduct-same}
 use Rattle.matrix.proofs.Entries.{steps-length, steps-other, steps-at}
 
@@ -24,7 +24,7 @@ rest s t v i j = deductOf (entry s v i j) t v i t (flip v) j 0 j
 -- what the first j columns hold, and that the others are as given
 pub record Holds (v : View) (n : ℕ) (s t : List Float) (j : ℕ) : Type 0 where
   pub long : length t ≡ length s
-  pub pivot : (c : ℕ) → c < j → c < n → pivotOf (rest s t v c c) (entry s v c c) ≡ Number (entry t v c c)
+  pub pivot : (c : ℕ) → c < j → c < n → pivotOf (rest s t v c c) (entry s v c c) ≡ Root (entry t v c c)
   pub under : (i c : ℕ) → c < j → c < i → i < n → entry t v i c ≡ div binary64 (rest s t v i c) (entry t v c c)
   pub given : (i c : ℕ) → i < n → c < n → (j ≤ c) ⊎ (i < c) → entry t v i c ≡ entry s v i c
 
@@ -86,7 +86,7 @@ module _ (v : View) (n : ℕ) (s : List Float) (ap′ : Apart v n n) (inside : I
       let e : j + suc (i - suc j) ≡ i = omega arith in
       subst (λ (k : ℕ). entry (below v j (set t (place v j j) r) (n - suc j)) v k j ≡ div binary64 (rest s t v k j) r) e (under-row t r j (i - suc j) H (omega arith))
 
-  module _ (t : List Float) (r : Float) (j : ℕ) (hj : j < n) (H : Holds v n s t j) (er : pivotOf (reduced t v j j) (entry t v j j) ≡ Number r) where
+  module _ (t : List Float) (r : Float) (j : ℕ) (hj : j < n) (H : Holds v n s t j) (er : pivotOf (reduced t v j j) (entry t v j j) ≡ Root r) where
     next : List Float
     next = below v j (set t (place v j j) r) (n - suc j)
 
@@ -97,7 +97,7 @@ module _ (v : View) (n : ℕ) (s : List Float) (ap′ : Apart v n n) (inside : I
     rests : (i c : ℕ) → i < n → c ≤ j → rest s next v i c ≡ rest s t v i c
     rests i c hi hc = rest-same s t next v i c (λ k p. same i k hi (omega arith)) (λ k p. same c k (omega arith) (omega arith))
 
-    root-rest : pivotOf (rest s t v j j) (entry s v j j) ≡ Number r
+    root-rest : pivotOf (rest s t v j j) (entry s v j j) ≡ Root r
     unfolding rest reduced
     root-rest = rw (H .given j j hj hj (inl (omega arith))) at er
 
@@ -105,7 +105,7 @@ module _ (v : View) (n : ℕ) (s : List Float) (ap′ : Apart v n n) (inside : I
     unfolding next
     pivot-next = pivot-at t r j (n - suc j) (H .long) (omega arith)
 
-    pivots : (c : ℕ) → c < suc j → c < n → Dec (c < j) → pivotOf (rest s next v c c) (entry s v c c) ≡ Number (entry next v c c)
+    pivots : (c : ℕ) → c < suc j → c < n → Dec (c < j) → pivotOf (rest s next v c c) (entry s v c c) ≡ Root (entry next v c c)
     pivots c p q (yes l) = rw (rests c c q (omega arith), same c c q l) (H .pivot c l q)
     pivots c p q (no l) = let e : c ≡ j = omega arith in rw (e, rests j j hj (omega arith), pivot-next) root-rest
 
@@ -137,9 +137,9 @@ module _ (v : View) (n : ℕ) (s : List Float) (ap′ : Apart v n n) (inside : I
         }
 
   -- the theorem: where no pivot is refused, the end holds Golub and Van Loan's equations
-  rooted-holds : (t u : List Float) (j : ℕ) → j < n → Holds v n s t j → (x : Root) → pivotOf (reduced t v j j) (entry t v j j) ≡ x → rooted v j t (n - suc j) x ≡ whole u → Holds v n s u (suc j)
+  rooted-holds : (t u : List Float) (j : ℕ) → j < n → Holds v n s t j → (x : Pivot) → pivotOf (reduced t v j j) (entry t v j j) ≡ x → rooted v j t (n - suc j) x ≡ whole u → Holds v n s u (suc j)
   unfolding rooted next
-  rooted-holds t u j hj H (Number r) e g =
+  rooted-holds t u j hj H (Root r) e g =
       let w : below v j (set t (place v j j) r) (n - suc j) ≡ u = cc in
       subst (λ (y : List Float). Holds v n s y (suc j)) w (column-holds t r j hj H e)
   rooted-holds t u j hj H Refused e g = absurd (never t u g)

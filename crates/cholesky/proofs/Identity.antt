@@ -12,7 +12,7 @@ use lib.Seq.{set-getD}
 use lib.Ieee.{Float, nan, binary64, sub, mul, div}
 use borrow.Author.Tests.{eq-eqb, ne-eqb}
 use Rattle.root.specs.Root.{rootOf}
-use Rattle.root.specs.declared.answer.Root.the-variants.{Number}
+use Rattle.root.specs.declared.Pivot.the-variants.{Root}
 use Rattle.matrix.specs.Views.{place, entry, flip, columns}
 use Rattle.matrix.specs.Sums.{plus-zero, one, terms, deduct, deductOf}
 use Rattle.matrix.specs.Stores.{steps, sweep, block, blockColumn}
@@ -49,7 +49,7 @@ unfolding Bit div
 by-one x (inl e) = rw e
 by-one x (inr e) = rw e
 
-pivot-one : pivotOf one one ≡ Number one
+pivot-one : pivotOf one one ≡ Root one
 unfolding pivotOf rootOf
 pivot-one = refl
 
@@ -174,6 +174,11 @@ identity-is n i j hi hj =
     block-at (columns n) n (λ i j old. cond (eqb i j) one plus-zero) (replicate (n * n) plus-zero) i j n (apart (columns n) n n refl (omega arith)) hi hj
     (dense n n (length (replicate (n * n) plus-zero)) (omega (arith, length-replicate (n * n) plus-zero)) i j hi hj)
 
+-- by its places, column by column
+pub identity-at : (n k : ℕ) → k < n * n → getD (identityOf n) k nan ≡ unit (k % n) (k / n)
+unfolding Identity
+identity-at n k h = let w = whole-at n n k h in rw (w .3) at (identity-is n (k % n) (k / n) (w .1) (w .2))
+
 pub identity-factor : (n : ℕ) → factor (columns n) n (identityOf n) n ≡ whole (identityOf n)
 identity-factor n = factor-is (columns n) n (identityOf n) (identity-is n) n (omega arith)
 
@@ -224,9 +229,4 @@ pub zeros-finite : (n : ℕ) → allFinite (replicate n plus-zero) ≡ true
 zeros-finite n = all-finite (replicate n plus-zero) (λ k h. ap isFinite (getD-replicate n k plus-zero nan (omega (arith, length-replicate n plus-zero))))
 
 pub identity-finite : (n : ℕ) → allFinite (identityOf n) ≡ true
-unfolding Identity
-identity-finite n =
-    all-finite (identityOf n)
-    (λ k h.
-    let w = whole-at n n k (omega (arith, identity-length n)) in
-    bit-finite (getD (identityOf n) k nan) (rw (w .3) at (rw (← identity-is n (k % n) (k / n) (w .1) (w .2)) at (unit-bit (k % n) (k / n)))))
+identity-finite n = all-finite (identityOf n) (λ k h. bit-finite (getD (identityOf n) k nan) (rw (← identity-at n k (omega (arith, identity-length n))) at (unit-bit (k % n) (k / n))))

@@ -7,8 +7,8 @@ use native.Mathlib.Omega.{arith}
 use lib.ListN.{set, getD, length, length-set}
 use lib.Seq.{getD-set-same, getD-set-other}
 use lib.Ieee.{Float, nan, binary64, mul, div}
-use Rattle.root.specs.declared.answer.Root.{Root}
-use Rattle.root.specs.declared.answer.Root.the-variants.{Number, Refused}
+use Rattle.root.specs.declared.Pivot.{Pivot}
+use Rattle.root.specs.declared.Pivot.the-variants.{Root, Refused}
 use Rattle.matrix.specs.Views.{place, entry, Inside, flip}
 use Rattle.matrix.specs.Sums.{terms, deductOf}
 use Rattle.matrix.specs.Stores.{steps}
@@ -60,9 +60,9 @@ module _ (v : View) (n : ℕ) where
     wholes : (s t : List Float) → Alike v n s t → Both (whole s) (whole t)
     stucks : (s t : List Float) → Alike v n s t → Both (stuck s) (stuck t)
 
-  both-rooted : (s t : List Float) (j d : ℕ) (q : Root) → j + d < n → Alike v n s t → Both (rooted v j s d q) (rooted v j t d q)
+  both-rooted : (s t : List Float) (j d : ℕ) (q : Pivot) → j + d < n → Alike v n s t → Both (rooted v j s d q) (rooted v j t d q)
   unfolding rooted
-  both-rooted s t j d (Number r) h A = wholes _ _ (alike-below _ _ j d h (alike-set s t j j r r (omega arith) (omega arith) refl A))
+  both-rooted s t j d (Root r) h A = wholes _ _ (alike-below _ _ j d h (alike-set s t j j r r (omega arith) (omega arith) refl A))
   both-rooted s t j d Refused h A = stucks s t A
 
   both-column : (j d : ℕ) → j + d < n → {F G : Left} → Both F G → Both (column v j d F) (column v j d G)

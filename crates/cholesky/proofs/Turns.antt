@@ -7,8 +7,8 @@ use native.Mathlib.Omega.{arith}
 use native.Mathlib.Numerals.{add-one}
 use lib.ListN.{set}
 use lib.Ieee.{Float, binary64, div}
-use Rattle.root.specs.declared.answer.Root.{Root}
-use Rattle.root.specs.declared.answer.Root.the-variants.{Number, Refused}
+use Rattle.root.specs.declared.Pivot.{Pivot}
+use Rattle.root.specs.declared.Pivot.the-variants.{Root, Refused}
 use Rattle.matrix.specs.Views.{place, entry}
 use Rattle.matrix.specs.Stores.{steps}
 use Rattle.matrix.specs.declared.View.{View}
@@ -24,9 +24,9 @@ row-is : (s t : List Float) (v : View) (j i : ℕ) (x p : Float) → x ≡ reduc
 unfolding row
 row-is s t v j i x p ex ep et = rw (et, ex, ep)
 
-rooted-more : (v : View) (j : ℕ) (s t : List Float) (d : ℕ) (x : Root) → rooted v j s d x ≡ whole t → rooted v j s (suc d) x ≡ whole (row t v j (j + suc d))
+rooted-more : (v : View) (j : ℕ) (s t : List Float) (d : ℕ) (x : Pivot) → rooted v j s d x ≡ whole t → rooted v j s (suc d) x ≡ whole (row t v j (j + suc d))
 unfolding rooted below steps row
-rooted-more v j s t d (Number r) e = cc
+rooted-more v j s t d (Root r) e = cc
 rooted-more v j s t d Refused e = cc
 
 column-more : (v : View) (j : ℕ) (s t : List Float) (d : ℕ) → column v j d (whole s) ≡ whole t → column v j (suc d) (whole s) ≡ whole (row t v j (j + suc d))
@@ -40,12 +40,12 @@ stays v n s t j zero e = rw add-zero e
 stays v n s t j (suc d) e = rw (add-suc, stays v n s t j d e)
 
 -- the first turn of column j: the pivot's root is stored
-pub first-turn : (v : View) (i j : ℕ) (s₀ s t : List Float) (x d r : Float) (q : Root) → i ≡ j → s ≡ s₀ → x ≡ reduced s v i j → d ≡ entry s v j j → q ≡ pivotOf x d → q ≡ Number r
+pub first-turn : (v : View) (i j : ℕ) (s₀ s t : List Float) (x d r : Float) (q : Pivot) → i ≡ j → s ≡ s₀ → x ≡ reduced s v i j → d ≡ entry s v j j → q ≡ pivotOf x d → q ≡ Root r
     → t ≡ set s (place v j j) r → column v j (i + 1 - suc j) (whole s₀) ≡ whole t
 unfolding column rooted below steps
 first-turn v i j s₀ s t x d r q ij ss ex ed eq en et =
     let z : i + 1 - suc j ≡ 0 = omega arith in
-    let e : pivotOf (reduced s₀ v j j) (entry s₀ v j j) ≡ Number r = cc in
+    let e : pivotOf (reduced s₀ v j j) (entry s₀ v j j) ≡ Root r = cc in
     rw (z, e, et, ss)
 
 -- another turn: entry (i, j) is divided by the pivot
@@ -58,7 +58,7 @@ next-turn v i j s₀ s t x p ji f ex ep et =
     rw d (m ∙ ap whole (rw k (row-is s t v j i x p ex ep et)))
 
 -- a refused pivot: what is held then is the end
-pub no-turn : (v : View) (n : ℕ) (e₀ s₀ s : List Float) (i j : ℕ) (x d : Float) (q : Root) → j < n → factor v n e₀ j ≡ whole s₀ → i ≡ j → s ≡ s₀ → x ≡ reduced s v i j → d ≡ entry s v j j
+pub no-turn : (v : View) (n : ℕ) (e₀ s₀ s : List Float) (i j : ℕ) (x d : Float) (q : Pivot) → j < n → factor v n e₀ j ≡ whole s₀ → i ≡ j → s ≡ s₀ → x ≡ reduced s v i j → d ≡ entry s v j j
     → q ≡ pivotOf x d → q ≡ Refused → (Stopped ≡ answerOf (factor v n e₀ n)) × (s ≡ listOf (factor v n e₀ n))
 unfolding factor column rooted
 no-turn v n e₀ s₀ s i j x d q jn f ij ss ex ed eq en =

@@ -1,6 +1,6 @@
 // Cholesky's factor of a symmetric matrix, and the solves with it, in place on lent slices.
 use matrix::View;
-use root::answer::Root;
+use root::Pivot;
 ghost use mathlib.Core.Path.{_≡_};
 ghost use Prim.Native.Nat.{ℕ, _+_, _<_, _≤_, _^_};
 ghost use lib.ListN.{length};
@@ -15,7 +15,7 @@ pub enum Factored {
 }
 
 // The root of a pivot, by what is left of the diagonal entry and by that entry as it was given.
-fn pivot(left: f64, given: f64) -> Root
+fn pivot(left: f64, given: f64) -> Pivot
     ensures { λ r. ⌜ r ≡ pivotOf left given ⌝ }
 {
     root::root(left)
@@ -53,8 +53,8 @@ pub fn cholesky(s: &mut [f64], v: View, n: usize) -> Factored
             let d = matrix::get(&s[..], v, j, j);
             if i == j {
                 match pivot(x, d) {
-                    Root::Number(r) => matrix::put(s, v, j, j, r),
-                    Root::Refused => {
+                    Pivot::Root(r) => matrix::put(s, v, j, j, r),
+                    Pivot::Refused => {
                         answer = Factored::Stopped;
                         break 'columns;
                     }

@@ -1,13 +1,15 @@
 -- P1, P2, P3 and P8 as jobs, by computation. Assumes nothing.
 use mathlib.Core.Path.{_≡_, refl}
 use mathlib.Core.List.{List, [], _∷_, _++_}
-use Prim.Native.Nat.{ℕ}
+use Prim.Native.Nat.{ℕ, zero, suc, _≤_}
+use native.Mathlib.Omega.{arith}
 use lib.Ieee.{toBits}
+use Rattle.factor.specs.Limits.{max-size}
 use Rattle.records.specs.Bytes.{wordAt, numberAt, listed}
 use Rattle.records.specs.Records.{variableAt, priorNumbers, priorAt, meaning, observedNumbers, observed, observationAt, markOf, recordAt, readFrom, readAll}
 use Rattle.lines.specs.Lines.{decimalBy, decimal, hexBy, numberText, numbersText, startOf, lineText, linesText, refusedWord, fieldText, refusalText}
 use Rattle.job.specs.Job.{runText, jobText}
-use Rattle.claims.specs.Pairs.{variable-bytes, prior-bytes, equal-bytes}
+use Rattle.claims.specs.Pairs.{sized-bytes, variable-bytes, prior-bytes, equal-bytes}
 use Rattle.claims.proofs.Computing.{computedRun}
 
 -- the text, opened for computing
@@ -20,10 +22,17 @@ pub no-bytes : jobText [] ≡ []
 unfolding printed
 no-bytes = refl
 
--- P2: ` 16 3 0` after the word
-pub one-variable : jobText (variable-bytes 0) ≡ refusedWord ++ (32 ∷ 49 ∷ 54 ∷ 32 ∷ 51 ∷ 32 ∷ 48 ∷ 10 ∷ [])
+-- P2: ` 16 3 0` after the word, for each size
+pub one-variable : (size : ℕ) → 1 ≤ size → size ≤ max-size → jobText (sized-bytes 0 size) ≡ refusedWord ++ (32 ∷ 49 ∷ 54 ∷ 32 ∷ 51 ∷ 32 ∷ 48 ∷ 10 ∷ [])
 unfolding printed
-one-variable = refl
+one-variable zero l m = absurd (omega arith)
+one-variable (suc zero) l m = refl
+one-variable (suc (suc zero)) l m = refl
+one-variable (suc (suc (suc zero))) l m = refl
+one-variable (suc (suc (suc (suc zero)))) l m = refl
+one-variable (suc (suc (suc (suc (suc zero))))) l m = refl
+one-variable (suc (suc (suc (suc (suc (suc zero)))))) l m = refl
+one-variable (suc (suc (suc (suc (suc (suc (suc size))))))) l m = absurd (omega arith)
 
 -- P3: `0`, ` 4000000000000000` and ` 4010000000000000`
 pub one-prior : jobText (variable-bytes 0 ++ prior-bytes)

@@ -3,7 +3,7 @@ use mathlib.Core.Path.{_≡_, refl, sym, ap, subst, _∙_}
 use mathlib.Core.Bool.{true, false}
 use mathlib.Core.List.{List, [], _∷_, _++_, map}
 use Prim.Native.Nat.{_-_}
-use lib.ListN.{length, replicate}
+use lib.ListN.{length, getD, replicate}
 use lib.Ieee.{Float, nan, ofBits}
 use Rattle.root.specs.Root.{rootOf}
 use Rattle.factor.specs.Limits.{max-factors}
@@ -14,6 +14,7 @@ use Rattle.graph.specs.Record.{noName, fresh, offset, valid}
 use Rattle.graph.specs.declared.Outcome.the-variants as answered
 use Rattle.graph.specs.declared.refusal.Refusal.the-variants.{KeysNotRising, MarginalPivot}
 use Rattle.graph.specs.declared.Graph.{Graph}
+use Rattle.schedule.specs.Count.{In}
 use Rattle.schedule.specs.Pass.{original, ClosedFactor}
 use Rattle.schedule.specs.Gather.{Gathered}
 use Rattle.schedule.specs.Plan as lists
@@ -27,12 +28,14 @@ use Rattle.gaussian.proofs.Computing.{computed}
 use Rattle.tables.specs.Originals.{originalView}
 use Rattle.messages.specs.Values.{values, slotView, messageView, stopFrom, finished}
 use Rattle.solver.specs.Plan.{planned, graphPlan}
+use Rattle.solver.proofs.GraphOnce as once
 use Rattle.marginals.specs.Marginals.{marginalNumbers, gatheredViews, found, marginalsFrom, missingFrom, marginalsIn}
 use Rattle.solver.specs.Run.{figureOf, Verdict, first, second, third, carried, checked, run}
 use Rattle.solver.specs.declared.run.Ended.the-variants.{Done, Refused}
 use Rattle.claims.specs.Demand3.{outcomeOf}
 use Rattle.claims.specs.Pairs.{zer, one, minus-one, two, three, four, three-quarters, Lent, next, lentTo, made, named, observed, weak, between, float, bare, held, pair, keyless, planOf, runOf, gatheredAt, Pairs}
 use Rattle.claims.proofs.Computing.{computedRun, computedCalls}
+use Rattle.claims.proofs.NoKeys.{no-lines}
 use Rattle.claims.proofs.Jobs as jobs
 use Rattle.claims.proofs.Jobs.{no-bytes, one-variable, one-prior}
 
@@ -157,9 +160,12 @@ run-is : run graph store (replicate 7 nan) work-numbers (replicate 5 nan) ≡ en
 unfolding run
 run-is = rw (valid-is, plan-is, figure-is) (checked-is ∙ carried-is)
 
-planned-is : planned graph .plan ≡ plan
+planned-made : (g : Graph) → valid g ≡ true → planned g .plan ≡ graphPlan g
 unfolding planned
-planned-is = rw (valid-is, plan-is)
+planned-made g v = rw v
+
+planned-is : planned graph .plan ≡ plan
+planned-is = planned-made graph valid-is ∙ plan-is
 
 -- what key 0 gathers: the backward message and three priors
 abbrev views : List FactorView
@@ -253,8 +259,10 @@ pairs =
       p7-least = refl;
       p8 = of-pair (λ (r : Lent). outcomeOf (r .graph) (observed (1 ∷ 1 ∷ []) (one ∷ one ∷ []) one (replicate 14 nan)) ≡ answered.Refused KeysNotRising) equal-keys;
       p8-number = refl;
+      p9-every = λ g v i k l e h d. subst (λ (p : lists.Plan). In i (getD (p .at-key) k d .originals)) (sym (planned-made g v)) (once.keyless g v i k l e h d);
       p9 = subst (λ (r : Lent). map (λ (q : Gathered). q .originals) (planOf r .at-key) ≡ (0 ∷ 1 ∷ []) ∷ (1 ∷ []) ∷ []) (sym keyless-is) uncovered;
       p10 = refl;
+      p1-every = no-lines;
       p1-job = no-bytes;
       p2-job = one-variable;
       p3-job = one-prior;

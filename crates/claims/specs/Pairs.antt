@@ -1,19 +1,23 @@
--- The pairs P1 to P10 of document 01, as one statement about the definitions that the contracts cite. Of P1 to P3 it has the graph's part: the job's bytes and lines are the job's. Definitions only.
+-- The pairs P1 to P10 of document 01, as one statement about the definitions that the contracts cite. Definitions only.
 use mathlib.Core.Path.{_≡_}
 use mathlib.Core.Bool.{true, false}
 use mathlib.Core.List.{List, [], _∷_, _++_, map}
-use Prim.Native.Nat.{ℕ}
+use Prim.Native.Nat.{ℕ, _≤_, _<_}
 use lib.ListN.{length, getD, replicate}
 use lib.Ieee.{Float, nan, binary64, ofBits}
 use Rattle.root.specs.Root.{rootOf}
-use Rattle.root.specs.declared.answer.Root.the-variants as root
+use Rattle.root.specs.declared.Pivot.the-variants.{Root}
+use Rattle.factor.specs.Limits.{max-size}
 use Rattle.graph.specs.Refusals.{numberOf}
-use Rattle.graph.specs.Record.{fresh}
+use Rattle.graph.specs.Record.{fresh, valid}
 use Rattle.graph.specs.Registration.{priorStore, observationStore}
 use Rattle.graph.specs.Reached.{Call, variable, prior, observation, after}
 use Rattle.graph.specs.declared.Graph.{Graph}
 use Rattle.graph.specs.declared.Outcome.the-variants as answered
 use Rattle.graph.specs.declared.refusal.Refusal.the-variants.{KeysNotRising, MarginalPivot}
+use Rattle.records.specs.Records.{readAll}
+use Rattle.records.specs.declared.answer.Ended.the-variants.{Whole}
+use Rattle.schedule.specs.Count.{In}
 use Rattle.schedule.specs.Pass.{original}
 use Rattle.schedule.specs.Gather.{Gathered}
 use Rattle.schedule.specs.Plan as lists
@@ -22,11 +26,12 @@ use Rattle.slots.specs.Layouts.{layoutOf}
 use Rattle.slots.specs.Views.{FactorView, likelihood, rowsOfAll, withViews}
 use Rattle.gaussian.specs.Elimination as gaussian
 use Rattle.gaussian.specs.Elimination.{nth, begun, message}
+use Rattle.messages.specs.Tables.{keysOf}
 use Rattle.messages.specs.Values.{values}
 use Rattle.solver.specs.Plan.{planned}
 use Rattle.marginals.specs.Marginals.{gatheredViews}
 use Rattle.lines.specs.Lines.{refusedWord}
-use Rattle.job.specs.Job.{jobText}
+use Rattle.job.specs.Job.{factor-room, zeros, jobText}
 use Rattle.solver.specs.Run.{Verdict, run}
 use Rattle.solver.specs.declared.run.Ended.the-variants.{Done, Refused}
 use Rattle.claims.specs.Demand3.{outcomeOf}
@@ -129,7 +134,7 @@ gatheredAt r k =
     let p = planOf r in
     gatheredViews (r .graph) (r .store) p (values (r .graph) (r .store) (p .forward)) (values (r .graph) (r .store) (p .backward)) (getD (p .at-key) k noGathering)
 
--- P10: one row over two cleared keys of size 2
+-- P10: one row over two cleared keys of size 2, beside a kept key of size 1
 abbrev pub crossed : FactorView
 crossed = likelihood (0 ∷ 1 ∷ []) 1 (one ∷ two ∷ three ∷ four ∷ []) (zer ∷ []) (one ∷ [])
 
@@ -142,9 +147,12 @@ two-bytes = 0 ∷ 0 ∷ 0 ∷ 0 ∷ 0 ∷ 0 ∷ 0 ∷ 0x40 ∷ []
 abbrev pub four-bytes : List ℕ
 four-bytes = 0 ∷ 0 ∷ 0 ∷ 0 ∷ 0 ∷ 0 ∷ 0x10 ∷ 0x40 ∷ []
 
--- a variable of size 1 whose name has the letter a
+-- a variable whose name has the letter a; of size 1
+abbrev pub sized-bytes : ℕ → ℕ → List ℕ
+sized-bytes index size = 0x56 ∷ 0x41 ∷ 0x61 ∷ 0 ∷ 0 ∷ 0 ∷ index ∷ 0 ∷ 0 ∷ 0 ∷ size ∷ []
+
 abbrev pub variable-bytes : ℕ → List ℕ
-variable-bytes index = 0x56 ∷ 0x41 ∷ 0x61 ∷ 0 ∷ 0 ∷ 0 ∷ index ∷ 0 ∷ 0 ∷ 0 ∷ 1 ∷ []
+variable-bytes index = sized-bytes index 1
 
 -- a prior on key 0 with mean 2 and variance 4
 abbrev pub prior-bytes : List ℕ
@@ -184,24 +192,28 @@ pub record Pairs : Type 0 where
         marginals = zer ∷ float 0x3FD5555555555556 ∷ float 0x4010000000000001 ∷ float 0x3FF5555555555556 ∷ nan ∷ [];
       }
   -- P7: the roots of 4, 2 and the least number
-  pub p7-four : rootOf four ≡ root.Number two
-  pub p7-two : rootOf two ≡ root.Number (float 0x3FF6A09E667F3BCD)
-  pub p7-least : rootOf (float 1) ≡ root.Number (float 0x1E60000000000000)
+  pub p7-four : rootOf four ≡ Root two
+  pub p7-two : rootOf two ≡ Root (float 0x3FF6A09E667F3BCD)
+  pub p7-least : rootOf (float 1) ≡ Root (float 0x1E60000000000000)
   -- P8: keys 1, 1 are refused with 3
   pub p8 : outcomeOf (pair .graph) (observed (1 ∷ 1 ∷ []) (one ∷ one ∷ []) one (replicate 14 nan)) ≡ answered.Refused KeysNotRising
   pub p8-number : numberOf KeysNotRising ≡ 3
-  -- P9: the observation without keys, number 1, is uncovered at both keys
+  -- P9: an observation without keys is uncovered at every key; in a graph of two, the one of number 1
+  pub p9-every : (g : Graph) → valid g ≡ true → (i k : ℕ) → i < g .count → keysOf g i ≡ [] → k < g .variables → (d : Gathered) → In i (getD (planned g .plan .at-key) k d .originals)
   pub p9 : map (λ (q : Gathered). q .originals) (planOf keyless .at-key) ≡ (0 ∷ 1 ∷ []) ∷ (1 ∷ []) ∷ []
   -- P10: block (1, 0) of the cleared block has rows (3 6) and (4 8); it is 4 × 4, column by column
-  pub p10 : withViews true (frameOf 4 1 1) (layoutOf [] (0 ∷ 1 ∷ []) (2 ∷ 2 ∷ [])) (nth (crossed ∷ [])) (begun true (frameOf 4 1 1)) 1 .s
+  pub p10 : withViews true (frameOf 4 1 1) (layoutOf (2 ∷ []) (0 ∷ 1 ∷ []) (2 ∷ 2 ∷ 1 ∷ [])) (nth (crossed ∷ [])) (begun true (frameOf 4 1 1)) 1 .s
       ≡ one ∷ two ∷ three ∷ four
       ∷ two ∷ four ∷ float 0x4018000000000000 ∷ float 0x4020000000000000
       ∷ zer ∷ zer ∷ float 0x4022000000000000 ∷ float 0x4028000000000000
       ∷ zer ∷ zer ∷ float 0x4028000000000000 ∷ float 0x4030000000000000
       ∷ []
-  -- P1, P2, P3 and P8 as jobs: no bytes print nothing; `refused 16 3 0`; `0 4000000000000000 4010000000000000`; `refused 3 0 2`, since the third record is refused
+  -- P1 as a job: one that is read whole and registers no variable prints nothing, and so does one of no bytes
+  pub p1-every : (bytes : List ℕ) → readAll bytes (zeros factor-room) .answer .ended ≡ Whole → readAll bytes (zeros factor-room) .answer .graph .variables ≡ 0 → jobText bytes ≡ []
   pub p1-job : jobText [] ≡ []
-  pub p2-job : jobText (variable-bytes 0) ≡ refusedWord ++ (32 ∷ 49 ∷ 54 ∷ 32 ∷ 51 ∷ 32 ∷ 48 ∷ 10 ∷ [])
+  -- P2 as a job, of every size: `refused 16 3 0`
+  pub p2-job : (size : ℕ) → 1 ≤ size → size ≤ max-size → jobText (sized-bytes 0 size) ≡ refusedWord ++ (32 ∷ 49 ∷ 54 ∷ 32 ∷ 51 ∷ 32 ∷ 48 ∷ 10 ∷ [])
+  -- P3 and P8 as jobs: `0 4000000000000000 4010000000000000`; `refused 3 0 2`, since the third record is refused
   pub p3-job : jobText (variable-bytes 0 ++ prior-bytes)
       ≡ (48 ∷ []) ++ (32 ∷ 52 ∷ 48 ∷ 48 ∷ 48 ∷ 48 ∷ 48 ∷ 48 ∷ 48 ∷ 48 ∷ 48 ∷ 48 ∷ 48 ∷ 48 ∷ 48 ∷ 48 ∷ 48 ∷ []) ++ (32 ∷ 52 ∷ 48 ∷ 49 ∷ 48 ∷ 48 ∷ 48 ∷ 48 ∷ 48 ∷ 48 ∷ 48 ∷ 48 ∷ 48 ∷ 48 ∷ 48 ∷ 48 ∷ 48 ∷ []) ++ (10 ∷ [])
   pub p8-job : jobText (variable-bytes 0 ++ variable-bytes 1 ++ equal-bytes) ≡ refusedWord ++ (32 ∷ 51 ∷ 32 ∷ 48 ∷ 32 ∷ 50 ∷ 10 ∷ [])

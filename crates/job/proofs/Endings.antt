@@ -1,10 +1,10 @@
 -- The text of a job, by how its reading and its run ended, and that the text in a buffer is that one. Assumes nothing.
-use Prim.Native.Nat.{ℕ, _≤_}
+use Prim.Native.Nat.{ℕ, _≤_, _<_}
 use mathlib.Core.Path.{_≡_, refl, sym, ap, _∙_}
 use mathlib.Core.Bool.{Bool, true, false, cond}
 use mathlib.Core.List.{List}
 use native.Mathlib.Omega.{arith}
-use borrow.Author.Tests.{leb-true}
+use borrow.Author.Tests.{leb-true, leb-false}
 use lib.Dec.{leb}
 use lib.Ieee.{Float}
 use lib.ListN.{length}
@@ -46,6 +46,15 @@ written-within out text n e = by (leb (length text) (length out)) refl e
     by : (b : Bool) → leb (length text) (length out) ≡ b → cond b (Length (length text)) Short ≡ Length n → n ≤ length out
     by true t h = let z : length text ≡ n = cc in omega (arith, leb-true (length text) (length out) t)
     by false t h = let z : _≡_ {A = ℕ} 0 1 = cc in omega arith
+
+-- a buffer that is told to be too short is shorter than the text
+pub short-of : (out text : List ℕ) (r : Written) → r ≡ written out text → r ≡ Short → length out < length text
+unfolding written
+short-of out text r e s = by (leb (length text) (length out)) refl (sym e ∙ s)
+  where
+    by : (b : Bool) → leb (length text) (length out) ≡ b → cond b (Length (length text)) Short ≡ Short → length out < length text
+    by true t h = let z : _≡_ {A = ℕ} 0 1 = cc in omega arith
+    by false t h = leb-false (length text) (length out) t
 
 -- the marginal store has room for the numbers of every graph
 pub marginals-fit : (g : Graph) → valid g ≡ true → startOf g (g .variables) ≤ marginal-room

@@ -1,5 +1,5 @@
 -- No job's text is longer than that of 32 keys, so a buffer of that length is never too short. Assumes nothing.
-use Prim.Native.Nat.{ℕ, _*_, _≤_}
+use Prim.Native.Nat.{ℕ, _*_, _≤_, _<_}
 use mathlib.Core.Path.{_≡_, ap}
 use mathlib.Core.Bool.{true}
 use mathlib.Core.List.{List}
@@ -24,20 +24,20 @@ use Rattle.solver.specs.Run.{run}
 use Rattle.solver.specs.declared.run.Ended.{Ended}
 use Rattle.solver.specs.declared.run.Ended.the-variants.{Done, Refused}
 use Rattle.lines.specs.Lines.{written}
-use Rattle.lines.specs.declared.Written.the-variants.{Length}
+use Rattle.lines.specs.declared.Written.{Written}
+use Rattle.lines.specs.declared.Written.the-variants.{Length, Short}
 use Rattle.lines.proofs.Longest.{lines-most, refusal-most}
-use Rattle.job.specs.Job.{factor-room, message-room, marginal-room, zeros, endedText, runText, readText, readingText, jobText}
+use Rattle.job.specs.Job.{factor-room, message-room, marginal-room, zeros, endedText, runText, readText, readingText, jobText, deciding-bytes, Decide}
+use Rattle.job.proofs.Endings.{short-of}
 use Rattle.job.proofs.Refusals.{number-most, Placed, read-fine, Keyed, run-keyed}
 
 -- ---- the bytes that decide
 
-abbrev pub deciding-bytes : ℕ
-deciding-bytes = 21901
-
--- the first bytes, or any more of them, decide what is printed
-pub first-bytes-decide : (bytes : List ℕ) (most : ℕ) → deciding-bytes ≤ most → jobText (take most bytes) ≡ jobText bytes
-unfolding jobText
-first-bytes-decide bytes most l = ap readingText (first-decide bytes most (zeros factor-room) l (omega (arith, length-replicate factor-room plus-zero)))
+pub first-bytes-decide : Decide deciding-bytes
+unfolding Decide jobText
+first-bytes-decide bytes most l =
+    let e = first-decide bytes most (zeros factor-room) l (omega (arith, length-replicate factor-room plus-zero)) in
+    (e, ap readingText e)
 
 -- ---- the length
 
@@ -67,11 +67,16 @@ taken-most bytes l =
     read-most (all .answer .ended) (all .answer .graph) (all .store) (fine .0) (fine .1)
 
 pub job-most : (bytes : List ℕ) → length (jobText bytes) ≤ text-most
+unfolding Decide
 job-most bytes =
-    let e : jobText (take deciding-bytes bytes) ≡ jobText bytes = first-bytes-decide bytes deciding-bytes (omega arith) in
+    let e : jobText (take deciding-bytes bytes) ≡ jobText bytes = first-bytes-decide bytes deciding-bytes (omega arith) .1 in
     rw (← e) (taken-most (take deciding-bytes bytes) (omega (arith, length-take deciding-bytes bytes)))
 
 -- a buffer of that length takes every text
 pub never-short : (bytes out : List ℕ) → text-most ≤ length out → written out (jobText bytes) ≡ Length (length (jobText bytes))
 unfolding written
 never-short bytes out l = rw (le-leb (length (jobText bytes)) (length out) (omega (arith, job-most bytes)))
+
+-- so only a shorter one is told to be too short
+pub told-short : (bytes out : List ℕ) (r : Written) → r ≡ written out (jobText bytes) → r ≡ Short → length out < text-most
+told-short bytes out r e s = omega (arith, short-of out (jobText bytes) r e s, job-most bytes)

@@ -1,8 +1,9 @@
 -- What a job prints: a line for each key, or one line that says why there are none. Definitions only.
-use Prim.Native.Nat.{ℕ}
+use Prim.Native.Nat.{ℕ, _≤_}
+use mathlib.Core.Path.{_≡_}
 use mathlib.Core.List.{List}
 use lib.Ieee.{Float}
-use lib.ListN.{replicate}
+use lib.ListN.{take, replicate}
 use Rattle.matrix.specs.Sums.{plus-zero}
 use Rattle.graph.specs.Refusals.{numberOf}
 use Rattle.graph.specs.declared.Graph.{Graph}
@@ -58,3 +59,12 @@ readingText r = readText (r .answer .ended) (r .answer .graph) (r .store)
 
 unfoldable pub jobText : List ℕ → List ℕ
 jobText bytes = readingText (readAll bytes (zeros factor-room))
+
+-- ---- the bytes that decide
+
+abbrev pub deciding-bytes : ℕ
+deciding-bytes = 21901
+
+-- the first n bytes, or any more of them, decide the graph with its store, and so what is printed
+unfoldable pub Decide : ℕ → Type 0
+Decide n = (bytes : List ℕ) (most : ℕ) → n ≤ most → (readAll (take most bytes) (zeros factor-room) ≡ readAll bytes (zeros factor-room)) × (jobText (take most bytes) ≡ jobText bytes)

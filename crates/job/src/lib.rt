@@ -10,7 +10,10 @@ ghost use Rattle.graph.specs.Record.{valid};
 ghost use Rattle.lines.specs.Lines.{written, laidIn};
 ghost use Rattle.job.specs.Job as spec;
 
-// Room for the bytes of a job: past the first 21,901 nothing changes the text (`first-bytes-decide`).
+// Past these first bytes of a job nothing changes its text.
+const DECIDING: usize = 21901;
+
+// Room for the bytes of a job that decide, and for more.
 pub const INPUT_ROOM: usize = 32768;
 
 // Room for the text: none is longer than 22,944 bytes (`job-most`).
@@ -27,6 +30,13 @@ const MARGINAL_ROOM: usize = 224;
 
 // The stage of a refusal by reading.
 pub const READING: usize = 0;
+
+// How many bytes of a job decide its graph and its text. A program that reads a job has room for as many.
+pub fn deciding() -> usize
+    ensures { λ r. ⌜ (r ≡ spec.deciding-bytes) × spec.Decide r ⌝ }
+{
+    DECIDING
+}
 
 // The text of a graph's run. Nothing is laid before the run has ended, so a refusal stands alone.
 fn solve_graph(g: Graph, factors: &[f64], out: &mut [u8]) -> Written

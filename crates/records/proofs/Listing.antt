@@ -2,10 +2,11 @@
 use Prim.Native.Nat.{ℕ, zero, suc, _+_, _-_, _<_}
 use mathlib.Core.Path.{_≡_, refl, sym, ap, _∙_}
 use mathlib.Core.List.{List, [], _∷_, _++_}
+use native.Mathlib.Decide.{decLt}
 use native.Mathlib.Omega.{arith}
 use native.Mathlib.Numerals.{add-one}
-use lib.ListN.{length, set, take, drop, length-append}
-use lib.Seq.{drop-cons, set-at, take-at, append-snoc}
+use lib.ListN.{length, getD, set, take, drop, length-append, List·getD-append}
+use lib.Seq.{getD-append-seam, drop-cons, set-at, take-at, append-snoc}
 use Rattle.records.specs.Bytes.{listed}
 
 module _ {A : Type 0} (f : ℕ → A) where
@@ -13,6 +14,17 @@ module _ {A : Type 0} (f : ℕ → A) where
   unfolding listed
   listed-length zero = refl
   listed-length (suc n) = length-append (listed f n) (f n ∷ []) ∙ omega (arith, listed-length n)
+
+  pub listed-at : (n k : ℕ) (d : A) → k < n → getD (listed f n) k d ≡ f k
+  unfolding listed
+  listed-at zero k d l = absurd (omega arith)
+  listed-at (suc n) k d l = go (decLt k n) (λ m. listed-at n k d m)
+    where
+      go : Dec (k < n) → (k < n → getD (listed f n) k d ≡ f k) → getD (listed f n ++ (f n ∷ [])) k d ≡ f k
+      go (yes m) h = List·getD-append (listed f n) (f n ∷ []) d k (omega (arith, listed-length n)) ∙ h m
+      go (no m) h =
+          let e : k ≡ n = omega arith in
+          rw e (ap (λ (i : ℕ). getD (listed f n ++ (f n ∷ [])) i d) (sym (listed-length n)) ∙ getD-append-seam (listed f n) (f n) [] d)
 
   listed-more : (n : ℕ) → listed f (n + 1) ≡ listed f n ++ (f n ∷ [])
   unfolding listed

@@ -38,9 +38,6 @@ keysAt bytes at n = listed (λ i. byteAt bytes (at + i)) n
 abbrev pub numbersAt : List ℕ → ℕ → ℕ → List Float
 numbersAt bytes at n = listed (λ i. numberAt bytes (at + float-bytes * i)) n
 
--- the identity of n rows, column by column
+-- an entry of the identity of n rows, by its place, column by column
 abbrev pub unitAt : ℕ → ℕ → Float
 unitAt n i = cond (eqb (i % n) (i / n)) one plus-zero
-
-abbrev pub identityOf : ℕ → List Float
-identityOf n = listed (λ i. unitAt n i) (n * n)

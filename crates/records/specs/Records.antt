@@ -5,6 +5,7 @@ use Prim.Native.Nat.{ℕ, zero, suc, _+_, _*_}
 use lib.Dec.{ltb, eqb}
 use lib.Ieee.{Float}
 use lib.ListN.{length}
+use Rattle.matrix.specs.Triangles.{identityOf}
 use Rattle.factor.specs.Factor.{rising, known, observationOf, aNumbers}
 use Rattle.graph.specs.Record.{sizeAt, fresh}
 use Rattle.graph.specs.Registration.{addVariable, addPrior, priorStore, countsFit, addObservation, observationStore}
@@ -15,7 +16,7 @@ use Rattle.graph.specs.declared.Outcome.{Outcome}
 use Rattle.graph.specs.declared.Outcome.the-variants as outcome
 use Rattle.graph.specs.declared.refusal.Refusal.{Refusal}
 use Rattle.graph.specs.declared.refusal.Refusal.the-variants.{KeysNotRising, CountOutside, BadRecord, NoSuchKey}
-use Rattle.records.specs.Bytes.{float-bytes, byteAt, cut, wordAt, keysAt, numbersAt, identityOf}
+use Rattle.records.specs.Bytes.{float-bytes, byteAt, cut, wordAt, keysAt, numbersAt}
 use Rattle.records.specs.declared.kinds.Mark.{Mark}
 use Rattle.records.specs.declared.kinds.Mark.the-variants as mark
 use Rattle.records.specs.declared.kinds.Flag.{Flag}

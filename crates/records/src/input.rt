@@ -4,6 +4,7 @@ ghost use mathlib.Core.List.{_++_};
 ghost use Prim.Native.Nat.{_+_, _*_, _<_, _≤_, _^_};
 ghost use lib.Ieee.{binary64, ofBits};
 ghost use lib.ListN.{length, drop};
+ghost use Rattle.matrix.specs.Triangles.{identityOf};
 ghost use Rattle.records.specs.Bytes as spec;
 
 // The bytes of a float.
@@ -92,7 +93,7 @@ fn unit(n: usize, i: usize) -> f64
 // The first numbers of out become the identity of n rows, column by column.
 pub fn identity(out: &mut [f64], n: usize)
     requires { ⌜ (0 < n) × (n ≤ 12) × (n * n ≤ length (now out)) ⌝ }
-    ensures { λ _. ⌜ now (out .exit) ≡ spec.identityOf n ++ drop (n * n) (now (out .entry)) ⌝ }
+    ensures { λ _. ⌜ now (out .exit) ≡ identityOf n ++ drop (n * n) (now (out .entry)) ⌝ }
 {
     for i in 0..n * n {
         out[i] = unit(n, i);

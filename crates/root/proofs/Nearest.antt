@@ -13,7 +13,7 @@ use lib.Ieee.Bits.{toBits-ofBits, ofBits-toBits, nanBits-is}
 use lib.Ieee.Positive.{positive, value-pos}
 use Rattle.root.specs.Root.{isqrt, inUnits, rootBits, rootOf}
 use Rattle.root.specs.Nearest.{before, after, both, Nearest, Right}
-use Rattle.root.specs.declared.answer.Root.{Root}
+use Rattle.root.specs.declared.Pivot.{Pivot}
 use Rattle.root.proofs.Leading.{Found, found, bits-of}
 use Rattle.root.proofs.Midpoints.{pattern, low, high}
 use Rattle.root.proofs.Units.{units}
@@ -84,9 +84,9 @@ nearest v fit p =
     subst (λ (x : ℕ). Nearest v (ofBits binary64 x)) (sym (bits-of n i (isqrt 54 (n * 2 ^ 1074 / 2 ^ (2 * i))) pn f)) (with-digits v (k .m) (k .e) i (isqrt 54 (n * 2 ^ 1074 / 2 ^ (2 * i))) p en (k .few) (i-le n (k .m) (k .e) en (k .few) (k .far)) f)
 
 -- an answer that is `rootOf v` is right
-pub right : (v : Float) (a : Root) → T (fits binary64 v) → a ≡ rootOf v → (a ≡ rootOf v) × Right v a
-right v a fit e = (e, subst (λ (x : Root). Right v x) (sym e) (go (positive v) refl))
+pub right : (v : Float) (a : Pivot) → T (fits binary64 v) → a ≡ rootOf v → (a ≡ rootOf v) × Right v a
+right v a fit e = (e, subst (λ (x : Pivot). Right v x) (sym e) (go (positive v) refl))
   where
     go : (b : Bool) → positive v ≡ b → Right v (rootOf v)
-    go true g = subst (λ (x : Root). Right v x) (answer v g) (nearest v fit (subst T (sym g) tt))
-    go false g = subst (λ (x : Root). Right v x) (answer v g) (subst (λ (b : Bool). T (not b)) (sym g) tt)
+    go true g = subst (λ (x : Pivot). Right v x) (answer v g) (nearest v fit (subst T (sym g) tt))
+    go false g = subst (λ (x : Pivot). Right v x) (answer v g) (subst (λ (b : Bool). T (not b)) (sym g) tt)

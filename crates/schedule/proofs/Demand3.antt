@@ -266,14 +266,19 @@ module _ (n : ℕ) (K : ℕ → List ℕ) (N order : List ℕ) (distinct : (f : 
           (λ j h. from-lt j n (omega (arith, ap (count j) (reversed k pre q e), count-reverse j order, each j)))))
           (subst (λ (o : List ℕ). (ak out : List ℕ) × Side K N q k ((after n K N o) .messages) ak out) (sym (reverse-reverse order ∙ e)) (a-side n K N pre q k (λ j. omega (arith, ap (count j) e, each j, from-once n j)) (λ j h. from-lt j n (omega (arith, ap (count j) e, each j)))))
 
+  -- what the plan has gathered at a key
+  gathered-at : (k : ℕ) → k < n → (d : Gathered) → getD ((plan n K N order) .at-key) k d ≡ gather n K N (full-pass n K N order) (full-pass n K N (reverse order)) (place k order) k
+  unfolding plan
+  gathered-at k l d = nth at 0 n k l d ∙ ap at (zero-add k)
+    where
+      at : ℕ → Gathered
+      at j = gather n K N (full-pass n K N order) (full-pass n K N (reverse order)) (place j order) j
+
   -- Demand 3 of the plan, at each registered key: for any order that names each registered key once, and any list of live originals
   -- that names none twice and whose keys are registered.
   pub demand3 : (k : ℕ) → k < n → (d : Gathered) → Once n K N k ((plan n K N order) .forward) ((plan n K N order) .backward) (getD ((plan n K N order) .at-key) k d)
   unfolding plan
-  demand3 k l d = subst (λ (g : Gathered). Once n K N k (full-pass n K N order) (full-pass n K N (reverse order)) g) (sym (nth at 0 n k l d ∙ ap at (zero-add k))) (at-each k l)
-    where
-      at : ℕ → Gathered
-      at j = gather n K N (full-pass n K N order) (full-pass n K N (reverse order)) (place j order) j
+  demand3 k l d = subst (λ (g : Gathered). Once n K N k (full-pass n K N order) (full-pass n K N (reverse order)) g) (sym (gathered-at k l d)) (at-each k l)
 
   -- However the leaves of the gathered messages are listed, no original is met twice: the double-count refusal never comes.
   pub never-twice : (k : ℕ) → k < n → (f : ℕ)
@@ -320,9 +325,9 @@ module _ (n : ℕ) (K : ℕ → List ℕ) (N order : List ℕ) (distinct : (f : 
       not-in (yes a) = absurd (no-leaf a)
       not-in (no a) = not-T (mem f (lf ++ lb)) (λ t. a (ltb→lt 0 (count f (lf ++ lb)) t))
 
-  pub keyless : (f k : ℕ) → k < n → ((j : ℕ) → In j (K f) → ⊥) → In f N → In f ((gather n K N (full-pass n K N order) (full-pass n K N (reverse order)) (place k order) k) .originals)
+  keyless-at : (f k : ℕ) → k < n → ((j : ℕ) → In j (K f) → ⊥) → In f N → In f ((gather n K N (full-pass n K N order) (full-pass n K N (reverse order)) (place k order) k) .originals)
   unfolding full-pass
-  keyless f k l none live = go (found-at k order (omega (arith, each k, from-in k 0 n (omega arith) (omega arith))))
+  keyless-at f k l none live = go (found-at k order (omega (arith, each k, from-in k 0 n (omega arith) (omega arith))))
     where
       go : (pre : List ℕ) × (q : List ℕ) × (order ≡ pre ++ (k ∷ q)) × (length pre ≡ place k order) → In f ((gather n K N (full-pass n K N order) (full-pass n K N (reverse order)) (place k order) k) .originals)
       go (pre, q, e, d) =
@@ -330,3 +335,6 @@ module _ (n : ℕ) (K : ℕ → List ℕ) (N order : List ℕ) (distinct : (f : 
           (subst (λ (o : List ℕ). (ak out : List ℕ) × Side K N (reverse pre) k ((after n K N o) .messages) ak out) (sym (reversed k pre q e)) (a-side n K N (reverse q) (reverse pre) k (λ j. omega (arith, ap (count j) (reversed k pre q e), count-reverse j order, each j, from-once n j))
           (λ j h. from-lt j n (omega (arith, ap (count j) (reversed k pre q e), count-reverse j order, each j)))))
           (subst (λ (o : List ℕ). (ak out : List ℕ) × Side K N q k ((after n K N o) .messages) ak out) (sym (reverse-reverse order ∙ e)) (a-side n K N pre q k (λ j. omega (arith, ap (count j) e, each j, from-once n j)) (λ j h. from-lt j n (omega (arith, ap (count j) e, each j)))))
+
+  pub keyless : (f k : ℕ) → k < n → ((j : ℕ) → In j (K f) → ⊥) → In f N → (d : Gathered) → In f ((getD ((plan n K N order) .at-key) k d) .originals)
+  keyless f k l none live d = subst (λ (g : Gathered). In f (g .originals)) (sym (gathered-at k l d)) (keyless-at f k l none live)

@@ -6,10 +6,10 @@ use job::INPUT_ROOM;
 use job::READING;
 use lines::Written;
 use records::answer::Ended;
-use solver::Laid;
 
-// What doesn't fit into the input isn't read, since it can't change the graph (`first-decide` in `records`).
+// What doesn't fit into the input isn't read: the room takes all bytes that decide the graph.
 fn main() {
+    check::expect(job::deciding() <= INPUT_ROOM);
     let mut input = [0u8; INPUT_ROOM];
     let got = io::read_full(0, &mut input);
     show(&input[0..got]);
@@ -28,15 +28,16 @@ fn show(bytes: &[u8]) {
 // The buffer is longer than the text of any plan: 62 messages have lines of under 560 bytes, 32 keys of under 720. That is reckoned, not proved.
 // A graph that was read has a plan.
 fn print_plan(g: Graph) {
+    let made = solver::plan(g);
+    let p = made.plan;
     let mut text = io::large_buffer();
-    match solver::lay_plan(g, &mut text) {
-        Laid::Length(n) => {
+    match plan_text::lay_plan(p, made.keys, &mut text) {
+        plan_text::Written::Length(n) => {
             io::write_all(1, &text[0..n]);
         }
-        Laid::Short => {
+        plan_text::Written::Short => {
             io::write_all(2, b"the plan is longer than the buffer\n");
         }
-        Laid::NoPlan(_) => {}
     }
 }
 
@@ -47,6 +48,6 @@ fn print_refusal(why: Refusal, place: usize) {
         Written::Length(n) => {
             io::write_all(1, &text[0..n]);
         }
-        Written::Short => {}
+        Written::Short => check::expect(false),
     }
 }

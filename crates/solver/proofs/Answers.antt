@@ -1,5 +1,5 @@
 -- What the answer of `plan` means, and what an outcome tells of the graph. Assumes nothing.
-use mathlib.Core.Path.{_≡_, refl, sym, ap, _∙_, subst}
+use mathlib.Core.Path.{_≡_, refl, sym, ap, _∙_}
 use mathlib.Core.Bool.{Bool, true, false, cond}
 use mathlib.Core.List.{List}
 use Prim.Native.Nat.{ℕ}
@@ -14,11 +14,7 @@ use Rattle.plan.specs.Factors.{keysAt}
 use Rattle.plan.specs.Plan.{planOf, risingPlan}
 use Rattle.plan.specs.declared.factors.FactorKeys.{FactorKeys}
 use Rattle.plan.specs.declared.plan.Plan.{Plan}
-use Rattle.plan_text.specs.Text as text
-use Rattle.plan_text.specs.declared.Written.{Written}
-use Rattle.plan_text.specs.declared.Written.the-variants as written
-use Rattle.solver.specs.Plan.{graphPlan, noPlan, Answer, planned, read, Table, LaidOut}
-use Rattle.solver.specs.declared.Laid.the-variants.{Length, Short, NoPlan}
+use Rattle.solver.specs.Plan.{graphPlan, noPlan, Answer, planned, read, Table}
 use Rattle.solver.specs.declared.Planned.{Planned}
 use Rattle.solver.specs.declared.Outcome.the-variants.{Made, Refused}
 use Rattle.solver.proofs.Tables.{same-keys}
@@ -59,15 +55,3 @@ refused-why r g why e h = go (valid g) refl
     go : (b : Bool) → valid g ≡ b → (valid g ≡ false) × (why ≡ NoSuchGraph)
     go true v = let z : Refused why ≡ Made = sym h ∙ outcome-is r g e ∙ rw v in (cc, cc)
     go false v = let z : Refused why ≡ Refused NoSuchGraph = sym h ∙ outcome-is r g e ∙ rw v in (v, cc)
-
-pub laid-not : (r : Planned) (g : Graph) (why : Refusal) (a : List ℕ) → read r ≡ planned g → r .outcome ≡ Refused why → LaidOut g a a (NoPlan why)
-unfolding LaidOut
-laid-not r g why a e h = let w = refused-why r g why e h in (w .0, w .1, refl)
-
-pub laid-whole : (r : Planned) (g : Graph) (a b : List ℕ) (m : ℕ) (w : Written) → read r ≡ planned g → r .outcome ≡ Made → text.Laid a b w → w ≡ written.Length m → LaidOut g a b (Length m)
-unfolding LaidOut text.Laid
-laid-whole r g a b m w e h l z = let p : text.Laid a b (written.Length m) = subst (λ (x : Written). text.Laid a b x) z l in (made-valid r g e h, p .0, p .1, p .2)
-
-pub laid-short : (r : Planned) (g : Graph) (a b : List ℕ) (w : Written) → read r ≡ planned g → r .outcome ≡ Made → text.Laid a b w → w ≡ written.Short → LaidOut g a b Short
-unfolding LaidOut text.Laid
-laid-short r g a b w e h l z = (made-valid r g e h, subst (λ (x : Written). text.Laid a b x) z l)

@@ -1,7 +1,7 @@
 -- Demand 3 over the plan of a valid graph: behind each key every factor stands exactly once, every other key is cleared exactly once and the key itself never. Assumes nothing.
-use mathlib.Core.Path.{_≡_, refl}
+use mathlib.Core.Path.{_≡_, refl, subst}
 use mathlib.Core.Bool.{Bool, true, false, cond}
-use mathlib.Core.List.{[]}
+use mathlib.Core.List.{List, []}
 use Prim.Native.Nat.{ℕ, _<_}
 use native.Mathlib.Omega.{arith}
 use borrow.Author.Tests.{ltb-true}
@@ -15,6 +15,8 @@ use Rattle.graph.proofs.Validity.{valid-factor}
 use Rattle.schedule.specs.Count.{count, In, from}
 use Rattle.schedule.specs.Gather.{Gathered}
 use Rattle.schedule.specs.Once.{Once}
+use Rattle.schedule.proofs.Counts.{from-in}
+use Rattle.schedule.proofs.Demand3 as schedule
 use Rattle.schedule.proofs.Demand3.{from-once, demand3}
 use Rattle.messages.specs.Tables.{keysOf}
 use Rattle.solver.specs.Plan.{graphPlan}
@@ -40,3 +42,10 @@ pub once : (g : Graph) → valid g ≡ true → (k : ℕ) → k < g .variables �
     → Once (g .variables) (keysOf g) (from 0 (g .count)) k (graphPlan g .forward) (graphPlan g .backward) (getD (graphPlan g .at-key) k d)
 unfolding graphPlan
 once g v k h d = demand3 (g .variables) (keysOf g) (from 0 (g .count)) (from 0 (g .variables)) (from-once (g .count)) (λ f s j u. low g v f j u) (λ j. refl) k h d
+
+-- a factor without keys is uncovered at every key
+pub keyless : (g : Graph) → valid g ≡ true → (i k : ℕ) → i < g .count → keysOf g i ≡ [] → k < g .variables → (d : Gathered) → In i (getD (graphPlan g .at-key) k d .originals)
+unfolding graphPlan
+keyless g v i k l e h d =
+    schedule.keyless (g .variables) (keysOf g) (from 0 (g .count)) (from 0 (g .variables)) (from-once (g .count)) (λ f s j u. low g v f j u) (λ j. refl) i k h
+    (λ j s. none-in j (subst (λ (ks : List ℕ). In j ks) e s)) (omega (arith, from-in i 0 (g .count) (omega arith) (omega arith))) d

@@ -1,9 +1,9 @@
 -- The plan of a graph: the schedule's plan over the keys of its factors, all of them, with keys rising. Definitions only.
 use mathlib.Core.Path.{_≡_}
-use mathlib.Core.Bool.{true, false, cond}
+use mathlib.Core.Bool.{cond}
 use mathlib.Core.List.{List, []}
-use Prim.Native.Nat.{ℕ, _≤_, _<_}
-use lib.ListN.{length, getD, drop}
+use Prim.Native.Nat.{ℕ, _<_}
+use lib.ListN.{length, getD}
 use Rattle.factor.specs.Limits.{max-factors, max-keys}
 use Rattle.factor.specs.declared.Factor.{Factor}
 use Rattle.graph.specs.Record.{factorAt, valid}
@@ -18,8 +18,6 @@ use Rattle.messages.specs.Tables.{keysOf}
 use Rattle.solver.specs.declared.Planned.{Planned}
 use Rattle.solver.specs.declared.Outcome.{Outcome}
 use Rattle.solver.specs.declared.Outcome.the-variants.{Made, Refused}
-use Rattle.solver.specs.declared.Laid.{Laid}
-use Rattle.solver.specs.declared.Laid.the-variants.{Length, Short, NoPlan}
 
 -- the messages of both passes and what each key gathers, over all factors, with keys rising
 unfoldable pub graphPlan : Graph → lists.Plan
@@ -55,11 +53,3 @@ pub record Table (g : Graph) (n : ℕ) (table : List FactorKeys) : Type 0 where
   pub whole : length table ≡ max-factors
   pub same : (i : ℕ) → i < n → getD table i noKeys ≡ touchedBy (factorAt g i)
   pub long : (i : ℕ) → i < n → length (factorAt g i .keys) ≡ max-keys
-
--- ---- a plan as text
-
--- The length answered is within the buffer, and what follows it is unchanged; a buffer that is too short may hold anything; a refusal leaves it.
-unfoldable pub LaidOut : Graph → (a b : List ℕ) → Laid → Type 0
-LaidOut g a b (Length m) = (valid g ≡ true) × (length b ≡ length a) × (m ≤ length a) × (drop m b ≡ drop m a)
-LaidOut g a b Short = (valid g ≡ true) × (length b ≡ length a)
-LaidOut g a b (NoPlan why) = (valid g ≡ false) × (why ≡ NoSuchGraph) × (b ≡ a)

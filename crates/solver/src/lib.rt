@@ -8,7 +8,6 @@ use graph::Graph;
 use graph::refusal::Refusal;
 use plan::factors::FactorKeys;
 use plan::plan::Plan;
-use plan_text::Written;
 ghost use mathlib.Core.Path.{_≡_};
 ghost use Prim.Native.Nat.{_≤_};
 ghost use lib.ListN.{length};
@@ -75,30 +74,5 @@ pub fn plan(g: Graph) -> Planned
         outcome: Outcome::Made,
         keys: n,
         plan: plan::plan::rising_plan(table, count, n),
-    }
-}
-
-// How the text of a plan was laid: its length, that the buffer is too short, or why there is no plan.
-pub enum Laid {
-    Length(usize),
-    Short,
-    NoPlan(Refusal),
-}
-
-// The plan of a graph as text in a lent buffer, a line for each message and a line for each key.
-pub fn lay_plan(g: Graph, buffer: &mut [u8]) -> Laid
-    ensures { λ r. ⌜ spec.LaidOut g (now (buffer .entry)) (now (buffer .exit)) r ⌝ }
-{
-    let made = plan(g);
-    let outcome = made.outcome;
-    match outcome {
-        Outcome::Refused(why) => Laid::NoPlan(why),
-        Outcome::Made => {
-            let p = made.plan;
-            match plan_text::lay_plan(p, made.keys, buffer) {
-                Written::Length(size) => Laid::Length(size),
-                Written::Short => Laid::Short,
-            }
-        }
     }
 }

@@ -4,7 +4,7 @@
 // The output is a line for each number: a root or `refused`; of a record `stopped`, or `done` and the factor, the solution and the inverse.
 use cholesky::Factored;
 use matrix::View;
-use root::answer::Root;
+use root::Pivot;
 ghost use Prim.Native.Nat.{_≤_, _<_, _*_};
 ghost use lib.ListN.{length};
 
@@ -78,8 +78,8 @@ fn roots(text: &[u8], count: usize)
 {
     for i in 0..count {
         match root::root(float(word(text, i + 1))) {
-            Root::Number(r) => print(r),
-            Root::Refused => {
+            Pivot::Root(r) => print(r),
+            Pivot::Refused => {
                 io::write_all(1, b"refused\n");
             }
         }

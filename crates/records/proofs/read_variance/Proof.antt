@@ -7,7 +7,8 @@ use native.Mathlib.Nat.{mul-le-mul}
 use native.Mathlib.Omega.{arith}
 use lib.Ieee.{Float}
 use lib.ListN.{drop}
-use Rattle.records.specs.Bytes.{identityOf, numbersAt}
+use Rattle.matrix.specs.Triangles.{identityOf}
+use Rattle.records.specs.Bytes.{numbersAt}
 use Rattle.records.specs.Records.{flagKnown, given, varianceAt}
 use Rattle.records.specs.declared.kinds.Flag.{Flag}
 use Rattle.records.specs.declared.kinds.Flag.the-variants.{Identity, Given, Unknown}

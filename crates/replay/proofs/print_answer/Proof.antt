@@ -1,7 +1,8 @@
--- `replay::print_answer` is safe: the length that is answered is within the buffer. Assumes nothing.
+-- `replay::print_answer` is safe: the buffer is never too short, and the length that is answered is within it. Assumes nothing.
 use mathlib.Core.Path.{sym, _∙_}
 use native.Mathlib.Omega.{arith}
 use Rattle.job.proofs.Endings.{written-within}
+use Rattle.job.proofs.Longest.{told-short}
 use borrow.Author.Needs.{needs}
 use Rattle.replay.proofs.print_answer.Statement.{statement}
 use Rattle.replay.proofs.print_answer.Tie as tie
@@ -30,6 +31,9 @@ write-all-requires c κs = search needs
 enum-told : tie.Need-enum-told
 enum-told c = search needs
 
+expect-requires : tie.Need-expect-requires
+expect-requires c κs = absurd (omega (arith, told-short _ _ _ (c .before .before .before .solve .ensures .0) (c .enum-told .given .1)))
+
 returns : tie.Need-returns
 returns c = search needs
 
@@ -48,5 +52,6 @@ print-answer-spec =
     part-write-all-end
     write-all-requires
     enum-told
+    expect-requires
     returns
     returns-2)

@@ -4,17 +4,19 @@ use mathlib.Core.Path.{_≡_}
 use mathlib.Core.List.{List}
 use native.Mathlib.Omega.{arith}
 use lib.ListN.{length}
-use Rattle.graph.specs.declared.Graph.{Graph}
-use Rattle.solver.specs.Plan.{LaidOut}
-use Rattle.solver.specs.declared.Laid.{Laid}
-use Rattle.solver.specs.declared.Laid.the-variants.{Length}
+use Rattle.plan_text.specs.Text.{Laid}
+use Rattle.plan_text.specs.declared.Written.{Written}
+use Rattle.plan_text.specs.declared.Written.the-variants.{Length}
 use borrow.Author.Needs.{needs}
 use Rattle.show_plan.proofs.print_plan.Statement.{statement}
 use Rattle.show_plan.proofs.print_plan.Tie as tie
 
-laid-within : (g : Graph) (a b : List ℕ) (r : Laid) (n : ℕ) → r ≡ Length n → LaidOut g a b r → n ≤ length a
-unfolding LaidOut
-laid-within g a b r n e h = let l : LaidOut g a b (Length n) = rw e at h in l .2
+laid-within : (a b : List ℕ) (r : Written) (n : ℕ) → r ≡ Length n → Laid a b r → n ≤ length a
+unfolding Laid
+laid-within a b r n e h = let l : Laid a b (Length n) = rw e at h in l .1
+
+plan-requires : tie.Need-plan-requires
+plan-requires c κs = search needs
 
 large-buffer-requires : tie.Need-large-buffer-requires
 large-buffer-requires c κs = search needs
@@ -35,7 +37,7 @@ part-write-all-start : tie.Need-part-write-all-start
 part-write-all-start c = search needs
 
 part-write-all-end : tie.Need-part-write-all-end
-part-write-all-end c = omega (arith, laid-within _ _ _ _ _ (c .before .before .n .given .1) (c .before .before .before .before .before .lay-plan .ensures))
+part-write-all-end c = omega (arith, laid-within _ _ _ _ (c .before .before .n .given .1) (c .before .before .before .before .before .lay-plan .ensures))
 
 write-all-requires : tie.Need-write-all-requires
 write-all-requires c κs = search needs
@@ -49,22 +51,17 @@ slice-aggregate-write-all c = search needs
 write-all-requires-2 : tie.Need-write-all-requires-2
 write-all-requires-2 c κs = search needs
 
-enum-told-2 : tie.Need-enum-told-2
-enum-told-2 c = search needs
-
 returns : tie.Need-returns
 returns c = search needs
 
 returns-2 : tie.Need-returns-2
 returns-2 c = search needs
 
-returns-3 : tie.Need-returns-3
-returns-3 c = search needs
-
 pub print-plan-spec : {M : Type 1} → statement M
 print-plan-spec =
     tie.close
     (tie.spec
+    plan-requires
     large-buffer-requires
     slice-aggregate-lay-plan
     lay-plan-requires
@@ -76,7 +73,5 @@ print-plan-spec =
     enum-told
     slice-aggregate-write-all
     write-all-requires-2
-    enum-told-2
     returns
-    returns-2
-    returns-3)
+    returns-2)

@@ -1,10 +1,18 @@
--- `strips::main` is safe: the length that is answered is within the buffer. Assumes nothing.
+-- `strips::main` is safe: the input has room for the bytes that decide, the output for every text, and the length that is answered is within it. Assumes nothing.
 use mathlib.Core.Path.{sym, _∙_}
 use native.Mathlib.Omega.{arith}
+use borrow.Author.Tests.{le-leb}
 use Rattle.job.proofs.Endings.{written-within}
+use Rattle.job.proofs.Longest.{told-short}
 use borrow.Author.Needs.{needs}
 use Rattle.strips.proofs.main.Statement.{statement}
 use Rattle.strips.proofs.main.Tie as tie
+
+deciding-requires : tie.Need-deciding-requires
+deciding-requires c κs = search needs
+
+expect-requires : tie.Need-expect-requires
+expect-requires c κs = le-leb (c .deciding .result) 32768 (omega (arith, c .deciding .ensures .0))
 
 slice-aggregate-read-full : tie.Need-slice-aggregate-read-full
 slice-aggregate-read-full c = search needs
@@ -45,6 +53,9 @@ write-all-requires c κs = search needs
 enum-told : tie.Need-enum-told
 enum-told c = search needs
 
+expect-requires-2 : tie.Need-expect-requires-2
+expect-requires-2 c κs = absurd (omega (arith, told-short _ _ _ (c .before .before .before .solve .ensures .0) (c .enum-told .given .1)))
+
 returns : tie.Need-returns
 returns c = search needs
 
@@ -55,6 +66,8 @@ pub main-spec : {M : Type 1} → statement M
 main-spec =
     tie.close
     (tie.spec
+    deciding-requires
+    expect-requires
     slice-aggregate-read-full
     read-full-requires
     sub-solve
@@ -68,5 +81,6 @@ main-spec =
     part-write-all-end
     write-all-requires
     enum-told
+    expect-requires-2
     returns
     returns-2)

@@ -1,15 +1,37 @@
 -- `records::input::identity` meets its contract. The loop's invariant: the entries passed stand at the front. Assumes nothing.
-use Prim.Native.Nat.{_+_, _*_, _-_, _≤_}
-use mathlib.Core.Path.{_≡_, refl}
+use Prim.Native.Nat.{ℕ, _+_, _*_, _-_, _/_, _%_, _≤_, _<_}
+use mathlib.Core.Path.{_≡_, refl, sym, _∙_}
+use mathlib.Core.Bool.{cond}
 use mathlib.Core.List.{_++_}
+use native.Mathlib.Decide.{ℕ-discrete}
 use native.Mathlib.Omega.{arith}
 use native.Mathlib.Nat.{mul-le-mul}
+use borrow.Author.Tests.{eq-eqb, ne-eqb}
+use lib.Dec.{eqb}
+use lib.Ieee.{nan}
 use lib.ListN.{length, drop, length-set}
+use lib.Seq.{ext-getD}
+use Rattle.matrix.specs.Sums.{plus-zero, one}
+use Rattle.matrix.specs.Triangles.{identityOf}
+use Rattle.cholesky.proofs.Identity.{unit, unit-same, unit-other, identity-length, identity-at}
 use Rattle.records.specs.Bytes.{listed, unitAt}
-use Rattle.records.proofs.Listing.{fill-none, fill-more, fill-done}
+use Rattle.records.proofs.Listing.{listed-length, listed-at, fill-none, fill-more, fill-done}
 use borrow.Author.Needs.{needs}
 use Rattle.records.proofs.input.identity.Statement.{statement}
 use Rattle.records.proofs.input.identity.Tie as tie
+
+unit-is : (i j : ℕ) → unit i j ≡ cond (eqb i j) one plus-zero
+unit-is i j = go (ℕ-discrete i j)
+  where
+    go : Dec (i ≡ j) → unit i j ≡ cond (eqb i j) one plus-zero
+    go (yes e) = rw (eq-eqb i j e, e) (unit-same j)
+    go (no h) = rw (ne-eqb i j h) (unit-other i j h)
+
+-- the entries by their places are the identity
+identity-listed : (n : ℕ) → listed (λ k. unitAt n k) (n * n) ≡ identityOf n
+identity-listed n =
+    ext-getD nan (listed (λ k. unitAt n k) (n * n)) (identityOf n) (listed-length (λ k. unitAt n k) (n * n) ∙ sym (identity-length n))
+    (λ k l. let h : k < n * n = omega (arith, listed-length (λ k. unitAt n k) (n * n)) in listed-at (λ k. unitAt n k) (n * n) k nan h ∙ sym (identity-at n k h ∙ unit-is (k % n) (k / n)))
 
 abbrev Inv-loop : tie.InvT-loop
 Inv-loop out₀ n i₀ i-end out i = (i-end ≡ n * n) × (i ≤ i-end) × (length out ≡ length out₀) × (out ≡ listed (λ k. unitAt n k) i ++ drop i out₀)
@@ -45,7 +67,7 @@ same-length : tie.Need-same-length Inv-loop μ-loop
 same-length c = c .before .loop .inv .2
 
 returns : tie.Need-returns Inv-loop μ-loop
-returns c = fill-done (λ k. unitAt (c .before .before .before .args .n) k) (c .before .before .before .args .out .now) (c .before .loop .out) (c .before .loop .i) (c .before .before .before .args .n * c .before .before .before .args .n) (omega arith) (c .before .loop .inv .3)
+returns c = rw (← identity-listed (c .before .before .before .args .n)) (fill-done (λ k. unitAt (c .before .before .before .args .n) k) (c .before .before .before .args .out .now) (c .before .loop .out) (c .before .loop .i) (c .before .before .before .args .n * c .before .before .before .args .n) (omega arith) (c .before .loop .inv .3))
 
 pub identity-spec : {M : Type 1} → statement M
 identity-spec =
