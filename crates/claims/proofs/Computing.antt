@@ -1,4 +1,4 @@
--- The definitions of registering calls, plans and runs, open to computing.
+-- The definitions of registering calls, plans and runs, open to computing. Assumes nothing.
 use Prim.Native.Nat.{ℕ}
 use mathlib.Core.List.{List}
 use lib.Ieee.{Float, sub, mul, div, ofBits}

@@ -1,4 +1,4 @@
--- The cases of document 01 that its elimination decides, and its refusals, computed.
+-- The cases of document 01 that its elimination decides, and its refusals, computed. Assumes nothing.
 use mathlib.Core.Path.{_≡_, refl}
 use mathlib.Core.Bool.{true, false}
 use mathlib.Core.List.{[], _∷_}

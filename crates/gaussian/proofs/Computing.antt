@@ -1,4 +1,4 @@
--- The definition of elimination, open to computing.
+-- The definition of elimination, open to computing. Assumes nothing.
 use Prim.Native.Nat.{ℕ}
 use mathlib.Core.List.{List}
 use lib.Ieee.{add, sub, mul, div, ofBits}

@@ -1,4 +1,4 @@
--- Random eliminations: the definition has the bits of an independent model of the Rust original.
+-- Random eliminations: the definition has the bits of an independent model of the Rust original. Assumes nothing.
 use Prim.Native.Nat.{ℕ}
 use mathlib.Core.Path.{_≡_, refl}
 use mathlib.Core.List.{List, [], _∷_, _++_, map}

@@ -18,7 +18,7 @@ use Rattle.factor.proofs.Fitting.{fits-key, prior-touched}
 use Rattle.graph.specs.Record.{factorAt, offset}
 use Rattle.graph.specs.declared.Graph.{Graph}
 use Rattle.graph.proofs.Validity.{valid-variables, valid-count, valid-factor}
-use Rattle.schedule.specs.Count.{count, sum, from}
+use Rattle.schedule.specs.Count.{sum, from}
 use Rattle.schedule.specs.Pass.{Slot, original, closed, ClosedFactor, at}
 use Rattle.schedule.proofs.Counts.{sum-same}
 use Rattle.schedule.proofs.Sums.{sum-table, sum-from-snoc, from-mem}

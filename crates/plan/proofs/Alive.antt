@@ -18,9 +18,8 @@ use Rattle.schedule.specs.Pass.{Slot, ClosedFactor, at}
 use Rattle.schedule.specs.Gather.{messagesIn, upTo, within, alive-among, alive-messages}
 use Rattle.schedule.proofs.Counts.{or-e, and-l}
 use Rattle.schedule.proofs.Sums.{joined-append}
-use Rattle.plan.specs.Mask.{has, keysIn}
+use Rattle.plan.specs.Mask.{has, keysIn, Set}
 use Rattle.plan.specs.Pass.{msgAt, messagesOf}
-use Rattle.plan.specs.Mask.{Set}
 use Rattle.plan.specs.Gather.{part, Inner, Alive}
 use Rattle.plan.specs.declared.pass.Pass.{Pass}
 use Rattle.plan.proofs.Digits.{differs, has-and, has-or, has-xor, has-zero, has-single}

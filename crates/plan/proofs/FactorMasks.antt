@@ -10,8 +10,7 @@ use borrow.Author.Tests.{lt-ltb, le-ltb}
 use lib.ListN.{length, getD, set, length-set, replicate}
 use lib.Seq.{getD-set-same, getD-set-other}
 use Rattle.schedule.specs.Count.{mem}
-use Rattle.plan.specs.Mask.{has}
-use Rattle.plan.specs.Mask.{Set}
+use Rattle.plan.specs.Mask.{has, Set}
 use Rattle.plan.specs.Factors.{ifSo, keysOf, keysAt, noKeys, Masked}
 use Rattle.plan.specs.declared.factors.FactorKeys.{FactorKeys}
 use Rattle.plan.proofs.Begins.{zero-at}

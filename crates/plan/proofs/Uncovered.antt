@@ -12,9 +12,8 @@ use lib.Seq.{drop-cons, getD-take, length-take-le, append-snoc}
 use Rattle.schedule.specs.Count.{mem, putIf, keep, from, joined, rising}
 use Rattle.schedule.specs.Gather.{leaves}
 use Rattle.schedule.proofs.Sums.{joined-append}
-use Rattle.plan.specs.Mask.{has, keysIn}
+use Rattle.plan.specs.Mask.{has, keysIn, Set}
 use Rattle.plan.specs.Pass.{messagesOf, Live}
-use Rattle.plan.specs.Mask.{Set}
 use Rattle.plan.specs.Gather.{itemsOf, Space, others, Coverable, Covered, Openable, Opened, Listable, Listed}
 use Rattle.plan.specs.declared.pass.Pass.{Pass}
 use Rattle.plan.specs.declared.gather.Listing.{Listing}

@@ -18,9 +18,8 @@ use Rattle.schedule.specs.Gather.{messagesIn}
 use Rattle.schedule.proofs.Counts.{and-i, and-l, and-r}
 use Rattle.schedule.proofs.Runs.{msgs-append}
 use Rattle.schedule.proofs.Sums.{joined-append}
-use Rattle.plan.specs.Mask.{has, keysIn, Union}
+use Rattle.plan.specs.Mask.{has, keysIn, Union, Set}
 use Rattle.plan.specs.Pass.{pickSlot, slotOf, msgAt, messagesOf}
-use Rattle.plan.specs.Mask.{Set}
 use Rattle.plan.specs.Gather.{part}
 use Rattle.plan.specs.declared.pass.Pass.{Pass}
 use Rattle.plan.proofs.Digits.{has-and, has-or, has-zero, has-single, some-has}

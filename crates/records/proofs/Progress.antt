@@ -18,7 +18,6 @@ use Rattle.factor.proofs.Counting.{sum-ext}
 use Rattle.factor.proofs.Fitting.{fits-key}
 use Rattle.graph.specs.Record.{sizeAt, factorAt, scalar, sizeFits, free, total, offset, valid}
 use Rattle.graph.specs.Registration.{refused, withVariable, addVariable, Verdict, withFactor, settle, weighedVerdict, factorVerdict, priorVerdict, addPrior, countsFit, observationVerdict, addObservation}
-use Rattle.graph.specs.Reached.{prior}
 use Rattle.graph.specs.declared.Symbol.{Symbol}
 use Rattle.graph.specs.declared.Graph.{Graph}
 use Rattle.graph.specs.declared.Added.{Added}

@@ -8,7 +8,7 @@ use Rattle.graph.specs.Record.{valid}
 use Rattle.graph.specs.declared.Graph.{Graph}
 use Rattle.graph.specs.declared.refusal.Refusal.{Refusal}
 use Rattle.graph.specs.declared.refusal.Refusal.the-variants.{NoSuchGraph}
-use Rattle.schedule.specs.Count.{count, from}
+use Rattle.schedule.specs.Count.{from}
 use Rattle.schedule.specs.Plan as lists
 use Rattle.plan.specs.Factors.{keysAt}
 use Rattle.plan.specs.Plan.{planOf, risingPlan}

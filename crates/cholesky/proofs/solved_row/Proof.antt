@@ -1,5 +1,4 @@
 -- `cholesky::solved_row` meets its contract: it is one `deduct` and a division. Assumes nothing.
-use Prim.Native.Nat.{_-_}
 use borrow.Author.Needs.{needs}
 use Rattle.cholesky.specs.Solve.{solvedRow}
 use Rattle.cholesky.proofs.solved_row.Statement.{statement}

@@ -6,7 +6,6 @@ use native.Mathlib.Omega.{arith}
 use borrow.Author.Needs.{needs}
 use borrow.Author.Tests.{not-false, not-true}
 use lib.ListN.{getD, length}
-use denote.Ref.{now}
 use Rattle.factor.proofs.Counting.{all-fail, all-more, all-none, tells}
 use Rattle.factor.specs.Counting.{all}
 use Rattle.graph.proofs.Validity.{valid-count, valid-touched}

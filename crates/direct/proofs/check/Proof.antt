@@ -2,7 +2,6 @@
 use native.Mathlib.Omega.{arith}
 use borrow.Author.Needs.{needs}
 use borrow.Author.Tests.{not-false, not-true}
-use denote.Ref.{now}
 use Rattle.factor.proofs.Counting.{tells}
 use Rattle.direct.proofs.Asking.{slots-known}
 use Rattle.direct.proofs.Verdicts.{all-passed, no-graph, not-apart, not-placed, not-there, store-short, too-many}

@@ -2,7 +2,6 @@
 use native.Mathlib.Omega.{arith}
 use borrow.Author.Needs.{needs}
 use lib.ListN.{length}
-use denote.Ref.{now}
 use Rattle.factor.proofs.Counting.{tells}
 use Rattle.direct.proofs.Sending.{turned-back}
 use Rattle.direct.proofs.Verdicts.{admitted, stopped}

@@ -1,7 +1,6 @@
 -- `direct::eliminate_from` meets its contract, by its ways out. Assumes nothing.
 use borrow.Author.Needs.{needs}
 use lib.ListN.{length}
-use denote.Ref.{now}
 use Rattle.direct.proofs.Asking.{asked, counted, of-cleared, of-kept}
 use Rattle.direct.proofs.Sending.{of-overflow, of-pivot, of-rows, short-room, short-work}
 use Rattle.direct.proofs.eliminate_from.Statement.{statement}

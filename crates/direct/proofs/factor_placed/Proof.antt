@@ -5,7 +5,6 @@ use mathlib.Core.Path.{_≡_, sym}
 use native.Mathlib.Omega.{arith}
 use borrow.Author.Needs.{needs}
 use borrow.Author.Tests.{not-false, not-true}
-use denote.Ref.{now}
 use Rattle.factor.proofs.Counting.{all-fail, all-more, all-none}
 use Rattle.factor.specs.Counting.{all}
 use Rattle.factor.specs.Factor.{keyAt}

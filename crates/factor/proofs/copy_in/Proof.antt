@@ -5,7 +5,6 @@ use native.Mathlib.Omega.{arith}
 use borrow.Author.Needs.{needs, scaled-fits}
 use lib.ListN.{length, length-set}
 use lib.Seq.{paste, paste-zero}
-use denote.Ref.{now}
 use Rattle.factor.proofs.Laying.{copy-done, copy-more}
 use Rattle.factor.proofs.copy_in.Statement.{statement}
 use Rattle.factor.proofs.copy_in.Tie as tie

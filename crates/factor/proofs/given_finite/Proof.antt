@@ -5,7 +5,6 @@ use mathlib.Core.Path.{_∙_, _≡_}
 use borrow.Author.Needs.{needs}
 use borrow.Author.Tests.{not-false, not-true}
 use lib.Ieee.{Float}
-use denote.Ref.{now}
 use Rattle.factor.proofs.Counting.{tells}
 use Rattle.factor.specs.Counting.{every}
 use Rattle.factor.specs.Factor.{givenFinite}

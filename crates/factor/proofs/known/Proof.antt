@@ -7,7 +7,6 @@ use borrow.Author.Needs.{needs}
 use borrow.Author.Tests.{le-ltb, lt-ltb}
 use lib.Dec.{ltb}
 use lib.ListN.{getD, length}
-use denote.Ref.{now}
 use Rattle.factor.proofs.Counting.{all-fail, all-more, all-none}
 use Rattle.factor.specs.Counting.{all}
 use Rattle.factor.proofs.known.Statement.{statement}

@@ -10,7 +10,6 @@ use borrow.Author.Tests.{ltb-true}
 use lib.Dec.{ltb}
 use lib.ListN.{getD, length, replicate, set, take}
 use lib.Seq.{append-snoc, length-take-le, set-at, take-length, take-suc}
-use denote.Ref.{now}
 use Rattle.factor.proofs.Counting.{all-at}
 use Rattle.factor.specs.Limits.{max-keys, max-variables}
 use Rattle.factor.proofs.observation_of.Statement.{statement}

@@ -7,7 +7,6 @@ use lib.ListN.{getD}
 use mir.Syntax.{w8}
 use mir.Val.{Fits}
 use Rattle.factor.proofs.Blocks.{no-size}
-use Rattle.factor.specs.Factor.{fits}
 use Rattle.factor.proofs.size_of.Statement.{statement}
 use Rattle.factor.proofs.size_of.Tie as tie
 

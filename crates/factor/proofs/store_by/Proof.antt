@@ -4,7 +4,6 @@ use mathlib.Core.Path.{ap}
 use native.Mathlib.Omega.{arith}
 use borrow.Author.Needs.{needs}
 use lib.ListN.{length, length-replicate}
-use denote.Ref.{now}
 use Rattle.factor.proofs.Storing.{at-overflow, at-pivot, when-done}
 use Rattle.matrix.specs.Sums.{plus-zero}
 use Rattle.factor.proofs.store_by.Statement.{statement}

@@ -1,23 +1,18 @@
 -- `graph::factor_place` meets its contract, by its two ways out. Assumes nothing.
 use Rattle.graph.proofs.Places.{picked-first, picked-second}
-use native.Mathlib.Omega.{arith}
 use borrow.Author.Needs.{needs}
 use Rattle.graph.proofs.factor_place.Statement.{statement}
 use Rattle.graph.proofs.factor_place.Tie as tie
 
--- src/lib.rt:61:9
 fits-requires : tie.Need-fits-requires
 fits-requires c κs = search needs
 
--- src/lib.rt:63:9
 is-clear-requires : tie.Need-is-clear-requires
 is-clear-requires c κs = search needs
 
--- src/lib.rt:57:1
 returns : tie.Need-returns
 returns c = (picked-first _ _ _ _ (c .before .if1 .taken) (c .fits2 .ensures .0), c .fits2 .ensures .1)
 
--- src/lib.rt:57:1
 returns-2 : tie.Need-returns-2
 returns-2 c = (picked-second _ _ _ _ (c .before .if1 .left) (c .is-clear .ensures .0), c .is-clear .ensures .1)
 

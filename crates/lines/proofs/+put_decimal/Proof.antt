@@ -1,12 +1,11 @@
 -- `lines::put_decimal` meets its contract: the last digit follows those before it. The measure is the number. Assumes nothing.
 use mathlib.Core.Path.{sym}
-use Prim.Native.Nat.{_/_}
+use Prim.Native.Nat.{_/_, ℕ, _<_}
 use native.Mathlib.Omega.{arith}
 use Rattle.lines.specs.Lines.{decimal}
 use Rattle.lines.proofs.Laying.{puts-both, puts-same}
 use Rattle.lines.proofs.Texts.{one-digit, more-digits, one-length, more-length}
 use borrow.Author.Needs.{needs}
-use Prim.Native.Nat.{ℕ, _<_}
 use borrow.Fn.Kinds.{In}
 use borrow.Fn.PlainCycle.{Measures, is, falls, and}
 use Rattle.lines.proofs.put_decimal.Reads as put-decimal

@@ -1,53 +1,42 @@
+-- `lists::gathered_lists` meets its contract: forward, backward, originals, in that order. Assumes nothing.
 use Rattle.lists.proofs.Holding.{gathered-holds}
 use borrow.Author.Needs.{needs}
 use Rattle.lists.proofs.gathered_lists.Statement.{statement}
 use Rattle.lists.proofs.gathered_lists.Tie as tie
 
--- src/lib.rt:111:5
 array-write-kept : tie.Need-array-write-kept
 array-write-kept c = search needs
 
--- src/lib.rt:112:21
 slice-aggregate-put-set : tie.Need-slice-aggregate-put-set
 slice-aggregate-put-set c = search needs
 
--- src/lib.rt:112:9
 put-set-requires : tie.Need-put-set-requires
 put-set-requires c κs = search needs
 
--- src/lib.rt:113:21
 slice-aggregate-put-set-2 : tie.Need-slice-aggregate-put-set-2
 slice-aggregate-put-set-2 c = search needs
 
--- src/lib.rt:113:9
 put-set-requires-2 : tie.Need-put-set-requires-2
 put-set-requires-2 c κs = search needs
 
--- src/lib.rt:114:21
 slice-aggregate-put-set-3 : tie.Need-slice-aggregate-put-set-3
 slice-aggregate-put-set-3 c = search needs
 
--- src/lib.rt:114:46
 add-put-set : tie.Need-add-put-set
 add-put-set c = search needs
 
--- src/lib.rt:114:9
 put-set-requires-3 : tie.Need-put-set-requires-3
 put-set-requires-3 c κs = search needs
 
--- src/lib.rt:115:23
 slice-aggregate-put-slots : tie.Need-slice-aggregate-put-slots
 slice-aggregate-put-slots c = search needs
 
--- src/lib.rt:115:38
 slice-aggregate-put-slots-2 : tie.Need-slice-aggregate-put-slots-2
 slice-aggregate-put-slots-2 c = search needs
 
--- src/lib.rt:115:9
 put-slots-requires : tie.Need-put-slots-requires
 put-slots-requires c κs = search needs
 
--- src/lib.rt:100:1
 returns : tie.Need-returns
 returns c = gathered-holds (c .before .before .before .before .before .before .before .before .before .before .before .before .before .before .args .q) (c .before .before .before .before .before .before .before .before .before .before .before .before .before .before .args .key) _ _ _ _ _ _ _ _ _ (c .before .before .before .before .before .before .before .before .before .before .before .before .before .before .pre) (c .before .before .before .before .before .before .before .before .before .before .before .put-set .ensures .0) (c .before .before .before .before .before .before .before .before .before .before .before .put-set .ensures .1) (c .before .before .before .before .before .before .before .before .put-set2 .ensures .0) (c .before .before .before .before .before .before .before .before .put-set2 .ensures .1) (c .before .before .before .before .before .put-set3 .ensures .0) (c .before .before .before .before .before .put-set3 .ensures .1) (c .before .put-slots .ensures .0) (c .before .put-slots .ensures .1)
 

@@ -1,3 +1,4 @@
+-- `lists::put_set` meets its contract. The loop's invariant: the members below j stand behind the first places. Assumes nothing.
 use native.Mathlib.Omega.{arith}
 use borrow.Author.Needs.{needs}
 use Rattle.lists.proofs.put_set.Statement.{statement}
@@ -17,39 +18,30 @@ Inv-loop list₀ at set shift to₀ j₀ list to j = Put (λ i. shift + i) (λ i
 abbrev μ-loop : tie.MeasureT-loop
 μ-loop list₀ at set shift to₀ j₀ list to j = 32 - j
 
--- src/lib.rt:35:5
 loop-holds : tie.Need-loop-holds Inv-loop μ-loop
 loop-holds c = let args = c .before .args in rw (rising-zero (λ i. has i (args .set)), append-nil (take (args .at) (args .list .now))) (omega arith, omega arith, refl, refl)
 
--- src/lib.rt:36:18
 single-requires : tie.Need-single-requires Inv-loop μ-loop
 single-requires c κs = search needs
 
--- src/lib.rt:37:24
 add-list : tie.Need-add-list Inv-loop μ-loop
 add-list c = search needs
 
--- src/lib.rt:37:13
 mul-list : tie.Need-mul-list Inv-loop μ-loop
 mul-list c = search needs
 
--- src/lib.rt:37:13
 slice-write-list : tie.Need-slice-write-list Inv-loop μ-loop
 slice-write-list c = search needs
 
--- src/lib.rt:38:13
 add-to : tie.Need-add-to Inv-loop μ-loop
 add-to c = search needs
 
--- src/lib.rt:35:9
 add-j : tie.Need-add-j Inv-loop μ-loop
 add-j c = search needs
 
--- src/lib.rt:35:5
 loop-less : tie.Need-loop-less Inv-loop μ-loop
 loop-less c = search needs
 
--- src/lib.rt:35:5
 loop-again : tie.Need-loop-again Inv-loop μ-loop
 loop-again c =
     let args = c .before .before .before .before .before .args in
@@ -62,11 +54,9 @@ loop-again c =
     (off-set (args .set) (loop .j) (single .result) (single .ensures) (w .0 .left)) (w .1) (w .2))
     (c .if1 .came)
 
--- src/lib.rt:29:1
 same-length : tie.Need-same-length Inv-loop μ-loop
 same-length c = search needs
 
--- src/lib.rt:29:1
 returns : tie.Need-returns Inv-loop μ-loop
 returns c =
     let args = c .before .before .before .args in

@@ -1,3 +1,4 @@
+-- `lists::put_slots` meets its contract. The loop's invariant: the slots passed stand behind the first places, messages raised. Assumes nothing.
 use native.Mathlib.Omega.{arith}
 use borrow.Author.Needs.{needs}
 use Rattle.lists.proofs.put_slots.Statement.{statement}
@@ -15,45 +16,35 @@ Inv-loop list₀ at slots from to shift i₀ list i = (from ≤ i) × (i ≤ to)
 abbrev μ-loop : tie.MeasureT-loop
 μ-loop list₀ at slots from to shift i₀ list i = to - i
 
--- src/lib.rt:65:5
 loop-holds : tie.Need-loop-holds Inv-loop μ-loop
 loop-holds c =
     let args = c .before .before .args in
     (omega arith, c .before .before .pre .0, refl, slots-none (raised (args .shift)) (args .list .now) (args .slots .now) (args .at) (args .from))
 
--- src/lib.rt:66:27
 sub-place : tie.Need-sub-place Inv-loop μ-loop
 sub-place c = search needs
 
--- src/lib.rt:66:21
 add-place : tie.Need-add-place Inv-loop μ-loop
 add-place c = search needs
 
--- src/lib.rt:67:30
 shared-slice-read-raised : tie.Need-shared-slice-read-raised Inv-loop μ-loop
 shared-slice-read-raised c = search needs
 
--- src/lib.rt:67:23
 raised-requires : tie.Need-raised-requires Inv-loop μ-loop
 raised-requires c κs = search needs
 
--- src/lib.rt:67:9
 mul-list : tie.Need-mul-list Inv-loop μ-loop
 mul-list c = search needs
 
--- src/lib.rt:67:9
 slice-write-list : tie.Need-slice-write-list Inv-loop μ-loop
 slice-write-list c = search needs
 
--- src/lib.rt:65:9
 add-i : tie.Need-add-i Inv-loop μ-loop
 add-i c = search needs
 
--- src/lib.rt:65:5
 loop-less : tie.Need-loop-less Inv-loop μ-loop
 loop-less c = search needs
 
--- src/lib.rt:65:5
 loop-again : tie.Need-loop-again Inv-loop μ-loop
 loop-again c =
     let args = c .before .before .before .before .before .before .args in
@@ -64,19 +55,15 @@ loop-again c =
       put-next (raised (args .shift)) (loop .list) (take (args .at) (args .list .now)) (args .slots .now) (args .at) (args .from) (loop .i) (c .raised .result) (omega arith) (omega arith) (omega arith) (c .raised .ensures) (loop .inv .3),
     )
 
--- src/lib.rt:69:11
 sub-result : tie.Need-sub-result Inv-loop μ-loop
 sub-result c = search needs
 
--- src/lib.rt:69:5
 add-result : tie.Need-add-result Inv-loop μ-loop
 add-result c = search needs
 
--- src/lib.rt:53:1
 same-length : tie.Need-same-length Inv-loop μ-loop
 same-length c = search needs
 
--- src/lib.rt:53:1
 returns : tie.Need-returns Inv-loop μ-loop
 returns c =
     let args = c .before .before .before .before .args in

@@ -14,31 +14,24 @@ Inv-loop items count r₀ seen₀ i₀ r seen i = Counted items count r seen i
 abbrev μ-loop : tie.MeasureT-loop
 μ-loop items count r₀ seen₀ i₀ r seen i = i
 
--- src/lib.rt:35:5
 loop-holds : tie.Need-loop-holds Inv-loop μ-loop
 loop-holds c = counted-none (c .args .items .now) (c .args .count)
 
--- src/lib.rt:36:9
 sub-i : tie.Need-sub-i Inv-loop μ-loop
 sub-i c = search needs
 
--- src/lib.rt:37:17
 element-copy-out-x : tie.Need-element-copy-out-x Inv-loop μ-loop
 element-copy-out-x c = search needs
 
--- src/lib.rt:37:17
 cast-x : tie.Need-cast-x Inv-loop μ-loop
 cast-x c = record { fits = omega (arith, c .before .before .before .pre .low (c .before .before .loop .i - 1) (omega arith)) }
 
--- src/lib.rt:38:13
 single64-requires : tie.Need-single64-requires Inv-loop μ-loop
 single64-requires c κs = c .before .before .before .pre .low (c .before .before .loop .i - 1) (omega arith)
 
--- src/lib.rt:35:5
 loop-less : tie.Need-loop-less Inv-loop μ-loop
 loop-less c = search needs
 
--- src/lib.rt:35:5
 loop-again : tie.Need-loop-again Inv-loop μ-loop
 loop-again c =
     let args = c .before .before .before .before .before .args in
@@ -49,7 +42,6 @@ loop-again c =
     (λ w. rw (w .1) (counted-new (args .items .now) (args .count) (loop .r) (loop .seen) (loop .i) (single64 .result) (omega arith) (omega arith) (loop .inv) (single64 .ensures) (w .0 .left)))
     (c .if1 .came)
 
--- src/lib.rt:28:1
 returns : tie.Need-returns Inv-loop μ-loop
 returns c =
     let loop = c .before .loop in

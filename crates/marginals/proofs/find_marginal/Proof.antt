@@ -4,26 +4,21 @@ use Rattle.marginals.proofs.Findings.{twice-told, cleared-told, pivot-t
 use Rattle.marginals.proofs.find_marginal.Statement.{statement}
 use Rattle.marginals.proofs.find_marginal.Tie as tie
 
--- src/lib.rt:111:8
 counted-twice-requires : tie.Need-counted-twice-requires
 counted-twice-requires c κs = search needs
 
--- src/lib.rt:112:9
 returns : tie.Need-returns
 returns c =
     let args = c .before .before .before .before .before .before .before .before .before .before .args in
     let look = c .before .counted-twice in
     twice-told (args .sizes) (args .factors .now) (args .messages .now) (args .keys .now) (args .heads .now) (args .key) (args .to) (args .q) (args .results .now) (look .result) (look .ensures) (c .if1 .taken)
 
--- src/lib.rt:114:9
 marginal-of-requires : tie.Need-marginal-of-requires
 marginal-of-requires c κs = search needs
 
--- src/lib.rt:119:26
 enum-told : tie.Need-enum-told
 enum-told c = search needs
 
--- src/lib.rt:119:13
 put-marginal-requires : tie.Need-put-marginal-requires
 put-marginal-requires c κs =
     let args = c .before .before .before .before .before .before .before .before .before .before .before .before .before .before .before .before .before .before .args in
@@ -32,27 +27,21 @@ put-marginal-requires c κs =
     let pre = c .before .before .before .before .before .before .before .before .before .before .before .before .before .before .before .before .before .before .pre in
     rw (done-size (args .sizes) (args .factors .now) (args .messages .now) (args .keys .now) (args .heads .now) (args .key) (args .to) (args .q) (args .results .now) (look .result) (look .ensures) (c .before .before .before .before .before .before .before .before .if1 .left) (made .result) (made .ensures) (c .before .enum-told .given .1)) (pre .0 .2, pre .1)
 
--- src/lib.rt:122:49
 enum-told-2 : tie.Need-enum-told-2
 enum-told-2 c = search needs
 
--- src/lib.rt:123:47
 enum-told-3 : tie.Need-enum-told-3
 enum-told-3 c = search needs
 
--- src/lib.rt:124:51
 enum-told-4 : tie.Need-enum-told-4
 enum-told-4 c = search needs
 
--- src/lib.rt:93:1
 same-length : tie.Need-same-length
 same-length c = search needs
 
--- src/lib.rt:93:1
 same-length-2 : tie.Need-same-length-2
 same-length-2 c = search needs
 
--- src/lib.rt:93:1
 returns-2 : tie.Need-returns-2
 returns-2 c =
     let args = c .before .before .before .before .before .before .before .before .before .before .before .before .before .before .before .before .before .before .before .before .before .args in
@@ -60,11 +49,9 @@ returns-2 c =
     let made = c .before .before .before .before .before .before .before .before .before .marginal-of in
     done-told (args .sizes) (args .factors .now) (args .messages .now) (args .keys .now) (args .heads .now) (args .key) (args .to) (args .q) (args .results .now) (look .result) (look .ensures) (c .before .before .before .before .before .before .before .before .before .before .before .if1 .left) (made .result) (made .ensures) (c .before .before .before .before .enum-told .given .1) _ (c .before .before .put-marginal .ensures)
 
--- src/lib.rt:93:1
 same-length-3 : tie.Need-same-length-3
 same-length-3 c = search needs
 
--- src/lib.rt:93:1
 returns-3 : tie.Need-returns-3
 returns-3 c =
     let args = c .before .before .before .before .before .before .before .before .before .before .before .before .before .before .before .before .before .args in
@@ -72,11 +59,9 @@ returns-3 c =
     let made = c .before .before .before .before .before .marginal-of in
     cleared-told (args .sizes) (args .factors .now) (args .messages .now) (args .keys .now) (args .heads .now) (args .key) (args .to) (args .q) (args .results .now) (look .result) (look .ensures) (c .before .before .before .before .before .before .before .if1 .left) (made .result) (made .ensures) (c .enum-told2 .given .1)
 
--- src/lib.rt:93:1
 same-length-4 : tie.Need-same-length-4
 same-length-4 c = search needs
 
--- src/lib.rt:93:1
 returns-4 : tie.Need-returns-4
 returns-4 c =
     let args = c .before .before .before .before .before .before .before .before .before .before .before .before .before .before .before .before .before .args in
@@ -84,11 +69,9 @@ returns-4 c =
     let made = c .before .before .before .before .before .marginal-of in
     pivot-told (args .sizes) (args .factors .now) (args .messages .now) (args .keys .now) (args .heads .now) (args .key) (args .to) (args .q) (args .results .now) (look .result) (look .ensures) (c .before .before .before .before .before .before .before .if1 .left) (made .result) (made .ensures) (c .enum-told3 .given .1)
 
--- src/lib.rt:93:1
 same-length-5 : tie.Need-same-length-5
 same-length-5 c = search needs
 
--- src/lib.rt:93:1
 returns-5 : tie.Need-returns-5
 returns-5 c =
     let args = c .before .before .before .before .before .before .before .before .before .before .before .before .before .before .before .before .before .args in

@@ -18,21 +18,17 @@ Inv-loop factors messages work₀ keys heads results₀ at sizes n to₀ key₀ 
 abbrev μ-loop : tie.MeasureT-loop
 μ-loop factors messages work₀ keys heads results₀ at sizes n to₀ key₀ work results to key = n - key
 
--- src/lib.rt:145:5
 loop-holds : tie.Need-loop-holds Inv-loop μ-loop
 loop-holds c =
     let args = c .before .before .before .before .before .before .before .args in
     (refl, walk-start (args .g .sizes) (args .factors .now) (args .messages .now) (args .keys .now) (args .heads .now) (entries (args .t2) (args .g .variables)) (args .results .now))
 
--- src/lib.rt:146:17
 mul-q : tie.Need-mul-q Inv-loop μ-loop
 mul-q c = record { fits = omega (arith, valid-variables (c .before .before .before .before .before .before .before .before .before .args .g) (c .before .before .before .before .before .before .before .before .before .pre .sound)) }
 
--- src/lib.rt:146:17
 array-copy-out-q : tie.Need-array-copy-out-q Inv-loop μ-loop
 array-copy-out-q c = omega (arith, valid-variables (c .before .before .before .before .before .before .before .before .before .args .g) (c .before .before .before .before .before .before .before .before .before .pre .sound))
 
--- src/lib.rt:147:13
 find-marginal-requires : tie.Need-find-marginal-requires Inv-loop μ-loop
 find-marginal-requires c κs =
     let args = c .before .before .before .before .before .before .before .before .before .before .before .before .args in
@@ -42,19 +38,15 @@ find-marginal-requires c κs =
 enum-told : tie.Need-enum-told Inv-loop μ-loop
 enum-told c = search needs
 
--- src/lib.rt:151:13
 enum-told-2 : tie.Need-enum-told-2 Inv-loop μ-loop
 enum-told-2 c = search needs
 
--- src/lib.rt:151:13
 same-length : tie.Need-same-length Inv-loop μ-loop
 same-length c = search needs
 
--- src/lib.rt:151:13
 same-length-2 : tie.Need-same-length-2 Inv-loop μ-loop
 same-length-2 c = search needs
 
--- src/lib.rt:151:13
 returns : tie.Need-returns Inv-loop μ-loop
 returns c =
     let args = c .before .before .before .before .before .before .before .before .before .before .before .before .before .before .before .before .before .before .before .args in
@@ -62,11 +54,9 @@ returns c =
     let own = c .before .before .before .before .before .before .find-marginal in
     search-halted (args .g) (args .t2) (args .factors .now) (args .messages .now) (length (args .work .now)) (args .keys .now) (args .heads .now) (args .results .now) (c .before .before .before .before .before .before .before .before .before .before .before .before .before .before .before .before .before .before .before .pre) (loop .results) (loop .to) (loop .key) (loop .inv .1) (c .before .before .before .before .before .before .before .before .before .before .loop-test .taken) _ _ (own .result) _ (c .enum-told2 .given .1) (own .ensures .0)
 
--- src/lib.rt:153:13
 size-of-requires : tie.Need-size-of-requires Inv-loop μ-loop
 size-of-requires c κs = search needs
 
--- src/lib.rt:154:19
 mul-to : tie.Need-mul-to Inv-loop μ-loop
 mul-to c =
     let args = c .before .before .before .before .before .before .before .before .before .before .before .before .before .before .before .before .before .before .before .before .args in
@@ -74,7 +64,6 @@ mul-to c =
     let small : c .size-of .result ≤ max-size = omega (arith, c .size-of .ensures .0, key-small (args .g) (args .t2) (args .factors .now) (args .messages .now) (length (args .work .now)) (args .keys .now) (args .heads .now) (args .results .now) (c .before .before .before .before .before .before .before .before .before .before .before .before .before .before .before .before .before .before .before .before .pre) (loop .results) (loop .to) (loop .key) (loop .inv .1) (c .before .before .before .before .before .before .before .before .before .before .before .loop-test .taken)) in
     record { fits = omega (arith, mul-le-mul small small) }
 
--- src/lib.rt:154:15
 add-to : tie.Need-add-to Inv-loop μ-loop
 add-to c =
     let args = c .before .before .before .before .before .before .before .before .before .before .before .before .before .before .before .before .before .before .before .before .args in
@@ -82,7 +71,6 @@ add-to c =
     let small : c .size-of .result ≤ max-size = omega (arith, c .size-of .ensures .0, key-small (args .g) (args .t2) (args .factors .now) (args .messages .now) (length (args .work .now)) (args .keys .now) (args .heads .now) (args .results .now) (c .before .before .before .before .before .before .before .before .before .before .before .before .before .before .before .before .before .before .before .before .pre) (loop .results) (loop .to) (loop .key) (loop .inv .1) (c .before .before .before .before .before .before .before .before .before .before .before .loop-test .taken)) in
     record { fits = omega (arith, small, mul-le-mul small small) }
 
--- src/lib.rt:154:9
 add-to-2 : tie.Need-add-to-2 Inv-loop μ-loop
 add-to-2 c =
     let args = c .before .before .before .before .before .before .before .before .before .before .before .before .before .before .before .before .before .before .before .before .args in
@@ -90,15 +78,12 @@ add-to-2 c =
     let small : c .size-of .result ≤ max-size = omega (arith, c .size-of .ensures .0, key-small (args .g) (args .t2) (args .factors .now) (args .messages .now) (length (args .work .now)) (args .keys .now) (args .heads .now) (args .results .now) (c .before .before .before .before .before .before .before .before .before .before .before .before .before .before .before .before .before .before .before .before .pre) (loop .results) (loop .to) (loop .key) (loop .inv .1) (c .before .before .before .before .before .before .before .before .before .before .before .loop-test .taken)) in
     record { fits = omega (arith, small, mul-le-mul small small, turn-low (args .g) (args .t2) (args .factors .now) (args .messages .now) (length (args .work .now)) (args .keys .now) (args .heads .now) (args .results .now) (c .before .before .before .before .before .before .before .before .before .before .before .before .before .before .before .before .before .before .before .before .pre) (loop .results) (loop .to) (loop .key) (loop .inv .1) (c .before .before .before .before .before .before .before .before .before .before .before .loop-test .taken)) }
 
--- src/lib.rt:145:9
 add-key : tie.Need-add-key Inv-loop μ-loop
 add-key c = search needs
 
--- src/lib.rt:145:5
 loop-less : tie.Need-loop-less Inv-loop μ-loop
 loop-less c = search needs
 
--- src/lib.rt:145:5
 loop-again : tie.Need-loop-again Inv-loop μ-loop
 loop-again c =
     let args = c .before .before .before .before .before .before .before .before .before .before .before .before .before .before .before .before .before .before .before .before .args in
@@ -106,15 +91,12 @@ loop-again c =
     let own = c .before .before .before .before .before .before .before .find-marginal in
     (search needs, search-on (args .g) (args .t2) (args .factors .now) (args .messages .now) (length (args .work .now)) (args .keys .now) (args .heads .now) (args .results .now) (c .before .before .before .before .before .before .before .before .before .before .before .before .before .before .before .before .before .before .before .before .pre) (loop .results) (loop .to) (loop .key) (loop .inv .1) (c .before .before .before .before .before .before .before .before .before .before .before .loop-test .taken) (own .result) _ (c .size-of .result) (c .before .enum-told .given .1) (own .ensures .0) (own .ensures .1) (c .size-of .ensures .0))
 
--- src/lib.rt:129:1
 same-length-3 : tie.Need-same-length-3 Inv-loop μ-loop
 same-length-3 c = search needs
 
--- src/lib.rt:129:1
 same-length-4 : tie.Need-same-length-4 Inv-loop μ-loop
 same-length-4 c = search needs
 
--- src/lib.rt:129:1
 returns-2 : tie.Need-returns-2 Inv-loop μ-loop
 returns-2 c =
     let args = c .before .before .before .before .before .before .before .before .before .args in

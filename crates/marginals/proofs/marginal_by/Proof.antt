@@ -7,43 +7,36 @@ use lib.Seq.{length-take-le}
 use Rattle.marginals.proofs.marginal_by.Statement.{statement}
 use Rattle.marginals.proofs.marginal_by.Tie as tie
 
--- src/lib.rt:88:9
 array-share-prefix-cleared : tie.Need-array-share-prefix-cleared
 array-share-prefix-cleared c =
     let l = c .before .before .before .before .before .before .before .before .args .l in
     let long : length (l .cleared) ≡ 32 = search needs in
     omega (arith, long, c .before .before .before .before .before .before .before .before .pre .0 .0)
 
--- src/lib.rt:88:9
 slice-aggregate-marginalize : tie.Need-slice-aggregate-marginalize
 slice-aggregate-marginalize c =
     let l = c .before .before .before .before .before .before .before .before .before .args .l in
     let long : length (l .cleared) ≡ 32 = search needs in
     sym (length-take-le (l .clears) (l .cleared) (omega (arith, long, c .before .before .before .before .before .before .before .before .before .pre .0 .0)))
 
--- src/lib.rt:92:9
 array-share-prefix-slots : tie.Need-array-share-prefix-slots
 array-share-prefix-slots c =
     let l = c .before .before .before .before .before .before .before .before .before .args .l in
     let long : length (l .slots) ≡ 128 = search needs in
     omega (arith, long, c .before .before .before .before .before .before .before .before .before .pre .0 .1)
 
--- src/lib.rt:92:9
 slice-aggregate-marginalize-2 : tie.Need-slice-aggregate-marginalize-2
 slice-aggregate-marginalize-2 c =
     let l = c .before .before .before .before .before .before .before .before .before .before .args .l in
     let long : length (l .slots) ≡ 128 = search needs in
     sym (length-take-le (l .count) (l .slots) (omega (arith, long, c .before .before .before .before .before .before .before .before .before .before .pre .0 .1)))
 
--- src/lib.rt:83:5
 marginalize-requires : tie.Need-marginalize-requires
 marginalize-requires c κs = search needs
 
--- src/lib.rt:65:1
 same-length : tie.Need-same-length
 same-length c = search needs
 
--- src/lib.rt:65:1
 returns : tie.Need-returns
 returns c = search needs
 

@@ -6,11 +6,9 @@ use Rattle.marginals.proofs.Findings.{lists-asked, lists-last}
 use Rattle.marginals.proofs.marginal_of.Statement.{statement}
 use Rattle.marginals.proofs.marginal_of.Tie as tie
 
--- src/lib.rt:110:9
 gathered-lists-requires : tie.Need-gathered-lists-requires
 gathered-lists-requires c κs = search needs
 
--- src/lib.rt:111:5
 marginal-by-requires : tie.Need-marginal-by-requires
 marginal-by-requires c κs =
     let args = c .before .before .before .before .before .before .before .args in
@@ -20,11 +18,9 @@ marginal-by-requires c κs =
       lists-asked (args .sizes) (args .factors .now) (args .messages .now) (args .keys .now) (args .heads .now) (args .key) (gatheredOf (args .q)) (lists .result) (lists .ensures) (length (args .work .now)) (pre .1),
     )
 
--- src/lib.rt:97:1
 same-length : tie.Need-same-length
 same-length c = search needs
 
--- src/lib.rt:97:1
 returns : tie.Need-returns
 returns c =
     let args = c .before .before .before .before .before .before .before .before .before .before .args in

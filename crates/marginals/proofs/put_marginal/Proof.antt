@@ -11,50 +11,42 @@ use Rattle.marginals.proofs.Laying.{lay-length, two-laid}
 use Rattle.marginals.proofs.put_marginal.Statement.{statement}
 use Rattle.marginals.proofs.put_marginal.Tie as tie
 
--- src/lib.rt:53:18
 mul-square : tie.Need-mul-square
 mul-square c = search needs
 
--- src/lib.rt:56:26
 array-share-prefix-mean : tie.Need-array-share-prefix-mean
 array-share-prefix-mean c =
     let m = c .before .before .before .before .args .m in
     let long : length (m .mean) ≡ max-size = search needs in
     omega (arith, long, c .before .before .before .before .pre .0)
 
--- src/lib.rt:56:26
 slice-aggregate-copy-in : tie.Need-slice-aggregate-copy-in
 slice-aggregate-copy-in c =
     let m = c .before .before .before .before .before .args .m in
     let long : length (m .mean) ≡ max-size = search needs in
     sym (length-take-le (m .size) (m .mean) (omega (arith, long, c .before .before .before .before .before .pre .0)))
 
--- src/lib.rt:56:5
 copy-in-requires : tie.Need-copy-in-requires
 copy-in-requires c κs =
     let m = c .before .before .before .before .before .args .m in
     let long : length (m .mean) ≡ max-size = search needs in
     omega (arith, length-take-le (m .size) (m .mean) (omega (arith, long, c .before .before .before .before .before .pre .0)), c .before .before .before .before .before .pre .1)
 
--- src/lib.rt:57:22
 add-copy-in : tie.Need-add-copy-in
 add-copy-in c = search needs
 
--- src/lib.rt:57:30
 array-share-prefix-covariance : tie.Need-array-share-prefix-covariance
 array-share-prefix-covariance c =
     let m = c .before .before .before .before .before .before .before .before .before .args .m in
     let long : length (m .covariance) ≡ max-size * max-size = search needs in
     omega (arith, long, mul-le-mul (c .before .before .before .before .before .before .before .before .before .pre .0) (c .before .before .before .before .before .before .before .before .before .pre .0))
 
--- src/lib.rt:57:30
 slice-aggregate-copy-in-2 : tie.Need-slice-aggregate-copy-in-2
 slice-aggregate-copy-in-2 c =
     let m = c .before .before .before .before .before .before .before .before .before .before .args .m in
     let long : length (m .covariance) ≡ max-size * max-size = search needs in
     sym (length-take-le (m .size * m .size) (m .covariance) (omega (arith, long, mul-le-mul (c .before .before .before .before .before .before .before .before .before .before .pre .0) (c .before .before .before .before .before .before .before .before .before .before .pre .0))))
 
--- src/lib.rt:57:5
 copy-in-requires-2 : tie.Need-copy-in-requires-2
 copy-in-requires-2 c κs =
     let args = c .before .before .before .before .before .before .before .before .before .before .args in
@@ -67,11 +59,9 @@ copy-in-requires-2 c κs =
     let same = lay-length (args .results .now) (take (m .size) (m .mean)) (args .at) (omega (arith, first, pre .1)) in
     omega (arith, first, second, same, ap length (c .before .before .before .before .copy-in .ensures), pre .1)
 
--- src/lib.rt:48:1
 same-length : tie.Need-same-length
 same-length c = search needs
 
--- src/lib.rt:48:1
 returns : tie.Need-returns
 returns c =
     let args = c .before .before .before .before .before .before .before .before .before .before .before .before .before .args in

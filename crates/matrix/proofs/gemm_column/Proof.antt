@@ -1,5 +1,5 @@
 -- `matrix::gemm_column` meets its contract. The loop's invariant: the slice is the definition's after the rows passed. Assumes nothing.
-use Prim.Native.Nat.{_+_, _≤_, _-_}
+use Prim.Native.Nat.{_≤_, _-_}
 use mathlib.Core.Path.{_≡_, refl}
 use native.Mathlib.Omega.{arith}
 use borrow.Author.Needs.{needs}

@@ -1,3 +1,4 @@
+-- `messages::eliminate_listed` meets its contract: the front of an array is the list (`Listed`). Assumes nothing.
 use mathlib.Core.Path.{_≡_}
 use lib.ListN.{length}
 use Rattle.gaussian.specs.Asked.{Asked, Roomy}
@@ -7,55 +8,42 @@ use borrow.Author.Needs.{needs}
 use Rattle.messages.proofs.eliminate_listed.Statement.{statement}
 use Rattle.messages.proofs.eliminate_listed.Tie as tie
 
--- src/lib.rt:181:9
 sub-eliminate-slots : tie.Need-sub-eliminate-slots
 sub-eliminate-slots c = search needs
 
--- src/lib.rt:181:9
 part-eliminate-slots-start : tie.Need-part-eliminate-slots-start
 part-eliminate-slots-start c = search needs
 
--- src/lib.rt:181:9
 part-eliminate-slots-end : tie.Need-part-eliminate-slots-end
 part-eliminate-slots-end c = let y : length (c .before .before .before .before .before .before .before .before .before .before .before .args .l .kept) ≡ 32 = search needs in omega (arith, c .before .before .before .before .before .before .before .before .before .before .before .pre .0 .kept)
 
--- src/lib.rt:182:9
 sub-eliminate-slots-2 : tie.Need-sub-eliminate-slots-2
 sub-eliminate-slots-2 c = search needs
 
--- src/lib.rt:182:9
 part-eliminate-slots-start-2 : tie.Need-part-eliminate-slots-start-2
 part-eliminate-slots-start-2 c = search needs
 
--- src/lib.rt:182:9
 part-eliminate-slots-end-2 : tie.Need-part-eliminate-slots-end-2
 part-eliminate-slots-end-2 c = let y : length (c .before .before .before .before .before .before .before .before .before .before .before .before .before .args .l .cleared) ≡ 32 = search needs in omega (arith, c .before .before .before .before .before .before .before .before .before .before .before .before .before .pre .0 .cleared)
 
--- src/lib.rt:186:9
 sub-eliminate-slots-3 : tie.Need-sub-eliminate-slots-3
 sub-eliminate-slots-3 c = search needs
 
--- src/lib.rt:186:9
 part-eliminate-slots-start-3 : tie.Need-part-eliminate-slots-start-3
 part-eliminate-slots-start-3 c = search needs
 
--- src/lib.rt:186:9
 part-eliminate-slots-end-3 : tie.Need-part-eliminate-slots-end-3
 part-eliminate-slots-end-3 c = let y : length (c .before .before .before .before .before .before .before .before .before .before .before .before .before .before .before .args .l .slots) ≡ 128 = search needs in omega (arith, c .before .before .before .before .before .before .before .before .before .before .before .before .before .before .before .pre .0 .slots)
 
--- src/lib.rt:176:5
 eliminate-slots-requires : tie.Need-eliminate-slots-requires
 eliminate-slots-requires c κs = to-parts (c .before .before .before .before .before .before .before .before .before .before .before .before .before .before .before .before .args .l) (λ kept cleared slots. Asked kept cleared (c .before .before .before .before .before .before .before .before .before .before .before .before .before .before .before .before .args .sizes) (c .before .before .before .before .before .before .before .before .before .before .before .before .before .before .before .before .args .factors .now) (c .before .before .before .before .before .before .before .before .before .before .before .before .before .before .before .before .args .messages .now) (length (c .before .before .before .before .before .before .before .before .before .before .before .before .before .before .before .before .args .work .now)) (c .before .before .before .before .before .before .before .before .before .before .before .before .before .before .before .before .args .keys .now) (c .before .before .before .before .before .before .before .before .before .before .before .before .before .before .before .before .args .heads .now) slots × Roomy kept cleared (c .before .before .before .before .before .before .before .before .before .before .before .before .before .before .before .before .args .sizes) (c .before .before .before .before .before .before .before .before .before .before .before .before .before .before .before .before .args .keys .now) (c .before .before .before .before .before .before .before .before .before .before .before .before .before .before .before .before .args .heads .now) slots (c .before .before .before .before .before .before .before .before .before .before .before .before .before .before .before .before .args .to) (length (c .before .before .before .before .before .before .before .before .before .before .before .before .before .before .before .before .args .messages .now))) (c .before .before .before .before .before .before .before .before .before .before .before .before .before .before .before .before .pre .1 .0, c .before .before .before .before .before .before .before .before .before .before .before .before .before .before .before .before .pre .1 .1)
 
--- src/lib.rt:154:1
 same-length : tie.Need-same-length
 same-length c = search needs
 
--- src/lib.rt:154:1
 same-length-2 : tie.Need-same-length-2
 same-length-2 c = search needs
 
--- src/lib.rt:154:1
 returns : tie.Need-returns
 returns c = from-parts (c .before .before .before .before .before .before .before .before .before .before .before .before .before .before .before .before .before .before .before .before .before .args .l) (EliminatedBy (c .before .before .before .before .before .before .before .before .before .before .before .before .before .before .before .before .before .before .before .before .before .args .sizes) (c .before .before .before .before .before .before .before .before .before .before .before .before .before .before .before .before .before .before .before .before .before .args .factors .now) (c .before .before .before .before .before .before .before .before .before .before .before .before .before .before .before .before .before .before .before .before .before .args .messages .now) (c .before .before .before .before .before .before .before .before .before .before .before .before .before .before .before .before .before .before .before .before .before .args .keys .now) (c .before .before .before .before .before .before .before .before .before .before .before .before .before .before .before .before .before .before .before .before .before .args .heads .now) (c .before .before .before .before .before .before .before .before .before .before .before .before .before .before .before .before .before .before .before .before .before .args .to) _ _) (c .before .before .before .before .eliminate-slots .ensures .0, c .before .before .before .before .eliminate-slots .ensures .1)
 

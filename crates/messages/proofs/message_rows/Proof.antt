@@ -1,26 +1,22 @@
+-- `messages::message_rows` meets its contract: by which of rows and kept columns is less. Assumes nothing.
 use Rattle.messages.proofs.Rows.{all-rows, kept-rows}
 use native.Mathlib.Omega.{arith}
 use borrow.Author.Needs.{needs}
 use Rattle.messages.proofs.message_rows.Statement.{statement}
 use Rattle.messages.proofs.message_rows.Tie as tie
 
--- src/lib.rt:50:9
 layout-of-requires : tie.Need-layout-of-requires
 layout-of-requires c κs = search needs
 
--- src/lib.rt:51:9
 count-rows-requires : tie.Need-count-rows-requires
 count-rows-requires c κs = search needs
 
--- src/lib.rt:52:9
 dim-of-requires : tie.Need-dim-of-requires
 dim-of-requires c κs = search needs
 
--- src/lib.rt:39:1
 returns : tie.Need-returns
 returns c = all-rows (c .before .before .before .before .before .before .before .before .before .args .kept .now) (c .before .before .before .before .before .before .before .before .before .args .cleared .now) (c .before .before .before .before .before .before .before .before .before .args .slots .now) (c .before .before .before .before .before .before .before .before .before .args .sizes) (c .before .before .before .before .before .before .before .before .before .args .keys .now) (c .before .before .before .before .before .before .before .before .before .args .heads .now) _ _ _ (c .before .before .before .layout-of .ensures) (c .before .before .count-rows .ensures) (c .before .dim-of .ensures) (omega arith)
 
--- src/lib.rt:39:1
 returns-2 : tie.Need-returns-2
 returns-2 c = kept-rows (c .before .before .before .before .before .before .before .before .before .args .kept .now) (c .before .before .before .before .before .before .before .before .before .args .cleared .now) (c .before .before .before .before .before .before .before .before .before .args .slots .now) (c .before .before .before .before .before .before .before .before .before .args .sizes) (c .before .before .before .before .before .before .before .before .before .args .keys .now) (c .before .before .before .before .before .before .before .before .before .args .heads .now) _ _ _ (c .before .before .before .layout-of .ensures) (c .before .before .count-rows .ensures) (c .before .dim-of .ensures) (omega arith)
 

@@ -1,3 +1,4 @@
+-- `messages::place_listed` meets its contract: the front of an array is the list (`Listed`). Assumes nothing.
 use mathlib.Core.Path.{_≡_}
 use lib.ListN.{length}
 use Rattle.messages.specs.Asked.{Placeable}
@@ -7,55 +8,42 @@ use borrow.Author.Needs.{needs}
 use Rattle.messages.proofs.place_listed.Statement.{statement}
 use Rattle.messages.proofs.place_listed.Tie as tie
 
--- src/lib.rt:108:9
 sub-place-message : tie.Need-sub-place-message
 sub-place-message c = search needs
 
--- src/lib.rt:108:9
 part-place-message-start : tie.Need-part-place-message-start
 part-place-message-start c = search needs
 
--- src/lib.rt:108:9
 part-place-message-end : tie.Need-part-place-message-end
 part-place-message-end c = let y : length (c .before .before .before .before .before .before .args .l .kept) ≡ 32 = search needs in omega (arith, c .before .before .before .before .before .before .pre .0 .kept)
 
--- src/lib.rt:109:9
 sub-place-message-2 : tie.Need-sub-place-message-2
 sub-place-message-2 c = search needs
 
--- src/lib.rt:109:9
 part-place-message-start-2 : tie.Need-part-place-message-start-2
 part-place-message-start-2 c = search needs
 
--- src/lib.rt:109:9
 part-place-message-end-2 : tie.Need-part-place-message-end-2
 part-place-message-end-2 c = let y : length (c .before .before .before .before .before .before .before .before .args .l .cleared) ≡ 32 = search needs in omega (arith, c .before .before .before .before .before .before .before .before .pre .0 .cleared)
 
--- src/lib.rt:110:9
 sub-place-message-3 : tie.Need-sub-place-message-3
 sub-place-message-3 c = search needs
 
--- src/lib.rt:110:9
 part-place-message-start-3 : tie.Need-part-place-message-start-3
 part-place-message-start-3 c = search needs
 
--- src/lib.rt:110:9
 part-place-message-end-3 : tie.Need-part-place-message-end-3
 part-place-message-end-3 c = let y : length (c .before .before .before .before .before .before .before .before .before .before .args .l .slots) ≡ 128 = search needs in omega (arith, c .before .before .before .before .before .before .before .before .before .before .pre .0 .slots)
 
--- src/lib.rt:107:5
 place-message-requires : tie.Need-place-message-requires
 place-message-requires c κs = to-parts (c .before .before .before .before .before .before .before .before .before .before .before .before .before .args .l) (λ kept cleared slots. Placeable kept cleared slots (c .before .before .before .before .before .before .before .before .before .before .before .before .before .args .sizes) (c .before .before .before .before .before .before .before .before .before .before .before .before .before .args .keys .now) (c .before .before .before .before .before .before .before .before .before .before .before .before .before .args .heads .now) (c .before .before .before .before .before .before .before .before .before .before .before .before .before .args .number) (c .before .before .before .before .before .before .before .before .before .before .before .before .before .args .start)) (c .before .before .before .before .before .before .before .before .before .before .before .before .before .pre .1)
 
--- src/lib.rt:87:1
 same-length : tie.Need-same-length
 same-length c = search needs
 
--- src/lib.rt:87:1
 same-length-2 : tie.Need-same-length-2
 same-length-2 c = search needs
 
--- src/lib.rt:87:1
 returns : tie.Need-returns
 returns c = from-parts (c .before .before .before .before .before .before .before .before .before .before .before .before .before .before .before .before .before .before .args .l) (PlacedBy (c .before .before .before .before .before .before .before .before .before .before .before .before .before .before .before .before .before .before .args .sizes) (c .before .before .before .before .before .before .before .before .before .before .before .before .before .before .before .before .before .before .args .keys .now) (c .before .before .before .before .before .before .before .before .before .before .before .before .before .before .before .before .before .before .args .heads .now) (c .before .before .before .before .before .before .before .before .before .before .before .before .before .before .before .before .before .before .args .number) (c .before .before .before .before .before .before .before .before .before .before .before .before .before .before .before .before .before .before .args .start) _ _ _) (c .before .before .before .before .place-message .ensures .0, (c .before .before .before .before .place-message .ensures .1 .0, c .before .before .before .before .place-message .ensures .1 .1))
 

@@ -1,70 +1,55 @@
+-- `messages::place_message` meets its contract: no product of rows and columns is large, and both tables are laid once. Assumes nothing.
 use Rattle.messages.proofs.Rows.{placed-small, placed-is}
 use native.Mathlib.Omega.{arith}
 use borrow.Author.Needs.{needs}
 use Rattle.messages.proofs.place_message.Statement.{statement}
 use Rattle.messages.proofs.place_message.Tie as tie
 
--- src/lib.rt:72:9
 message-rows-requires : tie.Need-message-rows-requires
 message-rows-requires c κs = (c .before .before .before .before .before .before .before .pre .kept-listed, c .before .before .before .before .before .before .before .pre .cleared-listed, c .before .before .before .before .before .before .before .pre .counted)
 
--- src/lib.rt:73:9
 dim-of-requires : tie.Need-dim-of-requires
 dim-of-requires c κs = c .before .before .before .before .before .before .before .before .pre .kept-listed
 
--- src/lib.rt:74:17
 mul-first : tie.Need-mul-first
 mul-first c = search needs
 
--- src/lib.rt:74:47
 sub-first : tie.Need-sub-first
 sub-first c = search needs
 
--- src/lib.rt:74:34
 mul-first-2 : tie.Need-mul-first-2
 mul-first-2 c = search needs
 
--- src/lib.rt:74:17
 add-first : tie.Need-add-first
 add-first c = search needs
 
--- src/lib.rt:75:5
 put-list-requires : tie.Need-put-list-requires
 put-list-requires c κs = c .before .before .before .before .before .before .before .before .before .before .pre .room
 
--- src/lib.rt:76:5
 put-head-requires : tie.Need-put-head-requires
 put-head-requires c κs = c .before .before .before .before .before .before .before .before .before .before .before .before .before .before .pre .headed
 
--- src/lib.rt:77:14
 mul-result : tie.Need-mul-result
 mul-result c = let small = placed-small (c .before .before .before .before .before .before .before .before .before .before .before .before .before .before .before .before .before .args .kept .now) (c .before .before .before .before .before .before .before .before .before .before .before .before .before .before .before .before .before .args .cleared .now) (c .before .before .before .before .before .before .before .before .before .before .before .before .before .before .before .before .before .args .slots .now) (c .before .before .before .before .before .before .before .before .before .before .before .before .before .before .before .before .before .args .sizes) (c .before .before .before .before .before .before .before .before .before .before .before .before .before .before .before .before .before .args .keys .now) (c .before .before .before .before .before .before .before .before .before .before .before .before .before .before .before .before .before .args .heads .now) _ _ (c .before .before .before .before .before .before .before .before .before .before .before .before .before .before .before .before .before .pre .kept-listed) (c .before .before .before .before .before .before .before .before .before .message-rows .ensures) (c .before .before .before .before .before .before .before .before .dim-of .ensures) in record { fits = omega (arith, small .0, small .1, small .2, small .3, c .before .before .before .before .before .before .before .before .before .before .before .before .before .before .before .before .before .pre .low) }
 
--- src/lib.rt:77:14
 add-result : tie.Need-add-result
 add-result c = let small = placed-small (c .before .before .before .before .before .before .before .before .before .before .before .before .before .before .before .before .before .args .kept .now) (c .before .before .before .before .before .before .before .before .before .before .before .before .before .before .before .before .before .args .cleared .now) (c .before .before .before .before .before .before .before .before .before .before .before .before .before .before .before .before .before .args .slots .now) (c .before .before .before .before .before .before .before .before .before .before .before .before .before .before .before .before .before .args .sizes) (c .before .before .before .before .before .before .before .before .before .before .before .before .before .before .before .before .before .args .keys .now) (c .before .before .before .before .before .before .before .before .before .before .before .before .before .before .before .before .before .args .heads .now) _ _ (c .before .before .before .before .before .before .before .before .before .before .before .before .before .before .before .before .before .pre .kept-listed) (c .before .before .before .before .before .before .before .before .before .message-rows .ensures) (c .before .before .before .before .before .before .before .before .dim-of .ensures) in record { fits = omega (arith, small .0, small .1, small .2, small .3, c .before .before .before .before .before .before .before .before .before .before .before .before .before .before .before .before .before .pre .low) }
 
--- src/lib.rt:77:26
 mul-result-2 : tie.Need-mul-result-2
 mul-result-2 c = let small = placed-small (c .before .before .before .before .before .before .before .before .before .before .before .before .before .before .before .before .before .args .kept .now) (c .before .before .before .before .before .before .before .before .before .before .before .before .before .before .before .before .before .args .cleared .now) (c .before .before .before .before .before .before .before .before .before .before .before .before .before .before .before .before .before .args .slots .now) (c .before .before .before .before .before .before .before .before .before .before .before .before .before .before .before .before .before .args .sizes) (c .before .before .before .before .before .before .before .before .before .before .before .before .before .before .before .before .before .args .keys .now) (c .before .before .before .before .before .before .before .before .before .before .before .before .before .before .before .before .before .args .heads .now) _ _ (c .before .before .before .before .before .before .before .before .before .before .before .before .before .before .before .before .before .pre .kept-listed) (c .before .before .before .before .before .before .before .before .before .message-rows .ensures) (c .before .before .before .before .before .before .before .before .dim-of .ensures) in record { fits = omega (arith, small .0, small .1, small .2, small .3, c .before .before .before .before .before .before .before .before .before .before .before .before .before .before .before .before .before .pre .low) }
 
--- src/lib.rt:77:14
 add-result-2 : tie.Need-add-result-2
 add-result-2 c = let small = placed-small (c .before .before .before .before .before .before .before .before .before .before .before .before .before .before .before .before .before .args .kept .now) (c .before .before .before .before .before .before .before .before .before .before .before .before .before .before .before .before .before .args .cleared .now) (c .before .before .before .before .before .before .before .before .before .before .before .before .before .before .before .before .before .args .slots .now) (c .before .before .before .before .before .before .before .before .before .before .before .before .before .before .before .before .before .args .sizes) (c .before .before .before .before .before .before .before .before .before .before .before .before .before .before .before .before .before .args .keys .now) (c .before .before .before .before .before .before .before .before .before .before .before .before .before .before .before .before .before .args .heads .now) _ _ (c .before .before .before .before .before .before .before .before .before .before .before .before .before .before .before .before .before .pre .kept-listed) (c .before .before .before .before .before .before .before .before .before .message-rows .ensures) (c .before .before .before .before .before .before .before .before .dim-of .ensures) in record { fits = omega (arith, small .0, small .1, small .2, small .3, c .before .before .before .before .before .before .before .before .before .before .before .before .before .before .before .before .before .pre .low) }
 
--- src/lib.rt:77:5
 add-result-3 : tie.Need-add-result-3
 add-result-3 c = let small = placed-small (c .before .before .before .before .before .before .before .before .before .before .before .before .before .before .before .before .before .args .kept .now) (c .before .before .before .before .before .before .before .before .before .before .before .before .before .before .before .before .before .args .cleared .now) (c .before .before .before .before .before .before .before .before .before .before .before .before .before .before .before .before .before .args .slots .now) (c .before .before .before .before .before .before .before .before .before .before .before .before .before .before .before .before .before .args .sizes) (c .before .before .before .before .before .before .before .before .before .before .before .before .before .before .before .before .before .args .keys .now) (c .before .before .before .before .before .before .before .before .before .before .before .before .before .before .before .before .before .args .heads .now) _ _ (c .before .before .before .before .before .before .before .before .before .before .before .before .before .before .before .before .before .pre .kept-listed) (c .before .before .before .before .before .before .before .before .before .message-rows .ensures) (c .before .before .before .before .before .before .before .before .dim-of .ensures) in record { fits = omega (arith, small .0, small .1, small .2, small .3, c .before .before .before .before .before .before .before .before .before .before .before .before .before .before .before .before .before .pre .low) }
 
--- src/lib.rt:57:1
 same-length : tie.Need-same-length
 same-length c = search needs
 
--- src/lib.rt:57:1
 same-length-2 : tie.Need-same-length-2
 same-length-2 c = search needs
 
--- src/lib.rt:57:1
 returns : tie.Need-returns
 returns c = let p = placed-is (c .before .before .before .before .before .before .before .before .before .before .before .before .before .before .before .before .before .args .kept .now) (c .before .before .before .before .before .before .before .before .before .before .before .before .before .before .before .before .before .args .cleared .now) (c .before .before .before .before .before .before .before .before .before .before .before .before .before .before .before .before .before .args .slots .now) (c .before .before .before .before .before .before .before .before .before .before .before .before .before .before .before .before .before .args .sizes) (c .before .before .before .before .before .before .before .before .before .before .before .before .before .before .before .before .before .args .keys .now) (c .before .before .before .before .before .before .before .before .before .before .before .before .before .before .before .before .before .args .heads .now) (c .before .before .before .before .before .before .before .before .before .before .before .before .before .before .before .before .before .args .number) (c .before .before .before .before .before .before .before .before .before .before .before .before .before .before .before .before .before .args .start) _ _ _ _ (c .before .before .before .before .before .before .before .before .before .message-rows .ensures) (c .before .before .before .before .before .before .before .before .dim-of .ensures) (c .before .before .before .before .before .before .put-list .ensures) (c .before .before .put-head .ensures) in (p .0, (p .1, p .2))
 

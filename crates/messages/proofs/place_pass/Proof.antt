@@ -1,3 +1,4 @@
+-- `messages::place_pass` meets its contract. The loop's invariant, `Progress`: the messages passed have their places. Assumes nothing.
 use mathlib.Core.Path.{_≡_}
 use lib.ListN.{length}
 use Prim.Native.Nat.{_-_}
@@ -16,47 +17,36 @@ Inv-loop g p shift start keys₀ heads₀ n next₀ j₀ keys heads next j = Pro
 abbrev μ-loop : tie.MeasureT-loop
 μ-loop g p shift start keys₀ heads₀ n next₀ j₀ keys heads next j = n - j
 
--- src/lib.rt:136:5
 loop-holds : tie.Need-loop-holds Inv-loop μ-loop
 loop-holds c = progress-none (c .before .before .args .g) (messagesOf (c .before .before .args .p)) (c .before .before .args .shift) (c .before .before .args .start) (c .before .before .args .keys .now) (c .before .before .args .heads .now) (c .before .before .pre .1)
 
--- src/lib.rt:138:13
 message-lists-requires : tie.Need-message-lists-requires Inv-loop μ-loop
 message-lists-requires c κs = (c .before .before .before .before .before .pre .0 .0, c .before .loop-test .taken, c .before .before .before .before .before .pre .0 .2)
 
--- src/lib.rt:139:52
 add-place-listed : tie.Need-add-place-listed Inv-loop μ-loop
 add-place-listed c = search needs
 
--- src/lib.rt:139:52
 add-place-listed-2 : tie.Need-add-place-listed-2 Inv-loop μ-loop
 add-place-listed-2 c = search needs
 
--- src/lib.rt:139:9
 place-listed-requires : tie.Need-place-listed-requires Inv-loop μ-loop
 place-listed-requires c κs = let sized : length (c .before .before .before .before .before .before .before .before .args .g .sizes) ≡ 32 = search needs in (within _ _ _ (c .before .before .message-lists .ensures), placeable (c .before .before .before .before .before .before .before .before .args .g) (messagesOf (c .before .before .before .before .before .before .before .before .args .p)) (c .before .before .before .before .before .before .before .before .pre .0 .1) (c .before .before .before .before .before .before .before .before .args .shift) (c .before .before .before .before .before .before .before .before .args .start) (c .before .before .before .before .before .before .before .before .args .keys .now) (c .before .before .before .before .before .before .before .before .args .heads .now) (c .before .before .before .before .before .loop .keys) (c .before .before .before .before .before .loop .heads) (c .before .before .before .before .before .loop .next) (c .before .before .before .before .before .loop .j) (c .before .before .before .before .before .before .before .before .pre .0 .2) (omega (arith, messages-length (c .before .before .before .before .before .before .before .before .args .p), c .before .before .before .before .loop-test .taken)) sized (c .before .before .before .before .before .loop .inv) _ (c .before .before .message-lists .ensures) (c .before .before .before .before .before .before .before .before .pre .0 .3))
 
--- src/lib.rt:136:9
 add-j : tie.Need-add-j Inv-loop μ-loop
 add-j c = search needs
 
--- src/lib.rt:136:5
 loop-less : tie.Need-loop-less Inv-loop μ-loop
 loop-less c = search needs
 
--- src/lib.rt:136:5
 loop-again : tie.Need-loop-again Inv-loop μ-loop
 loop-again c = let good = c .before .before .before .before .before .before .before .before .before .before .before .before .before .good in let sized : length (c .before .before .before .before .before .before .before .before .before .before .before .before .before .args .g .sizes) ≡ 32 = search needs in progress-more (c .before .before .before .before .before .before .before .before .before .before .before .before .before .args .g) (messagesOf (c .before .before .before .before .before .before .before .before .before .before .before .before .before .args .p)) (c .before .before .before .before .before .before .before .before .before .before .before .before .before .pre .0 .1) (c .before .before .before .before .before .before .before .before .before .before .before .before .before .args .shift) (c .before .before .before .before .before .before .before .before .before .before .before .before .before .args .start) (c .before .before .before .before .before .before .before .before .before .before .before .before .before .args .keys .now) (c .before .before .before .before .before .before .before .before .before .before .before .before .before .args .heads .now) (c .before .before .before .before .before .before .before .before .before .before .loop .keys) (c .before .before .before .before .before .before .before .before .before .before .loop .heads) (c .before .before .before .before .before .before .before .before .before .before .loop .next) (c .before .before .before .before .before .before .before .before .before .before .loop .j) (c .before .before .before .before .before .before .before .before .before .before .before .before .before .pre .0 .2) (omega (arith, messages-length (c .before .before .before .before .before .before .before .before .before .before .before .before .before .args .p), c .before .before .before .before .before .before .before .before .before .loop-test .taken)) sized (c .before .before .before .before .before .before .before .before .before .before .loop .inv) _ (c .before .before .before .before .before .before .before .message-lists .ensures) _ _ _ (c .before .before .before .before .place-listed .ensures)
 
--- src/lib.rt:120:1
 same-length : tie.Need-same-length Inv-loop μ-loop
 same-length c = search needs
 
--- src/lib.rt:120:1
 same-length-2 : tie.Need-same-length-2 Inv-loop μ-loop
 same-length-2 c = search needs
 
--- src/lib.rt:120:1
 returns : tie.Need-returns Inv-loop μ-loop
 returns c = progress-done (c .before .before .before .before .args .g) (messagesOf (c .before .before .before .before .args .p)) (c .before .before .before .before .args .shift) (c .before .before .before .before .args .start) (c .before .before .before .before .args .keys .now) (c .before .before .before .before .args .heads .now) (c .before .loop .keys) (c .before .loop .heads) (c .before .loop .next) (c .before .loop .j) (c .before .loop .inv) (omega (arith, messages-length (c .before .before .before .before .args .p), c .before .loop .inv .few))
 

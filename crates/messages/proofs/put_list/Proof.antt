@@ -1,3 +1,4 @@
+-- `messages::put_list` meets its contract. The loop's invariant: the numbers passed are pasted. Assumes nothing.
 use mathlib.Core.Path.{_≡_, refl}
 use Prim.Native.Nat.{_-_, _≤_}
 use lib.ListN.{length, length-set}
@@ -14,47 +15,36 @@ Inv-loop table₀ first list i₀ i-end table i = (i ≤ length list) × (table 
 abbrev μ-loop : tie.MeasureT-loop
 μ-loop table₀ first list i₀ i-end table i = length list - i
 
--- src/lib.rt:33:5
 loop-holds : tie.Need-loop-holds Inv-loop μ-loop
 loop-holds c = (search needs, paste-zero (c .args .table .now) (c .args .first) (c .args .list .now), refl)
 
--- src/lib.rt:34:28
 mul-table : tie.Need-mul-table Inv-loop μ-loop
 mul-table c = search needs
 
--- src/lib.rt:34:28
 shared-slice-read-table : tie.Need-shared-slice-read-table Inv-loop μ-loop
 shared-slice-read-table c = search needs
 
--- src/lib.rt:34:15
 add-table : tie.Need-add-table Inv-loop μ-loop
 add-table c = search needs
 
--- src/lib.rt:34:9
 mul-table-2 : tie.Need-mul-table-2 Inv-loop μ-loop
 mul-table-2 c = search needs
 
--- src/lib.rt:34:9
 slice-write-table : tie.Need-slice-write-table Inv-loop μ-loop
 slice-write-table c = search needs
 
--- src/lib.rt:33:9
 add-i : tie.Need-add-i Inv-loop μ-loop
 add-i c = search needs
 
--- src/lib.rt:33:5
 loop-less : tie.Need-loop-less Inv-loop μ-loop
 loop-less c = search needs
 
--- src/lib.rt:33:5
 loop-again : tie.Need-loop-again Inv-loop μ-loop
 loop-again c = (omega arith, copy-more (c .before .before .before .args .table .now) (c .before .before .loop .table) (c .before .before .before .args .first) (c .before .before .before .args .list .now) (c .before .before .loop .i) _ (c .before .before .loop .inv .1) refl (omega arith) (omega arith), simp length-set (c .before .before .loop .inv .2))
 
--- src/lib.rt:29:1
 same-length : tie.Need-same-length Inv-loop μ-loop
 same-length c = search needs
 
--- src/lib.rt:29:1
 returns : tie.Need-returns Inv-loop μ-loop
 returns c = copy-done (c .before .before .args .table .now) (c .before .loop .table) (c .before .before .args .first) (c .before .before .args .list .now) (c .before .loop .i) (c .before .loop .inv .1) (omega arith)
 

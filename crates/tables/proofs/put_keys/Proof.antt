@@ -5,7 +5,6 @@ use native.Mathlib.Omega.{arith}
 use borrow.Author.Needs.{needs, scaled-fits}
 use lib.ListN.{length, length-set}
 use lib.Seq.{paste, paste-zero}
-use denote.Ref.{now}
 use Rattle.factor.specs.Limits.{max-keys}
 use Rattle.tables.proofs.Writing.{copy-done, copy-more}
 use Rattle.tables.proofs.put_keys.Statement.{statement}

@@ -2,7 +2,6 @@
 use native.Mathlib.Omega.{arith}
 use borrow.Author.Needs.{needs}
 use Rattle.matrix.proofs.Turns.{within}
-use Rattle.workspace.specs.Blocks.{stamp}
 use Rattle.workspace.proofs.Cuts.{bounds, long, at-part}
 use Rattle.workspace.proofs.stamp_at.Statement.{statement}
 use Rattle.workspace.proofs.stamp_at.Tie as tie

@@ -7,7 +7,6 @@ use native.Mathlib.Omega.{arith}
 use borrow.Author.Needs.{needs}
 use lib.Ieee.{Float}
 use lib.ListN.{length}
-use denote.Ref.{now}
 use Rattle.factor.proofs.Blocks.{found-ends}
 use Rattle.factor.specs.Factor.{columnsAt, find, width}
 use Rattle.factor.specs.declared.Factor.{Factor}

@@ -8,7 +8,7 @@ use native.Mathlib.Omega.{arith}
 use borrow.Author.Needs.{needs}
 use mir.Syntax.{w8}
 use mir.Val.{Fits}
-use Rattle.factor.specs.Factor.{aNumbers, fits, width}
+use Rattle.factor.specs.Factor.{aNumbers, width}
 use Rattle.factor.specs.Limits.{max-keys}
 use Rattle.factor.specs.declared.Factor.{Factor}
 use Rattle.factor.proofs.Factor.a_numbers.Statement.{statement}

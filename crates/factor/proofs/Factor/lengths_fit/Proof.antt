@@ -11,7 +11,7 @@ use lib.Dec.{eqb}
 use mir.Syntax.{w8}
 use mir.Val.{Fits}
 use Rattle.factor.specs.Counting.{every}
-use Rattle.factor.specs.Factor.{aNumbers, fits, lengthsFit}
+use Rattle.factor.specs.Factor.{aNumbers, lengthsFit}
 use Rattle.factor.specs.declared.Factor.{Factor}
 use Rattle.factor.proofs.Factor.lengths_fit.Statement.{statement}
 use Rattle.factor.proofs.Factor.lengths_fit.Tie as tie

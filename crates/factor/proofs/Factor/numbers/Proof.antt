@@ -7,7 +7,7 @@ use native.Mathlib.Omega.{arith}
 use borrow.Author.Needs.{needs}
 use mir.Syntax.{w8}
 use mir.Val.{Fits}
-use Rattle.factor.specs.Factor.{aNumbers, fits, numbers}
+use Rattle.factor.specs.Factor.{aNumbers, numbers}
 use Rattle.factor.specs.declared.Factor.{Factor}
 use Rattle.factor.proofs.Factor.numbers.Statement.{statement}
 use Rattle.factor.proofs.Factor.numbers.Tie as tie

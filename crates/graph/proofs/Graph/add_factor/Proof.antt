@@ -2,14 +2,10 @@
 use mathlib.Core.Path.{_∙_, refl, sym}
 use borrow.Author.Needs.{needs}
 use borrow.Author.Tests.{not-false, not-true}
-use denote.Ref.{now}
 use Rattle.factor.proofs.Counting.{tells}
 use Rattle.factor.proofs.Fitting.{fits-touched}
-use Rattle.factor.specs.Factor.{numbers}
 use Rattle.graph.proofs.Validity.{rows-most}
 use Rattle.graph.proofs.Verdicts.{at-overflow, at-pivot, full, not-given, room-for, short, taken, turned-back, unlike}
-use Rattle.graph.specs.Record.{offset}
-use Rattle.graph.specs.Registration.{refused}
 use Rattle.graph.proofs.Graph.add_factor.Statement.{statement}
 use Rattle.graph.proofs.Graph.add_factor.Tie as tie
 

@@ -9,7 +9,6 @@ use borrow.Author.Tests.{leb-true, lt-ltb, ltb-true, not-false, not-true}
 use lib.Dec.{ltb}
 use lib.Ieee.{Float}
 use lib.ListN.{getD, length}
-use denote.Ref.{now}
 use Rattle.factor.proofs.Counting.{all-at, all-of, every-at, tells}
 use Rattle.factor.proofs.Fitting.{observation-fits}
 use Rattle.factor.specs.Factor.{fits, known, observationOf, rising}
@@ -18,7 +17,7 @@ use Rattle.factor.specs.declared.Factor.{Factor}
 use Rattle.graph.proofs.Validity.{valid-variables}
 use Rattle.graph.proofs.Verdicts.{turned-back}
 use Rattle.graph.specs.Record.{valid}
-use Rattle.graph.specs.Registration.{Verdict, addObservation, countsFit, factorVerdict, observationStore, observationVerdict, refuse, refused, settle, stored}
+use Rattle.graph.specs.Registration.{Verdict, addObservation, countsFit, factorVerdict, observationStore, observationVerdict, refuse, settle, stored}
 use Rattle.graph.specs.declared.Added.{Added}
 use Rattle.graph.specs.declared.Graph.{Graph}
 use Rattle.graph.specs.declared.refusal.Refusal.the-variants.{CountOutside, KeysNotRising, NoSuchKey}

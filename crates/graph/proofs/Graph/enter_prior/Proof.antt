@@ -1,14 +1,12 @@
 -- `graph::Graph::enter_prior` meets its contract, by its ways out. Assumes nothing.
 use Prim.Native.Nat.{_<_, _≤_, ℕ}
-use mathlib.Core.Bool.{false, true}
+use mathlib.Core.Bool.{true}
 use mathlib.Core.List.{List, []}
 use mathlib.Core.Path.{_∙_, _≡_, ap, refl}
 use native.Mathlib.Omega.{arith}
 use borrow.Author.Needs.{needs}
-use borrow.Author.Tests.{le-ltb, lt-ltb, not-false, not-true}
+use borrow.Author.Tests.{le-ltb, lt-ltb}
 use lib.Ieee.{Float}
-use denote.Ref.{now}
-use Rattle.factor.proofs.Counting.{tells}
 use Rattle.factor.proofs.Fitting.{prior-fits}
 use Rattle.factor.specs.Factor.{fits, priorOf}
 use Rattle.factor.specs.Limits.{max-variables}
@@ -16,7 +14,7 @@ use Rattle.factor.specs.declared.Factor.{Factor}
 use Rattle.graph.proofs.Validity.{valid-variables}
 use Rattle.graph.proofs.Verdicts.{turned-back}
 use Rattle.graph.specs.Record.{sizeAt, valid}
-use Rattle.graph.specs.Registration.{addPrior, factorVerdict, priorStore, priorVerdict, refuse, refused, settle, stored}
+use Rattle.graph.specs.Registration.{addPrior, factorVerdict, priorStore, priorVerdict, refuse, settle, stored}
 use Rattle.graph.specs.declared.Added.{Added}
 use Rattle.graph.specs.declared.Graph.{Graph}
 use Rattle.graph.specs.declared.refusal.Refusal.the-variants.{NoSuchKey}

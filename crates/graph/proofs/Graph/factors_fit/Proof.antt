@@ -21,40 +21,31 @@ Inv-loop self sizes number₀ number = (number ≤ max-factors) × (all (λ i. f
 abbrev μ-loop : tie.MeasureT-loop
 μ-loop self sizes number₀ number = max-factors - number
 
--- src/lib.rt:220:9
 loop-holds : tie.Need-loop-holds Inv-loop μ-loop
 loop-holds c = (search needs, all-none _, below-none _)
 
--- src/lib.rt:221:21
 mul-f : tie.Need-mul-f Inv-loop μ-loop
 mul-f c = search needs
 
--- src/lib.rt:221:21
 element-copy-out-f : tie.Need-element-copy-out-f Inv-loop μ-loop
 element-copy-out-f c = search needs
 
--- src/lib.rt:223:17
 factor-place-requires : tie.Need-factor-place-requires Inv-loop μ-loop
 factor-place-requires c κs = search needs
 
--- src/lib.rt:224:17
 returns : tie.Need-returns Inv-loop μ-loop
 unfolding factorsFit
 returns c = (sym (all-fail (λ i. factorPlace (c .before .before .before .before .before .before .args .t1) i) max-factors (c .before .before .before .before .loop .number) (search needs) (tells (placed-is (c .before .before .before .before .before .before .args .t1) (c .before .before .before .before .loop .number) _ _ _ refl refl (c .before .factor-place .ensures .0)) (not-true _ (c .if1 .taken)))), λ x. absurd (false≢true x))
 
--- src/lib.rt:220:13
 add-number : tie.Need-add-number Inv-loop μ-loop
 add-number c = search needs
 
--- src/lib.rt:220:9
 loop-less : tie.Need-loop-less Inv-loop μ-loop
 loop-less c = search needs
 
--- src/lib.rt:220:9
 loop-again : tie.Need-loop-again Inv-loop μ-loop
 loop-again c = (search needs, all-more _ _ (c .before .before .before .before .loop .inv .1) (tells (placed-is (c .before .before .before .before .before .before .args .t1) (c .before .before .before .before .loop .number) _ _ _ refl refl (c .before .factor-place .ensures .0)) (not-false _ (c .if1 .left))), below-more _ _ (c .before .before .before .before .loop .inv .2) (c .before .factor-place .ensures .1))
 
--- src/lib.rt:215:5
 returns-2 : tie.Need-returns-2 Inv-loop μ-loop
 unfolding factorsFit
 returns-2 c = let e : c .before .loop .number ≡ max-factors = omega arith in (sym (rw e at (c .before .loop .inv .1)), λ _ i l. c .before .loop .inv .2 i (omega arith))

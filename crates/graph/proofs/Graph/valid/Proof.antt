@@ -13,7 +13,6 @@ use Rattle.factor.specs.Counting.{every}
 use Rattle.factor.specs.Limits.{max-factors, max-total, max-variables}
 use Rattle.graph.proofs.Exactness.{exact}
 use Rattle.graph.proofs.Keeping.{Shaped, good-of}
-use Rattle.graph.proofs.Verdicts.{taken}
 use Rattle.graph.specs.Reached.{Reached}
 use Rattle.graph.specs.Record.{factorsFit, total, valid, variablesFit}
 use Rattle.graph.specs.declared.Graph.{Graph}

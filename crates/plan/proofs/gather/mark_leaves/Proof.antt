@@ -1,7 +1,7 @@
 -- Before each turn the items listed, followed by the leaves under what stands on the stack, are all leaves (`Stack`). What lies under
 -- the stack falls by one message a turn.
 -- Assumes nothing.
-use Rattle.plan.proofs.Stack.{opened}
+use Rattle.plan.proofs.Stack.{opened, Opening, start, done, here, top-low, visitable, falls, again}
 use borrow.Author.Needs.{needs}
 use Prim.Native.Nat.{_-_}
 use lib.ListN.{getD}
@@ -9,7 +9,6 @@ use native.Mathlib.Omega.{arith}
 use Rattle.schedule.proofs.Trees.{heavy}
 use Rattle.plan.specs.Pass.{messagesOf, Ready}
 use Rattle.plan.specs.Gather.{Forest, stackOf}
-use Rattle.plan.proofs.Stack.{Opening, start, done, here, top-low, visitable, falls, again}
 use Rattle.plan.proofs.gather.mark_leaves.Statement.{statement}
 use Rattle.plan.proofs.gather.mark_leaves.Tie as tie
 

@@ -3,7 +3,6 @@ use native.Mathlib.Omega.{arith}
 use borrow.Author.Needs.{needs}
 use lib.ListN.{length}
 use Rattle.matrix.proofs.Dense.{dense}
-use Rattle.workspace.specs.Blocks.{corner}
 use Rattle.workspace.specs.declared.Part.the-variants.{H, G, A, Xi}
 use Rattle.workspace.proofs.Cuts.{relaid}
 use Rattle.slots.proofs.Adding.{small, corner-fits, own-cleared-x, own-cleared-z, own-kept-z, own-kept-x}

@@ -3,7 +3,6 @@ use mathlib.Core.Path.{refl, _∙_}
 use native.Mathlib.Omega.{arith}
 use borrow.Author.Needs.{needs}
 use Rattle.workspace.proofs.Cuts.{relaid}
-use Rattle.slots.proofs.Adding.{scratch}
 use Rattle.slots.proofs.OneFactor.{view-prior, view-other, branch-prior, branch-other, wide-other, offsets, part-sizes, prior-sizes}
 use Rattle.slots.proofs.sums.add_view.Statement.{statement}
 use Rattle.slots.proofs.sums.add_view.Tie as tie

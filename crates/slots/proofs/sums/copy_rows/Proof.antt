@@ -3,7 +3,6 @@ use native.Mathlib.Omega.{arith}
 use borrow.Author.Needs.{needs}
 use borrow.Author.Tests.{not-true, not-false}
 use Rattle.matrix.proofs.Dense.{dense}
-use Rattle.workspace.specs.Blocks.{corner}
 use Rattle.workspace.specs.declared.Part.the-variants.{Xi, W}
 use Rattle.workspace.proofs.Cuts.{relaid}
 use Rattle.slots.proofs.Adding.{corner-fits}

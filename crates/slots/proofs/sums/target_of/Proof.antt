@@ -1,8 +1,6 @@
 -- `slots::sums::target_of` meets its contract: by the cases of the definition. Assumes nothing.
 use borrow.Author.Needs.{needs}
 use borrow.Author.Tests.{not-true, not-false, lt-leb, le-leb}
-use Rattle.matrix.specs.Views.{flip}
-use Rattle.workspace.specs.Blocks.{corner}
 use Rattle.slots.specs.Views.{targetOf}
 use Rattle.slots.proofs.sums.target_of.Statement.{statement}
 use Rattle.slots.proofs.sums.target_of.Tie as tie

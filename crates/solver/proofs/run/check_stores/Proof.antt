@@ -1,3 +1,4 @@
+-- `solver::run::check_stores` meets its contract: each store that is short has its own refusal, before any arithmetic. Assumes nothing.
 use mathlib.Core.Path.{_∙_}
 use lib.ListN.{length}
 use Rattle.plan.specs.Plan.{planOf}
@@ -7,63 +8,48 @@ use borrow.Author.Needs.{needs}
 use Rattle.solver.proofs.run.check_stores.Statement.{statement}
 use Rattle.solver.proofs.run.check_stores.Tie as tie
 
--- src/run.rt:205:24
 offset-requires : tie.Need-offset-requires
 offset-requires c κs = (c .before .before .before .before .before .before .pre .plan .sound, omega arith)
 
--- src/run.rt:206:9
 refused-requires : tie.Need-refused-requires
 refused-requires c κs = search needs
 
--- src/run.rt:206:9
 returns : tie.Need-returns
 returns c = rw (c .refused .ensures) (short-factors (c .before .before .before .before .before .before .before .before .before .args .g) (planOf (c .before .before .before .before .before .before .before .before .before .args .g .variables) (c .before .before .before .before .before .before .before .before .before .args .p)) (c .before .before .before .before .before .before .before .before .before .args .figure) (c .before .before .before .before .before .before .before .before .before .args .factors .now) (c .before .before .before .before .before .before .before .before .before .args .messages .now) (c .before .before .before .before .before .before .before .before .before .args .marginals .now) (length (c .before .before .before .before .before .before .before .before .before .args .work .now)) (omega (arith, c .before .before .offset .ensures .0)))
 
--- src/run.rt:209:9
 refused-requires-2 : tie.Need-refused-requires-2
 refused-requires-2 c κs = search needs
 
--- src/run.rt:209:9
 returns-2 : tie.Need-returns-2
 returns-2 c = rw (c .refused2 .ensures) (short-messages (c .before .before .before .before .before .before .before .before .before .before .args .g) (planOf (c .before .before .before .before .before .before .before .before .before .before .args .g .variables) (c .before .before .before .before .before .before .before .before .before .before .args .p)) (c .before .before .before .before .before .before .before .before .before .before .args .figure) (c .before .before .before .before .before .before .before .before .before .before .args .factors .now) (c .before .before .before .before .before .before .before .before .before .before .args .messages .now) (c .before .before .before .before .before .before .before .before .before .before .args .marginals .now) (length (c .before .before .before .before .before .before .before .before .before .before .args .work .now)) (omega (arith, c .before .before .before .offset .ensures .0, c .before .before .if1 .left)) (omega (arith, c .before .if2 .taken)))
 
--- src/run.rt:212:9
 refused-requires-3 : tie.Need-refused-requires-3
 refused-requires-3 c κs = search needs
 
--- src/run.rt:212:9
 returns-3 : tie.Need-returns-3
 returns-3 c = rw (c .refused3 .ensures) (short-work (c .before .before .before .before .before .before .before .before .before .before .before .args .g) (planOf (c .before .before .before .before .before .before .before .before .before .before .before .args .g .variables) (c .before .before .before .before .before .before .before .before .before .before .before .args .p)) (c .before .before .before .before .before .before .before .before .before .before .before .args .figure) (c .before .before .before .before .before .before .before .before .before .before .before .args .factors .now) (c .before .before .before .before .before .before .before .before .before .before .before .args .messages .now) (c .before .before .before .before .before .before .before .before .before .before .before .args .marginals .now) (length (c .before .before .before .before .before .before .before .before .before .before .before .args .work .now)) (omega (arith, c .before .before .before .before .offset .ensures .0, c .before .before .before .if1 .left)) (omega (arith, c .before .before .if2 .left)) (omega (arith, c .before .if3 .taken)))
 
--- src/run.rt:214:26
 marginal-numbers-requires : tie.Need-marginal-numbers-requires
 marginal-numbers-requires c κs = (c .before .before .before .before .before .before .before .before .before .before .pre) .plan .sound
 
--- src/run.rt:215:9
 refused-requires-4 : tie.Need-refused-requires-4
 refused-requires-4 c κs = search needs
 
--- src/run.rt:215:9
 returns-4 : tie.Need-returns-4
 returns-4 c = rw (c .refused4 .ensures) (short-marginals (c .before .before .before .before .before .before .before .before .before .before .before .before .before .args .g) (planOf (c .before .before .before .before .before .before .before .before .before .before .before .before .before .args .g .variables) (c .before .before .before .before .before .before .before .before .before .before .before .before .before .args .p)) (c .before .before .before .before .before .before .before .before .before .before .before .before .before .args .figure) (c .before .before .before .before .before .before .before .before .before .before .before .before .before .args .factors .now) (c .before .before .before .before .before .before .before .before .before .before .before .before .before .args .messages .now) (c .before .before .before .before .before .before .before .before .before .before .before .before .before .args .marginals .now) (length (c .before .before .before .before .before .before .before .before .before .before .before .before .before .args .work .now)) (omega (arith, c .before .before .before .before .before .before .offset .ensures .0, c .before .before .before .before .before .if1 .left)) (omega (arith, c .before .before .before .before .if2 .left)) (omega (arith, c .before .before .before .if3 .left)) (omega (arith, c .before .if4 .taken, c .before .before .marginal-numbers .ensures .0)))
 
--- src/run.rt:217:5
 first-stage-requires : tie.Need-first-stage-requires
 first-stage-requires c κs = (c .before .before .before .before .before .before .before .before .before .before .before .before .before .before .before .pre, record { of-factors = (omega (arith, c .before .before .before .before .before .before .before .before .offset .ensures .0, c .before .before .before .before .before .before .before .if1 .left)); of-messages = (omega (arith, c .before .before .before .before .before .before .if2 .left)); of-work = (omega (arith, c .before .before .before .before .before .if3 .left)); of-marginals = omega (arith, c .before .before .before .if4 .left, c .before .before .before .before .marginal-numbers .ensures .0) })
 
--- src/run.rt:189:1
 same-length : tie.Need-same-length
 same-length c = search needs
 
--- src/run.rt:189:1
 same-length-2 : tie.Need-same-length-2
 same-length-2 c = search needs
 
--- src/run.rt:189:1
 same-length-3 : tie.Need-same-length-3
 same-length-3 c = search needs
 
--- src/run.rt:189:1
 returns-5 : tie.Need-returns-5
 returns-5 c = c .before .before .before .before .before .before .first-stage .ensures ∙ checked-enough (c .before .before .before .before .before .before .before .before .before .before .before .before .before .before .before .before .before .before .before .before .before .before .args .g) (planOf (c .before .before .before .before .before .before .before .before .before .before .before .before .before .before .before .before .before .before .before .before .before .before .args .g .variables) (c .before .before .before .before .before .before .before .before .before .before .before .before .before .before .before .before .before .before .before .before .before .before .args .p)) (c .before .before .before .before .before .before .before .before .before .before .before .before .before .before .before .before .before .before .before .before .before .before .args .figure) (c .before .before .before .before .before .before .before .before .before .before .before .before .before .before .before .before .before .before .before .before .before .before .args .factors .now) (c .before .before .before .before .before .before .before .before .before .before .before .before .before .before .before .before .before .before .before .before .before .before .args .messages .now) (c .before .before .before .before .before .before .before .before .before .before .before .before .before .before .before .before .before .before .before .before .before .before .args .marginals .now) (length (c .before .before .before .before .before .before .before .before .before .before .before .before .before .before .before .before .before .before .before .before .before .before .args .work .now)) (omega (arith, c .before .before .before .before .before .before .before .before .before .before .before .before .before .before .before .offset .ensures .0, c .before .before .before .before .before .before .before .before .before .before .before .before .before .before .if1 .left)) (omega (arith, c .before .before .before .before .before .before .before .before .before .before .before .before .before .if2 .left)) (omega (arith, c .before .before .before .before .before .before .before .before .before .before .before .before .if3 .left)) (omega (arith, c .before .before .before .before .before .before .before .before .before .before .if4 .left, c .before .before .before .before .before .before .before .before .before .before .before .marginal-numbers .ensures .0))
 

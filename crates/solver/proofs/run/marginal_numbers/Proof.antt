@@ -1,3 +1,4 @@
+-- `solver::run::marginal_numbers` meets its contract. The loop's invariant: the numbers of the keys passed are added up. Assumes nothing.
 use mathlib.Core.Path.{_≡_}
 use Prim.Native.Nat.{_*_, _-_, _≤_}
 use Rattle.marginals.specs.Asked.{placeOf}
@@ -13,39 +14,30 @@ Inv-loop sizes sum₀ key₀ sum key = (key ≤ 32) × (sum ≡ placeOf sizes ke
 abbrev μ-loop : tie.MeasureT-loop
 μ-loop sizes sum₀ key₀ sum key = 32 - key
 
--- src/run.rt:73:5
 loop-holds : tie.Need-loop-holds Inv-loop μ-loop
 loop-holds c = (omega arith, no-place _, omega arith)
 
--- src/run.rt:74:13
 size-of-requires : tie.Need-size-of-requires Inv-loop μ-loop
 size-of-requires c κs = search needs
 
--- src/run.rt:75:20
 mul-sum : tie.Need-mul-sum Inv-loop μ-loop
 mul-sum c = let m = square (c .size-of .result) (c .size-of .ensures .1) in record { fits = omega arith }
 
--- src/run.rt:75:16
 add-sum : tie.Need-add-sum Inv-loop μ-loop
 add-sum c = let m = square (c .size-of .result) (c .size-of .ensures .1) in record { fits = omega (arith, c .size-of .ensures .1) }
 
--- src/run.rt:75:9
 add-sum-2 : tie.Need-add-sum-2 Inv-loop μ-loop
 add-sum-2 c = let m = square (c .size-of .result) (c .size-of .ensures .1) in record { fits = omega (arith, c .size-of .ensures .1, c .before .before .loop .inv .2) }
 
--- src/run.rt:73:9
 add-key : tie.Need-add-key Inv-loop μ-loop
 add-key c = search needs
 
--- src/run.rt:73:5
 loop-less : tie.Need-loop-less Inv-loop μ-loop
 loop-less c = search needs
 
--- src/run.rt:73:5
 loop-again : tie.Need-loop-again Inv-loop μ-loop
 loop-again c = let m = square (c .size-of .result) (c .size-of .ensures .1) in (omega arith, place-next _ (c .before .before .loop .key) (c .before .before .loop .sum) _ (c .before .before .loop .inv .1) (c .size-of .ensures .0), omega (arith, c .size-of .ensures .1, c .before .before .loop .inv .2))
 
--- src/run.rt:67:1
 returns : tie.Need-returns Inv-loop μ-loop
 returns c = let e : c .before .loop .key ≡ 32 = omega arith in numbers-told (c .before .before .before .args .g) (c .before .before .before .pre) (c .before .loop .sum) (c .before .loop .key) (c .before .loop .inv .1) e
 

@@ -1,3 +1,4 @@
+-- `solver::run::place_plan` meets its contract: the figure is where the backward messages end. Assumes nothing.
 use lib.ListN.{length}
 use Rattle.solver.proofs.Stages.{plan-forward, plan-backward, tables-filled, forward-most, all-ready, plan-checked, figure-told}
 use native.Mathlib.Omega.{arith}
@@ -5,67 +6,51 @@ use borrow.Author.Needs.{needs}
 use Rattle.solver.proofs.run.place_plan.Statement.{statement}
 use Rattle.solver.proofs.run.place_plan.Tie as tie
 
--- src/run.rt:238:23
 slice-aggregate-fill-originals : tie.Need-slice-aggregate-fill-originals
 slice-aggregate-fill-originals c = search needs
 
--- src/run.rt:238:34
 slice-aggregate-fill-originals-2 : tie.Need-slice-aggregate-fill-originals-2
 slice-aggregate-fill-originals-2 c = search needs
 
--- src/run.rt:238:5
 fill-originals-requires : tie.Need-fill-originals-requires
 fill-originals-requires c κs = search needs
 
--- src/run.rt:239:40
 slice-aggregate-place-pass : tie.Need-slice-aggregate-place-pass
 slice-aggregate-place-pass c = search needs
 
--- src/run.rt:239:51
 slice-aggregate-place-pass-2 : tie.Need-slice-aggregate-place-pass-2
 slice-aggregate-place-pass-2 c = search needs
 
--- src/run.rt:239:9
 place-pass-requires : tie.Need-place-pass-requires
 place-pass-requires c κs = let w = plan-forward (c .before .before .before .before .before .before .before .before .before .before .before .before .before .args .g) (c .before .before .before .before .before .before .before .before .before .before .before .before .before .args .p) (c .before .before .before .before .before .before .before .before .before .before .before .before .before .pre) in ((w .0, w .1, omega arith, omega arith), tables-filled (c .before .before .before .before .before .before .before .before .before .before .before .before .before .args .g) _ _ (c .before .before .before .before .fill-originals .kept .1 .0) (c .before .before .before .before .fill-originals .kept .1 .1 .0) (c .before .before .before .before .fill-originals .ensures))
 
--- src/run.rt:240:52
 slice-aggregate-place-pass-3 : tie.Need-slice-aggregate-place-pass-3
 slice-aggregate-place-pass-3 c = search needs
 
--- src/run.rt:240:63
 slice-aggregate-place-pass-4 : tie.Need-slice-aggregate-place-pass-4
 slice-aggregate-place-pass-4 c = search needs
 
--- src/run.rt:240:9
 place-pass-requires-2 : tie.Need-place-pass-requires-2
 place-pass-requires-2 c κs = let w = plan-backward (c .before .before .before .before .before .before .before .before .before .before .before .before .before .before .before .before .before .before .args .g) (c .before .before .before .before .before .before .before .before .before .before .before .before .before .before .before .before .before .before .args .p) (c .before .before .before .before .before .before .before .before .before .before .before .before .before .before .before .before .before .before .pre) in ((w .0, w .1, omega arith, omega (arith, c .before .before .before .before .place-pass .ensures .0, forward-most (c .before .before .before .before .before .before .before .before .before .before .before .before .before .before .before .before .before .before .args .g) (c .before .before .before .before .before .before .before .before .before .before .before .before .before .before .before .before .before .before .args .p) (c .before .before .before .before .before .before .before .before .before .before .before .before .before .before .before .before .before .before .pre))), c .before .before .before .before .place-pass .ensures .1 .1 .0)
 
--- src/run.rt:242:54
 slice-aggregate-check-stores : tie.Need-slice-aggregate-check-stores
 slice-aggregate-check-stores c = search needs
 
--- src/run.rt:242:61
 slice-aggregate-check-stores-2 : tie.Need-slice-aggregate-check-stores-2
 slice-aggregate-check-stores-2 c = search needs
 
--- src/run.rt:241:5
 check-stores-requires : tie.Need-check-stores-requires
 check-stores-requires c κs = all-ready (c .before .before .before .before .before .before .before .before .before .before .before .before .before .before .before .before .before .before .before .before .before .before .before .before .before .before .args .g) (c .before .before .before .before .before .before .before .before .before .before .before .before .before .before .before .before .before .before .before .before .before .before .before .before .before .before .args .p) _ _ _ _ _ _ (c .before .before .before .before .before .before .before .before .before .before .before .before .before .before .before .before .before .before .before .before .before .before .before .before .before .before .pre) (c .before .before .before .before .before .before .before .before .before .before .before .before .place-pass .ensures .0) (c .before .before .before .before .before .before .before .place-pass2 .ensures .0) (c .before .before .before .before .before .before .before .before .before .before .before .before .place-pass .ensures .1 .1 .1) (c .before .before .before .before .before .before .before .place-pass2 .ensures .1 .0) (c .before .before .before .before .before .before .before .place-pass2 .ensures .1 .1 .0) (c .before .before .before .before .before .before .before .place-pass2 .ensures .1 .1 .1)
 
--- src/run.rt:223:1
 same-length : tie.Need-same-length
 same-length c = search needs
 
--- src/run.rt:223:1
 same-length-2 : tie.Need-same-length-2
 same-length-2 c = search needs
 
--- src/run.rt:223:1
 same-length-3 : tie.Need-same-length-3
 same-length-3 c = search needs
 
--- src/run.rt:223:1
 returns : tie.Need-returns
 returns c = plan-checked (c .before .before .before .before .before .before .before .before .before .before .before .before .before .before .before .before .before .before .before .before .before .before .before .before .before .before .before .before .before .before .before .before .before .args .g) (c .before .before .before .before .before .before .before .before .before .before .before .before .before .before .before .before .before .before .before .before .before .before .before .before .before .before .before .before .before .before .before .before .before .args .p) _ (c .before .before .before .before .before .before .before .before .before .before .before .before .before .before .before .before .before .before .before .before .before .before .before .before .before .before .before .before .before .before .before .before .before .args .factors .now) (c .before .before .before .before .before .before .before .before .before .before .before .before .before .before .before .before .before .before .before .before .before .before .before .before .before .before .before .before .before .before .before .before .before .args .messages .now) (c .before .before .before .before .before .before .before .before .before .before .before .before .before .before .before .before .before .before .before .before .before .before .before .before .before .before .before .before .before .before .before .before .before .args .marginals .now) (length (c .before .before .before .before .before .before .before .before .before .before .before .before .before .before .before .before .before .before .before .before .before .before .before .before .before .before .before .before .before .before .before .before .before .args .work .now)) _ (c .before .before .before .before .before .before .before .before .before .before .before .before .before .before .before .before .before .before .before .before .before .before .before .before .before .before .before .before .before .before .before .before .before .pre) (figure-told (c .before .before .before .before .before .before .before .before .before .before .before .before .before .before .before .before .before .before .before .before .before .before .before .before .before .before .before .before .before .before .before .before .before .args .g) (c .before .before .before .before .before .before .before .before .before .before .before .before .before .before .before .before .before .before .before .before .before .before .before .before .before .before .before .before .before .before .before .before .before .args .p) _ _ (c .before .before .before .before .before .before .before .before .before .before .before .before .before .before .before .before .before .before .before .before .before .before .before .before .before .before .before .before .before .before .before .before .before .pre) (c .before .before .before .before .before .before .before .before .before .before .before .before .before .before .before .before .before .before .before .place-pass .ensures .0) (c .before .before .before .before .before .before .before .before .before .before .before .before .before .before .place-pass2 .ensures .0)) (c .before .before .before .before .before .before .check-stores .ensures)
 

@@ -1,3 +1,4 @@
+-- `solver::run::run` meets its contract: by whether the plan is refused. Assumes nothing.
 use lib.ListN.{length}
 use Rattle.solver.proofs.Answers.{made-valid, refused-why}
 use Rattle.solver.proofs.Stages.{made-planned, run-refused, run-made}
@@ -5,43 +6,33 @@ use borrow.Author.Needs.{needs}
 use Rattle.solver.proofs.run.run.Statement.{statement}
 use Rattle.solver.proofs.run.run.Tie as tie
 
--- src/run.rt:256:9
 plan-requires : tie.Need-plan-requires
 plan-requires c κs = search needs
 
--- src/run.rt:259:26
 enum-known-outcome : tie.Need-enum-known-outcome
 enum-known-outcome c = search needs
 
--- src/run.rt:259:34
 refused-requires : tie.Need-refused-requires
 refused-requires c κs = search needs
 
--- src/run.rt:261:17
 enum-told : tie.Need-enum-told
 enum-told c = search needs
 
--- src/run.rt:262:13
 place-plan-requires : tie.Need-place-plan-requires
 place-plan-requires c κs = made-planned _ (c .before .before .before .before .before .before .before .before .before .before .before .args .g) (c .before .before .before .before .before .before .plan .ensures .0) (c .before .before .before .before .before .before .plan .ensures .1 .1) (c .before .before .before .before .enum-told .given .1)
 
--- src/run.rt:247:1
 returns : tie.Need-returns
 returns c = rw (c .refused .ensures) (run-refused (c .before .before .before .before .before .before .before .before .before .args .g) (c .before .before .before .before .before .before .before .before .before .args .factors .now) (c .before .before .before .before .before .before .before .before .before .args .messages .now) (c .before .before .before .before .before .before .before .before .before .args .marginals .now) (length (c .before .before .before .before .before .before .before .before .before .args .work .now)) _ (refused-why _ (c .before .before .before .before .before .before .before .before .before .args .g) _ (c .before .before .before .before .plan .ensures .0) (c .before .before .outcome .given .1)))
 
--- src/run.rt:247:1
 same-length : tie.Need-same-length
 same-length c = search needs
 
--- src/run.rt:247:1
 same-length-2 : tie.Need-same-length-2
 same-length-2 c = search needs
 
--- src/run.rt:247:1
 same-length-3 : tie.Need-same-length-3
 same-length-3 c = search needs
 
--- src/run.rt:247:1
 returns-2 : tie.Need-returns-2
 returns-2 c = run-made (c .before .before .before .before .before .before .before .before .before .before .before .before .before .before .before .before .before .before .args .g) (c .before .before .before .before .before .before .before .before .before .before .before .before .before .before .before .before .before .before .args .factors .now) (c .before .before .before .before .before .before .before .before .before .before .before .before .before .before .before .before .before .before .args .messages .now) (c .before .before .before .before .before .before .before .before .before .before .before .before .before .before .before .before .before .before .args .marginals .now) (length (c .before .before .before .before .before .before .before .before .before .before .before .before .before .before .before .before .before .before .args .work .now)) _ (made-valid _ (c .before .before .before .before .before .before .before .before .before .before .before .before .before .before .before .before .before .before .args .g) (c .before .before .before .before .before .before .before .before .before .before .before .before .before .plan .ensures .0) (c .before .before .before .before .before .before .before .before .before .before .before .enum-told .given .1)) (c .before .before .before .before .before .before .place-plan .ensures)
 
