@@ -13,11 +13,7 @@ use Rattle.factor.proofs.KeyOrder.{width-within}
 use Rattle.graph.specs.Record.{sizeAt, factorAt, sizeFits, registered, clear, place, variablesFit, factorPlace, factorsFit, offset, total, valid}
 use Rattle.graph.specs.declared.Graph.{Graph}
 
--- a size is 1 or more, and within the limit
-pub size-least : (s : ℕ) → sizeFits s ≡ true → 1 ≤ s
-unfolding sizeFits
-size-least s h = leb-true _ _ (every-at _ 0 h)
-
+-- a size is within the limit
 pub size-most : (s : ℕ) → sizeFits s ≡ true → s ≤ max-size
 unfolding sizeFits
 size-most s h = leb-true _ _ (every-at _ 1 h)

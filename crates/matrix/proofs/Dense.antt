@@ -21,10 +21,6 @@ use Rattle.matrix.proofs.Agreement.{accumulate-same, block-same}
 pub dense : (m n len : ℕ) → m * n ≤ len → Inside (columns m) m n len
 dense m n len h i j hi hj = omega (arith, mul-le-mul-right m hj)
 
--- a part holds what fits in it
-pub part-length : (s : List Float) (p q k : ℕ) → q ≤ length s → k ≤ q - p → k ≤ length (part s p q)
-part-length s p q k h l = simp (length-take, length-drop) (omega arith)
-
 -- ---- a product: each entry of the target meets its finished sum, and nothing else changes
 
 module _ (how : Update) (cv : View) (m : ℕ) (a : List Float) (av : View) (b : List Float) (bv : View) (n : ℕ) (c : List Float) (w : ℕ) where
