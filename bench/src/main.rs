@@ -5,6 +5,7 @@
 mod dense;
 mod graphs;
 mod memory;
+mod shares;
 
 use std::hint::black_box;
 use std::time::Instant;
@@ -29,6 +30,8 @@ fn main() {
     let graphs = all(words.first().map_or(EXAMPLES, |word| word));
     println!("{:<12} {HEADINGS}", "graph");
     graphs.iter().for_each(times);
+    println!("\n{:<12} {}", "", shares::HEADINGS);
+    graphs.iter().for_each(shares::shares);
     println!("\n{:<12} {}", "", memory::HEADINGS);
     graphs.iter().for_each(memory::used);
     println!("peak memory of the whole process, both sides and their inputs: {} KB", memory::peak());

@@ -1,5 +1,5 @@
--- Runs one after the other, and a direct elimination over what a job registers. Assumes nothing.
-use mathlib.Core.Path.{_≡_, refl, ap, _∙_}
+-- Runs and plans one after the other, and a direct elimination over what a job registers. Assumes nothing.
+use mathlib.Core.Path.{_≡_, refl, ap, _∙_, sym}
 use mathlib.Core.List.{List}
 use Prim.Native.Nat.{ℕ, _+_, _≤_}
 use native.Mathlib.Numerals.{add-one}
@@ -15,10 +15,14 @@ use Rattle.records.specs.Records.{readAll}
 use Rattle.records.specs.declared.answer.Read.{Read}
 use Rattle.direct.specs.Direct.{verdict, answerOf, storeOf}
 use Rattle.direct.specs.declared.Direct.{Direct}
+use Rattle.plan.specs.Plan.{planOf}
+use Rattle.plan.proofs.Sending.{messages-length}
+use Rattle.solver.specs.Plan.{Answer, planned, read}
+use Rattle.solver.specs.declared.Planned.{Planned}
 use Rattle.solver.specs.Run as solver
 use Rattle.solver.specs.Stages as stages
 use Rattle.solver.specs.declared.run.Ran.{Ran}
-use Rattle.measured.specs.Measured.{factor-room, readJob, numberIn, eliminated, Stores, stores, storesIn, again, repeated}
+use Rattle.measured.specs.Measured.{factor-room, readJob, numberIn, eliminated, Stores, stores, storesIn, again, repeated, replanned}
 
 -- no refusal's number is above 30
 pub few : (r : ℕ) (why : Refusal) → r ≡ numberOf why → r ≤ 30
@@ -50,3 +54,14 @@ pub repeated-is : (bytes : List ℕ) (s t : Stores) (times : ℕ) (read : Read) 
     → factors ≡ readAll bytes (replicate factor-room plus-zero) .store → t ≡ again (read .graph) factors s times → t ≡ repeated (readJob bytes) s times
 unfolding repeated
 repeated-is bytes s t times read factors er ef e = e ∙ rw (er, ef) refl
+
+-- ---- plans
+
+pub no-plan : (g : Graph) → 0 ≡ replanned g 0
+unfolding replanned
+no-plan g = refl
+
+-- the arrays' count is the number of forward messages
+pub one-plan : (g : Graph) (made : Planned) (n : ℕ) → read made ≡ planned g → made .plan .forward .count ≡ replanned g (n + 1)
+unfolding replanned read planOf
+one-plan g made n e = rw (add-one n) (sym (messages-length (made .plan .forward)) ∙ ap (λ (a : Answer). length (a .plan .forward)) e)

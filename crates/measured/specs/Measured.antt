@@ -2,7 +2,7 @@
 use Prim.Native.Nat.{ℕ, zero, suc, _+_}
 use mathlib.Core.List.{List}
 use lib.Ieee.{Float}
-use lib.ListN.{replicate}
+use lib.ListN.{length, replicate}
 use Rattle.matrix.specs.Sums.{plus-zero}
 use Rattle.workspace.specs.Frames.{work-numbers}
 use Rattle.graph.specs.Refusals.{numberOf}
@@ -11,6 +11,7 @@ use Rattle.records.specs.Records.{Reading, readAll}
 use Rattle.direct.specs.Direct.{Verdict, verdict}
 use Rattle.direct.specs.declared.Direct.{Direct}
 use Rattle.direct.specs.declared.Direct.the-variants.{Rows, Refused}
+use Rattle.solver.specs.Plan.{planned}
 use Rattle.solver.specs.Run as solver
 
 -- the numbers of the factor store, as in `job`
@@ -52,3 +53,8 @@ again g factors s (suc n) = let t = again g factors s n in storesIn (solver.run 
 -- the stores after n runs of a job's graph
 unfoldable pub repeated : Reading → Stores → ℕ → Stores
 repeated r s n = again (r .answer .graph) (r .store) s n
+
+-- the forward messages of a graph's plan, made n times; none where it is made no time
+unfoldable pub replanned : Graph → ℕ → ℕ
+replanned g zero = 0
+replanned g (suc n) = length (planned g .plan .forward)

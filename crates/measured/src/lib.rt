@@ -88,3 +88,28 @@ pub extern "C" fn strips_eliminate(
     let answer = direct::eliminate(g, slots, kept, cleared, &factors, messages, &mut work);
     number_in(answer)
 }
+
+// The plan of a graph is made as often as is asked; the answer is how many forward messages it has, 0 where none was made.
+fn replan(g: Graph, times: usize) -> usize
+    ensures { λ r. ⌜ r ≡ spec.replanned g times ⌝ }
+{
+    let mut count = 0;
+    for _ in 0..times {
+        let made = solver::plan(g);
+        let p = made.plan;
+        let fw = p.forward;
+        count = fw.count;
+    }
+    count
+}
+
+// Reads a job once and makes the plan of its graph as often as is asked.
+#[no_mangle]
+pub extern "C" fn strips_plan(bytes: &[u8], times: usize) -> usize
+    ensures { λ r. ⌜ r ≡ spec.replanned (spec.readJob (now (bytes .entry)) .answer .graph) times ⌝ }
+{
+    let mut factors = [0.0; FACTOR_ROOM];
+    let read = records::read(bytes, &mut factors);
+    let g = read.graph;
+    replan(g, times)
+}

@@ -25,6 +25,8 @@ unsafe extern "C" {
         marginals: *mut f64,
         marginal_length: usize,
     );
+    fn strips_plan(job: *const u8, job_length: usize, times: usize) -> usize;
+    fn strips_root(pivot: f64) -> f64;
 }
 
 /// Room for the longest text.
@@ -59,6 +61,18 @@ pub fn repeat(job: &[u8], times: usize, messages: &mut [f64; MESSAGE_STORE], mar
             marginals.len(),
         )
     }
+}
+
+/// Reads a job once and makes its plan so many times; its forward messages.
+pub fn plan(job: &[u8], times: usize) -> usize {
+    // The job is lent whole, with its own length.
+    unsafe { strips_plan(job.as_ptr(), job.len(), times) }
+}
+
+/// The root of a pivot.
+pub fn root(pivot: f64) -> f64 {
+    // A number in, a number out.
+    unsafe { strips_root(pivot) }
 }
 
 /// The mark of a refusal among the answers of `eliminate`.
