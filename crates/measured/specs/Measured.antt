@@ -4,6 +4,8 @@ use mathlib.Core.List.{List}
 use lib.Ieee.{Float}
 use lib.ListN.{length, replicate}
 use Rattle.matrix.specs.Sums.{plus-zero}
+use Rattle.root.specs.declared.Pivot.{Pivot}
+use Rattle.root.specs.declared.Pivot.the-variants as pivot
 use Rattle.workspace.specs.Frames.{work-numbers}
 use Rattle.graph.specs.Refusals.{numberOf}
 use Rattle.graph.specs.declared.Graph.{Graph}
@@ -58,3 +60,8 @@ repeated r s n = again (r .answer .graph) (r .store) s n
 unfoldable pub replanned : Graph → ℕ → ℕ
 replanned g zero = 0
 replanned g (suc n) = length (planned g .plan .forward)
+
+-- the number of a root
+abbrev pub rootIn : Pivot → Float
+rootIn (pivot.Root r) = r
+rootIn pivot.Refused = plus-zero

@@ -1,12 +1,14 @@
-// What the comparison with the original and the benchmark call beside `firmware`: reading alone, the run alone, a direct elimination.
+// What the comparison with the original and the benchmark call beside `firmware`: reading, runs, plans and roots alone, a direct elimination.
 use direct::Direct;
 use graph::Graph;
 use graph::refusal::code;
+use root::Pivot;
 use solver::run::run;
 use workspace::WORK;
 ghost use mathlib.Core.Path.{_≡_};
 ghost use lib.ListN.{length};
 ghost use Rattle.workspace.specs.Frames.{work-numbers};
+ghost use Rattle.root.specs.Root.{rootOf};
 ghost use Rattle.records.specs.Records.{readAll};
 ghost use Rattle.direct.specs.Direct.{answerOf, storeOf};
 ghost use Rattle.measured.specs.Measured as spec;
@@ -112,4 +114,15 @@ pub extern "C" fn strips_plan(bytes: &[u8], times: usize) -> usize
     let read = records::read(bytes, &mut factors);
     let g = read.graph;
     replan(g, times)
+}
+
+// The root of a pivot, and +0.0 for a refused one.
+#[no_mangle]
+pub extern "C" fn strips_root(pivot: f64) -> f64
+    ensures { λ r. ⌜ r ≡ spec.rootIn (rootOf pivot) ⌝ }
+{
+    match root::root(pivot) {
+        Pivot::Root(r) => r,
+        Pivot::Refused => 0.0,
+    }
 }

@@ -31,17 +31,28 @@ shared-slice-read-number : tie.Need-shared-slice-read-number Inv-loop μ-loop
 shared-slice-read-number c = search needs
 
 mul-f : tie.Need-mul-f Inv-loop μ-loop
-mul-f c = let b : getD (c .before .before .before .before .before .before .args .slots .now) (c .before .before .loop .place) 0 < c .before .before .before .before .before .before .args .t1 .count = known-below _ (c .before .before .before .before .before .before .args .slots .now) (c .before .before .before .before .before .before .pre .1) (c .before .before .loop .place) (omega arith) in omega (arith, b, valid-count (c .before .before .before .before .before .before .args .t1) (c .before .before .before .before .before .before .pre .0))
+mul-f c =
+    let args = c .before .before .before .before .before .before .args in
+    let b : getD (args .slots .now) (c .before .before .loop .place) 0 < args .t1 .count = known-below _ (args .slots .now) (c .before .before .before .before .before .before .pre .1) (c .before .before .loop .place) (omega arith) in
+    omega (arith, b, valid-count (args .t1) (c .before .before .before .before .before .before .pre .0))
 
 element-copy-out-f : tie.Need-element-copy-out-f Inv-loop μ-loop
-element-copy-out-f c = let b : getD (c .before .before .before .before .before .before .args .slots .now) (c .before .before .loop .place) 0 < c .before .before .before .before .before .before .args .t1 .count = known-below _ (c .before .before .before .before .before .before .args .slots .now) (c .before .before .before .before .before .before .pre .1) (c .before .before .loop .place) (omega arith) in omega (arith, b, valid-count (c .before .before .before .before .before .before .args .t1) (c .before .before .before .before .before .before .pre .0))
+element-copy-out-f c =
+    let args = c .before .before .before .before .before .before .args in
+    let b : getD (args .slots .now) (c .before .before .loop .place) 0 < args .t1 .count = known-below _ (args .slots .now) (c .before .before .before .before .before .before .pre .1) (c .before .before .loop .place) (omega arith) in
+    omega (arith, b, valid-count (args .t1) (c .before .before .before .before .before .before .pre .0))
 
 factor-placed-requires : tie.Need-factor-placed-requires Inv-loop μ-loop
-factor-placed-requires c κs = valid-touched (c .before .before .before .before .before .before .before .args .t1) (c .before .before .before .before .before .before .before .pre .0) _ (known-below _ (c .before .before .before .before .before .before .before .args .slots .now) (c .before .before .before .before .before .before .before .pre .1) (c .before .before .before .loop .place) (omega arith))
+factor-placed-requires c κs =
+    let args = c .before .before .before .before .before .before .before .args in
+    let pre = c .before .before .before .before .before .before .before .pre in
+    valid-touched (args .t1) (pre .0) _ (known-below _ (args .slots .now) (pre .1) (c .before .before .before .loop .place) (omega arith))
 
 returns : tie.Need-returns Inv-loop μ-loop
 unfolding allPlaced
-returns c = sym (all-fail (λ i. factorPlaced (c .before .before .before .before .before .before .before .before .before .args .kept .now) (c .before .before .before .before .before .before .before .before .before .args .cleared .now) (factorAt (c .before .before .before .before .before .before .before .before .before .args .t1) (getD (c .before .before .before .before .before .before .before .before .before .args .slots .now) i 0))) _ (c .before .before .before .before .before .loop .place) (omega arith) (tells (c .before .factor-placed .ensures) (not-true _ (c .if1 .taken))))
+returns c =
+    let args = c .before .before .before .before .before .before .before .before .before .args in
+    sym (all-fail (λ i. factorPlaced (args .kept .now) (args .cleared .now) (factorAt (args .t1) (getD (args .slots .now) i 0))) _ (c .before .before .before .before .before .loop .place) (omega arith) (tells (c .before .factor-placed .ensures) (not-true _ (c .if1 .taken))))
 
 add-place : tie.Need-add-place Inv-loop μ-loop
 add-place c = search needs
@@ -50,11 +61,17 @@ loop-less : tie.Need-loop-less Inv-loop μ-loop
 loop-less c = search needs
 
 loop-again : tie.Need-loop-again Inv-loop μ-loop
-loop-again c = (c .before .before .before .before .before .loop .inv .0, omega arith, all-more _ _ (c .before .before .before .before .before .loop .inv .2) (tells (c .before .factor-placed .ensures) (not-false _ (c .if1 .left))))
+loop-again c = (
+  c .before .before .before .before .before .loop .inv .0,
+  omega arith,
+  all-more _ _ (c .before .before .before .before .before .loop .inv .2) (tells (c .before .factor-placed .ensures) (not-false _ (c .if1 .left))),
+)
 
 returns-2 : tie.Need-returns-2 Inv-loop μ-loop
 unfolding allPlaced
-returns-2 c = let e : c .before .loop .place ≡ length (c .before .before .before .before .before .args .slots .now) = omega arith in sym (rw e at (c .before .loop .inv .2))
+returns-2 c =
+    let e : c .before .loop .place ≡ length (c .before .before .before .before .before .args .slots .now) = omega arith in
+    sym (rw e at (c .before .loop .inv .2))
 
 pub all-placed-spec : {M : Type 1} → statement M
 all-placed-spec =

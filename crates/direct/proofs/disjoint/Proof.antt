@@ -32,7 +32,9 @@ member-requires c κs = search needs
 
 returns : tie.Need-returns Inv-loop μ-loop
 unfolding disjoint
-returns c = sym (all-fail (λ i. not (member (getD (c .before .before .before .before .before .before .before .args .kept .now) i 0) (c .before .before .before .before .before .before .before .args .cleared .now))) _ (c .before .before .before .before .loop .place) (omega arith) (ap not (tells (c .before .member .ensures) (c .if1 .taken))))
+returns c =
+    let args = c .before .before .before .before .before .before .before .args in
+    sym (all-fail (λ i. not (member (getD (args .kept .now) i 0) (args .cleared .now))) _ (c .before .before .before .before .loop .place) (omega arith) (ap not (tells (c .before .member .ensures) (c .if1 .taken))))
 
 add-place : tie.Need-add-place Inv-loop μ-loop
 add-place c = search needs
@@ -41,11 +43,17 @@ loop-less : tie.Need-loop-less Inv-loop μ-loop
 loop-less c = search needs
 
 loop-again : tie.Need-loop-again Inv-loop μ-loop
-loop-again c = (c .before .before .before .before .loop .inv .0, omega arith, all-more _ _ (c .before .before .before .before .loop .inv .2) (ap not (tells (c .before .member .ensures) (c .if1 .left))))
+loop-again c = (
+  c .before .before .before .before .loop .inv .0,
+  omega arith,
+  all-more _ _ (c .before .before .before .before .loop .inv .2) (ap not (tells (c .before .member .ensures) (c .if1 .left))),
+)
 
 returns-2 : tie.Need-returns-2 Inv-loop μ-loop
 unfolding disjoint
-returns-2 c = let e : c .before .loop .place ≡ length (c .before .before .before .before .args .kept .now) = omega arith in sym (rw e at (c .before .loop .inv .2))
+returns-2 c =
+    let e : c .before .loop .place ≡ length (c .before .before .before .before .args .kept .now) = omega arith in
+    sym (rw e at (c .before .loop .inv .2))
 
 pub disjoint-spec : {M : Type 1} → statement M
 disjoint-spec =

@@ -18,7 +18,9 @@ enum-known-why : tie.Need-enum-known-why
 enum-known-why c = search needs
 
 returns : tie.Need-returns
-returns c = turned-back _ _ (c .before .before .before .before .before .before .before .before .before .before .args .messages .now) (stopped (c .before .before .before .before .before .before .before .before .before .before .args .g) (c .before .before .before .before .before .before .before .before .before .before .args .slots .now) (c .before .before .before .before .before .before .before .before .before .before .args .kept .now) (c .before .before .before .before .before .before .before .before .before .before .args .cleared .now) (c .before .before .before .before .before .before .before .before .before .before .args .factors .now) (length (c .before .before .before .before .before .before .before .before .before .before .args .messages .now)) (length (c .before .before .before .before .before .before .before .before .before .before .args .work .now)) _ (tells (c .before .why .given .1) (c .before .before .before .check .ensures)))
+returns c =
+    let args = c .before .before .before .before .before .before .before .before .before .before .args in
+    turned-back _ _ (args .messages .now) (stopped (args .g) (args .slots .now) (args .kept .now) (args .cleared .now) (args .factors .now) (length (args .messages .now)) (length (args .work .now)) _ (tells (c .before .why .given .1) (c .before .before .before .check .ensures)))
 
 slice-aggregate-fill-originals : tie.Need-slice-aggregate-fill-originals
 slice-aggregate-fill-originals c = search needs
@@ -27,7 +29,11 @@ slice-aggregate-fill-originals-2 : tie.Need-slice-aggregate-fill-originals-2
 slice-aggregate-fill-originals-2 c = search needs
 
 fill-originals-requires : tie.Need-fill-originals-requires
-fill-originals-requires c κs = ((admitted (c .before .before .before .before .before .before .before .before .before .before .before .args .g) (c .before .before .before .before .before .before .before .before .before .before .before .args .slots .now) (c .before .before .before .before .before .before .before .before .before .before .before .args .kept .now) (c .before .before .before .before .before .before .before .before .before .before .before .args .cleared .now) (c .before .before .before .before .before .before .before .before .before .before .before .args .factors .now) (tells (c .before .before .enum-told .given .1) (c .before .before .before .before .check .ensures))) .reached, (omega arith, omega arith))
+fill-originals-requires c κs =
+    let args = c .before .before .before .before .before .before .before .before .before .before .before .args in (
+      (admitted (args .g) (args .slots .now) (args .kept .now) (args .cleared .now) (args .factors .now) (tells (c .before .before .enum-told .given .1) (c .before .before .before .before .check .ensures))) .reached,
+      (omega arith, omega arith),
+    )
 
 slice-aggregate-eliminate-from : tie.Need-slice-aggregate-eliminate-from
 slice-aggregate-eliminate-from c = search needs
@@ -36,7 +42,11 @@ slice-aggregate-eliminate-from-2 : tie.Need-slice-aggregate-eliminate-from-2
 slice-aggregate-eliminate-from-2 c = search needs
 
 eliminate-from-requires : tie.Need-eliminate-from-requires
-eliminate-from-requires c κs = (admitted (c .before .before .before .before .before .before .before .before .before .before .before .before .before .before .before .before .before .before .args .g) (c .before .before .before .before .before .before .before .before .before .before .before .before .before .before .before .before .before .before .args .slots .now) (c .before .before .before .before .before .before .before .before .before .before .before .before .before .before .before .before .before .before .args .kept .now) (c .before .before .before .before .before .before .before .before .before .before .before .before .before .before .before .before .before .before .args .cleared .now) (c .before .before .before .before .before .before .before .before .before .before .before .before .before .before .before .before .before .before .args .factors .now) (tells (c .before .before .before .before .before .before .before .before .before .enum-told .given .1) (c .before .before .before .before .before .before .before .before .before .before .before .check .ensures)), c .before .before .before .before .before .before .fill-originals .ensures)
+eliminate-from-requires c κs =
+    let args = c .before .before .before .before .before .before .before .before .before .before .before .before .before .before .before .before .before .before .args in (
+      admitted (args .g) (args .slots .now) (args .kept .now) (args .cleared .now) (args .factors .now) (tells (c .before .before .before .before .before .before .before .before .before .enum-told .given .1) (c .before .before .before .before .before .before .before .before .before .before .before .check .ensures)),
+      c .before .before .before .before .before .before .fill-originals .ensures,
+    )
 
 same-length : tie.Need-same-length
 same-length c = search needs

@@ -37,7 +37,10 @@ placed-requires c κs = search needs
 
 returns : tie.Need-returns Inv-loop μ-loop
 unfolding factorPlaced
-returns c = sym (all-fail (λ j. member (keyAt (c .before .before .before .before .before .before .before .before .before .args .t3) j) (c .before .before .before .before .before .before .before .before .before .args .cleared .now) || member (keyAt (c .before .before .before .before .before .before .before .before .before .args .t3) j) (c .before .before .before .before .before .before .before .before .before .args .kept .now)) _ (c .before .before .before .before .before .loop .place) (omega (arith, c .before .before .before .before .before .loop .inv .0)) (key-tells (c .before .before .before .before .before .before .before .before .before .args .kept .now) (c .before .before .before .before .before .before .before .before .before .args .cleared .now) _ (keyAt (c .before .before .before .before .before .before .before .before .before .args .t3) (c .before .before .before .before .before .loop .place)) _ _ (c .before .before .wide2 .ensures) (c .before .placed .ensures) (not-true _ (c .if1 .taken))))
+returns c =
+    let args = c .before .before .before .before .before .before .before .before .before .args in
+    let loop = c .before .before .before .before .before .loop in
+    sym (all-fail (λ j. member (keyAt (args .t3) j) (args .cleared .now) || member (keyAt (args .t3) j) (args .kept .now)) _ (loop .place) (omega (arith, loop .inv .0)) (key-tells (args .kept .now) (args .cleared .now) _ (keyAt (args .t3) (loop .place)) _ _ (c .before .before .wide2 .ensures) (c .before .placed .ensures) (not-true _ (c .if1 .taken))))
 
 add-place : tie.Need-add-place Inv-loop μ-loop
 add-place c = search needs
@@ -46,11 +49,19 @@ loop-less : tie.Need-loop-less Inv-loop μ-loop
 loop-less c = search needs
 
 loop-again : tie.Need-loop-again Inv-loop μ-loop
-loop-again c = (c .before .before .before .before .before .loop .inv .0, omega arith, all-more _ _ (c .before .before .before .before .before .loop .inv .2) (key-tells (c .before .before .before .before .before .before .before .before .before .args .kept .now) (c .before .before .before .before .before .before .before .before .before .args .cleared .now) _ (keyAt (c .before .before .before .before .before .before .before .before .before .args .t3) (c .before .before .before .before .before .loop .place)) _ _ (c .before .before .wide2 .ensures) (c .before .placed .ensures) (not-false _ (c .if1 .left))))
+loop-again c =
+    let args = c .before .before .before .before .before .before .before .before .before .args in
+    let loop = c .before .before .before .before .before .loop in (
+      loop .inv .0,
+      omega arith,
+      all-more _ _ (loop .inv .2) (key-tells (args .kept .now) (args .cleared .now) _ (keyAt (args .t3) (loop .place)) _ _ (c .before .before .wide2 .ensures) (c .before .placed .ensures) (not-false _ (c .if1 .left))),
+    )
 
 returns-2 : tie.Need-returns-2 Inv-loop μ-loop
 unfolding factorPlaced
-returns-2 c = let e : c .before .loop .place ≡ c .before .before .before .before .before .args .t3 .touched = omega (arith, c .before .loop .inv .0) in sym (rw e at (c .before .loop .inv .2))
+returns-2 c =
+    let e : c .before .loop .place ≡ c .before .before .before .before .before .args .t3 .touched = omega (arith, c .before .loop .inv .0) in
+    sym (rw e at (c .before .loop .inv .2))
 
 pub factor-placed-spec : {M : Type 1} → statement M
 factor-placed-spec =

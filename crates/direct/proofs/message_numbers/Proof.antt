@@ -18,19 +18,29 @@ message-rows-requires : tie.Need-message-rows-requires
 message-rows-requires c κs = search needs
 
 mul-result : tie.Need-mul-result
-mul-result c = let l = numbers-low _ _ _ _ (c .message-rows .ensures) (c .before .before .dim-of .ensures) (c .before .before .before .before .before .before .before .before .before .pre .0 .0 .total) in omega (arith, l .0, l .1, l .2)
+mul-result c =
+    let l = numbers-low _ _ _ _ (c .message-rows .ensures) (c .before .before .dim-of .ensures) (c .before .before .before .before .before .before .before .before .before .pre .0 .0 .total) in
+    omega (arith, l .0, l .1, l .2)
 
 add-result : tie.Need-add-result
-add-result c = let l = numbers-low _ _ _ _ (c .message-rows .ensures) (c .before .before .dim-of .ensures) (c .before .before .before .before .before .before .before .before .before .pre .0 .0 .total) in omega (arith, l .0, l .1, l .2)
+add-result c =
+    let l = numbers-low _ _ _ _ (c .message-rows .ensures) (c .before .before .dim-of .ensures) (c .before .before .before .before .before .before .before .before .before .pre .0 .0 .total) in
+    omega (arith, l .0, l .1, l .2)
 
 mul-result-2 : tie.Need-mul-result-2
-mul-result-2 c = let l = numbers-low _ _ _ _ (c .message-rows .ensures) (c .before .before .dim-of .ensures) (c .before .before .before .before .before .before .before .before .before .pre .0 .0 .total) in omega (arith, l .0, l .1, l .2)
+mul-result-2 c =
+    let l = numbers-low _ _ _ _ (c .message-rows .ensures) (c .before .before .dim-of .ensures) (c .before .before .before .before .before .before .before .before .before .pre .0 .0 .total) in
+    omega (arith, l .0, l .1, l .2)
 
 add-result-2 : tie.Need-add-result-2
-add-result-2 c = let l = numbers-low _ _ _ _ (c .message-rows .ensures) (c .before .before .dim-of .ensures) (c .before .before .before .before .before .before .before .before .before .pre .0 .0 .total) in omega (arith, l .0, l .1, l .2)
+add-result-2 c =
+    let l = numbers-low _ _ _ _ (c .message-rows .ensures) (c .before .before .dim-of .ensures) (c .before .before .before .before .before .before .before .before .before .pre .0 .0 .total) in
+    omega (arith, l .0, l .1, l .2)
 
 returns : tie.Need-returns
-returns c = numbers-are _ _ (c .before .before .before .before .before .before .before .before .before .args .keys .now) (c .before .before .before .before .before .before .before .before .before .args .heads .now) (c .before .before .before .before .before .before .before .before .before .args .slots .now) _ _ _ _ (c .before .before .before .layout-of .ensures) (c .before .before .dim-of .ensures) (c .before .count-rows .ensures) (c .message-rows .ensures)
+returns c =
+    let args = c .before .before .before .before .before .before .before .before .before .args in
+    numbers-are _ _ (args .keys .now) (args .heads .now) (args .slots .now) _ _ _ _ (c .before .before .before .layout-of .ensures) (c .before .before .dim-of .ensures) (c .before .count-rows .ensures) (c .message-rows .ensures)
 
 pub message-numbers-spec : {M : Type 1} → statement M
 message-numbers-spec =

@@ -40,7 +40,14 @@ loop-less : tie.Need-loop-less Inv-loop μ-loop
 loop-less c = search needs
 
 loop-again : tie.Need-loop-again Inv-loop μ-loop
-loop-again c = (c .before .before .loop .inv .0, omega arith, copy-more (c .before .before .before .args .dst .now) (c .before .before .loop .dst) (c .before .before .before .args .at) (c .before .before .before .args .src .now) (c .before .before .loop .j) _ (c .before .before .loop .inv .2) (omega arith) (omega arith), simp length-set (c .before .before .loop .inv .3))
+loop-again c =
+    let args = c .before .before .before .args in
+    let loop = c .before .before .loop in (
+      loop .inv .0,
+      omega arith,
+      copy-more (args .dst .now) (loop .dst) (args .at) (args .src .now) (loop .j) _ (loop .inv .2) (omega arith) (omega arith),
+      simp length-set (loop .inv .3),
+    )
 
 same-length : tie.Need-same-length Inv-loop μ-loop
 same-length c = c .before .loop .inv .3

@@ -45,7 +45,10 @@ shared-slice-read-packed : tie.Need-shared-slice-read-packed Inv-loop μ-loop
 shared-slice-read-packed c = search needs
 
 cast-packed : tie.Need-cast-packed Inv-loop μ-loop
-cast-packed c = let b : getD (c .before .before .before .args .keys .now) (c .before .before .loop .place) 0 < max-variables = ltb-true _ _ (all-at (λ j. ltb (getD (c .before .before .before .args .keys .now) j 0) max-variables) (length (c .before .before .before .args .keys .now)) (c .before .before .loop .place) (c .before .before .before .pre .2) (omega arith)) in search needs
+cast-packed c =
+    let args = c .before .before .before .args in
+    let b : getD (args .keys .now) (c .before .before .loop .place) 0 < max-variables = ltb-true _ _ (all-at (λ j. ltb (getD (args .keys .now) j 0) max-variables) (length (args .keys .now)) (c .before .before .loop .place) (c .before .before .before .pre .2) (omega arith)) in
+    search needs
 
 array-write-packed : tie.Need-array-write-packed Inv-loop μ-loop
 array-write-packed c = search needs
@@ -57,7 +60,12 @@ loop-less : tie.Need-loop-less Inv-loop μ-loop
 loop-less c = search needs
 
 loop-again : tie.Need-loop-again Inv-loop μ-loop
-loop-again c = (omega arith, c .before .before .loop .inv .1, pack-more (c .before .before .before .args .keys .now) (c .before .before .loop .packed) (c .before .before .loop .place) max-keys (omega arith) (omega arith) (c .before .before .loop .inv .2))
+loop-again c =
+    let loop = c .before .before .loop in (
+      omega arith,
+      loop .inv .1,
+      pack-more (c .before .before .before .args .keys .now) (loop .packed) (loop .place) max-keys (omega arith) (omega arith) (loop .inv .2),
+    )
 
 cast-t14 : tie.Need-cast-t14 Inv-loop μ-loop
 cast-t14 c = search needs

@@ -34,10 +34,16 @@ loop-less : tie.Need-loop-less Inv-loop μ-loop
 loop-less c = search needs
 
 loop-again : tie.Need-loop-again Inv-loop μ-loop
-loop-again c = (c .before .before .before .loop .inv .0, omega arith, all-more _ _ (c .before .before .before .loop .inv .2) (tells (c .before .above .ensures) (not-false _ (c .if1 .left))))
+loop-again c = (
+  c .before .before .before .loop .inv .0,
+  omega arith,
+  all-more _ _ (c .before .before .before .loop .inv .2) (tells (c .before .above .ensures) (not-false _ (c .if1 .left))),
+)
 
 returns-2 : tie.Need-returns-2 Inv-loop μ-loop
-returns-2 c = let e : c .before .loop .place ≡ length (c .before .before .before .args .keys .now) = omega arith in sym (rw e at (c .before .loop .inv .2))
+returns-2 c =
+    let e : c .before .loop .place ≡ length (c .before .before .before .args .keys .now) = omega arith in
+    sym (rw e at (c .before .loop .inv .2))
 
 pub rising-spec : {M : Type 1} → statement M
 rising-spec =

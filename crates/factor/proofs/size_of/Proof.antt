@@ -21,7 +21,10 @@ wide-requires : tie.Need-wide-requires
 wide-requires c κs = search needs
 
 returns : tie.Need-returns
-returns c = (c .wide .ensures, let b : getD (c .before .before .args .t1) (c .before .before .args .key) 0 < 256 = small (search needs) in omega (arith, c .wide .ensures))
+returns c = (
+  c .wide .ensures,
+  let b : getD (c .before .before .args .t1) (c .before .before .args .key) 0 < 256 = small (search needs) in omega (arith, c .wide .ensures),
+)
 
 returns-2 : tie.Need-returns-2
 returns-2 c = (sym (no-size (c .before .args .t1) (c .before .args .key) (search needs)), search needs)

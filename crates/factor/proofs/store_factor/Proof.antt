@@ -53,7 +53,12 @@ part-w-end c = omega (arith, room (c .before .before .before .before .before .be
 
 store-by-requires : tie.Need-store-by-requires
 unfolding ofBits
-store-by-requires c κs = (c .before .before .before .before .before .before .before .before .pre, lent (c .before .before .before .before .before .before .before .before .args .n) _ _ _ (c .before .before .before .before .before .before .before .before .pre .rows) (front-replicate plus-zero (max-rows * max-rows) (c .before .before .before .before .before .before .before .before .args .n * c .before .before .before .before .before .before .before .before .args .n) (room (c .before .before .before .before .before .before .before .before .args .n) (c .before .before .before .before .before .before .before .before .pre .rows))) (front-replicate plus-zero max-rows (c .before .before .before .before .before .before .before .before .args .n) (c .before .before .before .before .before .before .before .before .pre .rows)) (front-replicate plus-zero (max-rows * max-rows) (c .before .before .before .before .before .before .before .before .args .n * c .before .before .before .before .before .before .before .before .args .n) (room (c .before .before .before .before .before .before .before .before .args .n) (c .before .before .before .before .before .before .before .before .pre .rows))))
+store-by-requires c κs =
+    let args = c .before .before .before .before .before .before .before .before .args in
+    let pre = c .before .before .before .before .before .before .before .before .pre in (
+      pre,
+      lent (args .n) _ _ _ (pre .rows) (front-replicate plus-zero (max-rows * max-rows) (args .n * args .n) (room (args .n) (pre .rows))) (front-replicate plus-zero max-rows (args .n) (pre .rows)) (front-replicate plus-zero (max-rows * max-rows) (args .n * args .n) (room (args .n) (pre .rows))),
+    )
 
 same-length : tie.Need-same-length
 same-length c = search needs

@@ -28,10 +28,20 @@ returns : tie.Need-returns
 returns c = stopped _ _ _ _ _ (c .before .before .before .before .cholesky .ensures .0) (c .before .before .before .before .cholesky .ensures .1) (c .enum-told2 .given .1)
 
 solve-requires : tie.Need-solve-requires
-solve-requires c κs = (dense (c .before .before .before .before .before .before .before .before .before .before .before .args .n) (c .before .before .before .before .before .before .before .before .before .before .before .args .n) _ (omega (arith, c .before .before .before .before .before .before .cholesky .kept .0, c .before .before .before .before .before .before .before .before .before .before .before .pre .of-l)), λ i h. omega (arith, c .before .before .before .before .before .before .before .before .before .before .before .pre .of-xi))
+solve-requires c κs =
+    let args = c .before .before .before .before .before .before .before .before .before .before .before .args in
+    let pre = c .before .before .before .before .before .before .before .before .before .before .before .pre in (
+      dense (args .n) (args .n) _ (omega (arith, c .before .before .before .before .before .before .cholesky .kept .0, pre .of-l)),
+      λ i h. omega (arith, pre .of-xi),
+    )
 
 inverse-requires : tie.Need-inverse-requires
-inverse-requires c κs = (dense (c .before .before .before .before .before .before .before .before .before .before .before .before .before .before .before .before .args .n) (c .before .before .before .before .before .before .before .before .before .before .before .before .before .before .before .before .args .n) _ (omega (arith, c .before .before .before .before .before .before .before .before .before .before .before .cholesky .kept .0, c .before .before .before .before .before .before .before .before .before .before .before .before .before .before .before .before .pre .of-l)), dense (c .before .before .before .before .before .before .before .before .before .before .before .before .before .before .before .before .args .n) (c .before .before .before .before .before .before .before .before .before .before .before .before .before .before .before .before .args .n) _ (omega (arith, ap length (c .before .before .before .before .before .before .before .before .before .before .before .before .before .before .before .before .pre .of-w), length-replicate (c .before .before .before .before .before .before .before .before .before .before .before .before .before .before .before .before .args .n * c .before .before .before .before .before .before .before .before .before .before .before .before .before .before .before .before .args .n) plus-zero)))
+inverse-requires c κs =
+    let args = c .before .before .before .before .before .before .before .before .before .before .before .before .before .before .before .before .args in
+    let pre = c .before .before .before .before .before .before .before .before .before .before .before .before .before .before .before .before .pre in (
+      dense (args .n) (args .n) _ (omega (arith, c .before .before .before .before .before .before .before .before .before .before .before .cholesky .kept .0, pre .of-l)),
+      dense (args .n) (args .n) _ (omega (arith, ap length (pre .of-w), length-replicate (args .n * args .n) plus-zero)),
+    )
 
 finite-requires : tie.Need-finite-requires
 finite-requires c κs = search needs
@@ -46,7 +56,9 @@ same-length-4 : tie.Need-same-length-4
 same-length-4 c = search needs
 
 returns-2 : tie.Need-returns-2
-returns-2 c = xi-overflows _ _ _ _ _ (c .before .before .before .before .before .before .before .before .before .before .before .before .before .before .before .before .before .cholesky .ensures .0) (c .before .before .before .before .before .before .before .before .before .before .before .before .before .before .before .before .before .cholesky .ensures .1) (c .before .before .before .before .before .before .before .before .before .before .before .before .before .enum-told .given .1) _ _ _ (c .before .before .before .before .before .before .before .before .before .before .before .before .before .before .before .before .before .before .before .before .before .before .pre .of-w) (c .before .before .before .before .before .before .before .before .before .before .solve .ensures) (c .before .before .before .before .before .inverse .ensures) (tells (c .before .finite .ensures) (not-true _ (c .if1 .taken)))
+returns-2 c =
+    let cholesky = c .before .before .before .before .before .before .before .before .before .before .before .before .before .before .before .before .before .cholesky in
+    xi-overflows _ _ _ _ _ (cholesky .ensures .0) (cholesky .ensures .1) (c .before .before .before .before .before .before .before .before .before .before .before .before .before .enum-told .given .1) _ _ _ (c .before .before .before .before .before .before .before .before .before .before .before .before .before .before .before .before .before .before .before .before .before .before .pre .of-w) (c .before .before .before .before .before .before .before .before .before .before .solve .ensures) (c .before .before .before .before .before .inverse .ensures) (tells (c .before .finite .ensures) (not-true _ (c .if1 .taken)))
 
 finite-requires-2 : tie.Need-finite-requires-2
 finite-requires-2 c κs = search needs
@@ -61,7 +73,9 @@ same-length-7 : tie.Need-same-length-7
 same-length-7 c = search needs
 
 returns-3 : tie.Need-returns-3
-returns-3 c = w-overflows _ _ _ _ _ (c .before .before .before .before .before .before .before .before .before .before .before .before .before .before .before .before .before .before .before .before .cholesky .ensures .0) (c .before .before .before .before .before .before .before .before .before .before .before .before .before .before .before .before .before .before .before .before .cholesky .ensures .1) (c .before .before .before .before .before .before .before .before .before .before .before .before .before .before .before .before .enum-told .given .1) _ _ _ (c .before .before .before .before .before .before .before .before .before .before .before .before .before .before .before .before .before .before .before .before .before .before .before .before .before .pre .of-w) (c .before .before .before .before .before .before .before .before .before .before .before .before .before .solve .ensures) (c .before .before .before .before .before .before .before .before .inverse .ensures) (tells (c .before .before .before .before .finite .ensures) (not-false _ (c .before .before .before .if1 .left))) (tells (c .before .finite2 .ensures) (not-true _ (c .if2 .taken)))
+returns-3 c =
+    let cholesky = c .before .before .before .before .before .before .before .before .before .before .before .before .before .before .before .before .before .before .before .before .cholesky in
+    w-overflows _ _ _ _ _ (cholesky .ensures .0) (cholesky .ensures .1) (c .before .before .before .before .before .before .before .before .before .before .before .before .before .before .before .before .enum-told .given .1) _ _ _ (c .before .before .before .before .before .before .before .before .before .before .before .before .before .before .before .before .before .before .before .before .before .before .before .before .before .pre .of-w) (c .before .before .before .before .before .before .before .before .before .before .before .before .before .solve .ensures) (c .before .before .before .before .before .before .before .before .inverse .ensures) (tells (c .before .before .before .before .finite .ensures) (not-false _ (c .before .before .before .if1 .left))) (tells (c .before .finite2 .ensures) (not-true _ (c .if2 .taken)))
 
 same-length-8 : tie.Need-same-length-8
 same-length-8 c = search needs
@@ -73,7 +87,9 @@ same-length-10 : tie.Need-same-length-10
 same-length-10 c = search needs
 
 returns-4 : tie.Need-returns-4
-returns-4 c = all-finite _ _ _ _ _ (c .before .before .before .before .before .before .before .before .before .before .before .before .before .before .before .before .before .before .before .before .cholesky .ensures .0) (c .before .before .before .before .before .before .before .before .before .before .before .before .before .before .before .before .before .before .before .before .cholesky .ensures .1) (c .before .before .before .before .before .before .before .before .before .before .before .before .before .before .before .before .enum-told .given .1) _ _ _ (c .before .before .before .before .before .before .before .before .before .before .before .before .before .before .before .before .before .before .before .before .before .before .before .before .before .pre .of-w) (c .before .before .before .before .before .before .before .before .before .before .before .before .before .solve .ensures) (c .before .before .before .before .before .before .before .before .inverse .ensures) (tells (c .before .before .before .before .finite .ensures) (not-false _ (c .before .before .before .if1 .left))) (tells (c .before .finite2 .ensures) (not-false _ (c .if2 .left)))
+returns-4 c =
+    let cholesky = c .before .before .before .before .before .before .before .before .before .before .before .before .before .before .before .before .before .before .before .before .cholesky in
+    all-finite _ _ _ _ _ (cholesky .ensures .0) (cholesky .ensures .1) (c .before .before .before .before .before .before .before .before .before .before .before .before .before .before .before .before .enum-told .given .1) _ _ _ (c .before .before .before .before .before .before .before .before .before .before .before .before .before .before .before .before .before .before .before .before .before .before .before .before .before .pre .of-w) (c .before .before .before .before .before .before .before .before .before .before .before .before .before .solve .ensures) (c .before .before .before .before .before .before .before .before .inverse .ensures) (tells (c .before .before .before .before .finite .ensures) (not-false _ (c .before .before .before .if1 .left))) (tells (c .before .finite2 .ensures) (not-false _ (c .if2 .left)))
 
 pub weigh-spec : {M : Type 1} → statement M
 weigh-spec =

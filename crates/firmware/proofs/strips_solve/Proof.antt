@@ -18,13 +18,19 @@ same-length : tie.Need-same-length
 same-length c = search needs
 
 returns : tie.Need-returns
-returns c = (sym (ap answerOf (c .before .answer .given .1)) ∙ ap answerOf (c .before .before .before .before .before .solve .ensures .0), c .before .before .before .before .before .solve .ensures .1)
+returns c = (
+  sym (ap answerOf (c .before .answer .given .1)) ∙ ap answerOf (c .before .before .before .before .before .solve .ensures .0),
+  c .before .before .before .before .before .solve .ensures .1,
+)
 
 same-length-2 : tie.Need-same-length-2
 same-length-2 c = search needs
 
 returns-2 : tie.Need-returns-2
-returns-2 c = (sym (ap answerOf (c .enum-told .given .1)) ∙ ap answerOf (c .before .before .before .before .solve .ensures .0), c .before .before .before .before .solve .ensures .1)
+returns-2 c = (
+  sym (ap answerOf (c .enum-told .given .1)) ∙ ap answerOf (c .before .before .before .before .solve .ensures .0),
+  c .before .before .before .before .solve .ensures .1,
+)
 
 pub strips-solve-spec : {M : Type 1} → statement M
 strips-solve-spec =

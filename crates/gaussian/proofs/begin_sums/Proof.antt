@@ -42,7 +42,9 @@ same-length-2 : tie.Need-same-length-2
 same-length-2 c = search needs
 
 returns-2 : tie.Need-returns-2
-returns-2 c = begun-x (c .before .before .before .before .before .before .before .before .before .before .args .f) (c .before .before .before .before .before .before .before .before .before .before .args .work .now) _ (c .before .before .before .before .before .before .before .before .before .before .pre .0) (c .before .before .before .before .before .before .before .zero .ensures) _ _ (c .before .before .before .before .if1 .left) (c .before .before .fill-diagonal-at .ensures)
+returns-2 c =
+    let args = c .before .before .before .before .before .before .before .before .before .before .args in
+    begun-x (args .f) (args .work .now) _ (c .before .before .before .before .before .before .before .before .before .before .pre .0) (c .before .before .before .before .before .before .before .zero .ensures) _ _ (c .before .before .before .before .if1 .left) (c .before .before .fill-diagonal-at .ensures)
 
 pub begin-sums-spec : {M : Type 1} → statement M
 begin-sums-spec =

@@ -22,7 +22,12 @@ dim-of-requires-2 : tie.Need-dim-of-requires-2
 dim-of-requires-2 c κs = c .before .before .before .before .before .before .before .before .before .before .before .before .before .before .before .before .before .pre .0 .kept-listed
 
 send-requires : tie.Need-send-requires
-send-requires c κs = let g = c .before .before .before .before .before .before .before .before .before .before .before .before .before .before .before .before .before .before .before .before .good in let n : length (c .before .before .before .before .before .before .before .before .before .before .before .before .before .before .before .before .before .before .before .before .args .sizes) ≡ 32 = omega arith in rw (c .before .before .before .dim-of .ensures, c .before .before .dim-of2 .ensures) ((c .before .before .before .before .before .before .before .before .before .before .before .before .before .before .before .before .before .before .before .before .pre .0 .total, few-rows n (c .before .before .before .before .before .before .before .before .before .before .before .before .before .before .before .before .before .before .before .before .pre .0) _ (c .before .before .before .before .before .before .before .before .before .eliminate-in .ensures .0) _ (c .before .before .before .before .before .rows .given .1), omega (arith, c .before .before .before .before .before .before .before .before .before .before .before .before .before .before .before .before .before .before .before .before .pre .0 .enough, c .before .before .before .before .before .before .before .before .before .eliminate-in .kept .1 .1 .0)), has-room n (c .before .before .before .before .before .before .before .before .before .before .before .before .before .before .before .before .before .before .before .before .pre .0) _ (c .before .before .before .before .before .before .before .before .before .eliminate-in .ensures .0) _ (c .before .before .before .before .before .rows .given .1) _ _ (c .before .before .before .before .before .before .before .before .before .before .before .before .before .before .before .before .before .before .before .before .pre .1))
+send-requires c κs =
+    let pre = c .before .before .before .before .before .before .before .before .before .before .before .before .before .before .before .before .before .before .before .before .pre in
+    let eliminate-in = c .before .before .before .before .before .before .before .before .before .eliminate-in in
+    let g = c .before .before .before .before .before .before .before .before .before .before .before .before .before .before .before .before .before .before .before .before .good in
+    let n : length (c .before .before .before .before .before .before .before .before .before .before .before .before .before .before .before .before .before .before .before .before .args .sizes) ≡ 32 = omega arith in
+    rw (c .before .before .before .dim-of .ensures, c .before .before .dim-of2 .ensures) ((pre .0 .total, few-rows n (pre .0) _ (eliminate-in .ensures .0) _ (c .before .before .before .before .before .rows .given .1), omega (arith, pre .0 .enough, eliminate-in .kept .1 .1 .0)), has-room n (pre .0) _ (eliminate-in .ensures .0) _ (c .before .before .before .before .before .rows .given .1) _ _ (pre .1))
 
 enum-told : tie.Need-enum-told
 enum-told c = search needs
@@ -37,7 +42,12 @@ same-length-2 : tie.Need-same-length-2
 same-length-2 c = search needs
 
 returns : tie.Need-returns
-returns c = let g = c .before .before .before .before .before .before .before .before .before .before .before .before .before .before .before .before .before .before .before .before .before .before .before .good in let n : length (c .before .before .before .before .before .before .before .before .before .before .before .before .before .before .before .before .before .before .before .before .before .before .before .args .sizes) ≡ 32 = omega arith in message-sent n (c .before .before .before .before .before .before .before .before .before .before .before .before .before .before .before .before .before .before .before .before .before .before .before .pre .0) _ (c .before .before .before .before .before .before .before .before .before .before .before .before .eliminate-in .ensures .0) _ (c .before .before .before .before .before .before .before .before .rows .given .1) _ (c .before .before .before .before .before .before .before .before .before .before .before .before .eliminate-in .ensures .1) _ _ (c .before .before .before .before .before .before .before .before .before .before .before .before .before .before .before .before .before .before .before .before .before .before .before .args .to) (rw (← c .before .before .before .before .before .before .dim-of .ensures, ← c .before .before .before .before .before .dim-of2 .ensures) (c .before .before .send .ensures))
+returns c =
+    let args = c .before .before .before .before .before .before .before .before .before .before .before .before .before .before .before .before .before .before .before .before .before .before .before .args in
+    let eliminate-in = c .before .before .before .before .before .before .before .before .before .before .before .before .eliminate-in in
+    let g = c .before .before .before .before .before .before .before .before .before .before .before .before .before .before .before .before .before .before .before .before .before .before .before .good in
+    let n : length (args .sizes) ≡ 32 = omega arith in
+    message-sent n (c .before .before .before .before .before .before .before .before .before .before .before .before .before .before .before .before .before .before .before .before .before .before .before .pre .0) _ (eliminate-in .ensures .0) _ (c .before .before .before .before .before .before .before .before .rows .given .1) _ (eliminate-in .ensures .1) _ _ (args .to) (rw (← c .before .before .before .before .before .before .dim-of .ensures, ← c .before .before .before .before .before .dim-of2 .ensures) (c .before .before .send .ensures))
 
 same-length-3 : tie.Need-same-length-3
 same-length-3 c = search needs
@@ -46,7 +56,9 @@ same-length-4 : tie.Need-same-length-4
 same-length-4 c = search needs
 
 returns-2 : tie.Need-returns-2
-returns-2 c = pivot-stored (eliminate (viewsOf (c .before .before .before .before .before .before .before .before .before .before .before .before .before .before .before .args .factors .now) (c .before .before .before .before .before .before .before .before .before .before .before .before .before .before .before .args .messages .now) (c .before .before .before .before .before .before .before .before .before .before .before .before .before .before .before .args .keys .now) (c .before .before .before .before .before .before .before .before .before .before .before .before .before .before .before .args .heads .now) (c .before .before .before .before .before .before .before .before .before .before .before .before .before .before .before .args .slots .now)) (c .before .before .before .before .before .before .before .before .before .before .before .before .before .before .before .args .kept .now) (c .before .before .before .before .before .before .before .before .before .before .before .before .before .before .before .args .cleared .now) (c .before .before .before .before .before .before .before .before .before .before .before .before .before .before .before .args .sizes)) _ (c .before .before .before .before .eliminate-in .ensures .0) _ (c .before .before .before .before .before .before .before .before .before .before .before .before .before .before .before .args .to) (c .enum-told .given .1)
+returns-2 c =
+    let args = c .before .before .before .before .before .before .before .before .before .before .before .before .before .before .before .args in
+    pivot-stored (eliminate (viewsOf (args .factors .now) (args .messages .now) (args .keys .now) (args .heads .now) (args .slots .now)) (args .kept .now) (args .cleared .now) (args .sizes)) _ (c .before .before .before .before .eliminate-in .ensures .0) _ (args .to) (c .enum-told .given .1)
 
 same-length-5 : tie.Need-same-length-5
 same-length-5 c = search needs
@@ -55,7 +67,9 @@ same-length-6 : tie.Need-same-length-6
 same-length-6 c = search needs
 
 returns-3 : tie.Need-returns-3
-returns-3 c = unbounded-stored (eliminate (viewsOf (c .before .before .before .before .before .before .before .before .before .before .before .before .before .before .before .args .factors .now) (c .before .before .before .before .before .before .before .before .before .before .before .before .before .before .before .args .messages .now) (c .before .before .before .before .before .before .before .before .before .before .before .before .before .before .before .args .keys .now) (c .before .before .before .before .before .before .before .before .before .before .before .before .before .before .before .args .heads .now) (c .before .before .before .before .before .before .before .before .before .before .before .before .before .before .before .args .slots .now)) (c .before .before .before .before .before .before .before .before .before .before .before .before .before .before .before .args .kept .now) (c .before .before .before .before .before .before .before .before .before .before .before .before .before .before .before .args .cleared .now) (c .before .before .before .before .before .before .before .before .before .before .before .before .before .before .before .args .sizes)) _ (c .before .before .before .before .eliminate-in .ensures .0) _ (c .before .before .before .before .before .before .before .before .before .before .before .before .before .before .before .args .to) (c .enum-told2 .given .1)
+returns-3 c =
+    let args = c .before .before .before .before .before .before .before .before .before .before .before .before .before .before .before .args in
+    unbounded-stored (eliminate (viewsOf (args .factors .now) (args .messages .now) (args .keys .now) (args .heads .now) (args .slots .now)) (args .kept .now) (args .cleared .now) (args .sizes)) _ (c .before .before .before .before .eliminate-in .ensures .0) _ (args .to) (c .enum-told2 .given .1)
 
 pub eliminate-slots-spec : {M : Type 1} → statement M
 eliminate-slots-spec =

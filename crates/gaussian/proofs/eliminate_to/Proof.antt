@@ -25,7 +25,9 @@ same-length : tie.Need-same-length
 same-length c = search needs
 
 returns : tie.Need-returns
-returns c = pivot-is (c .before .before .before .before .before .before .before .before .before .before .before .before .before .before .before .before .args .z) (c .before .before .before .before .before .before .before .before .before .before .before .before .before .before .before .before .args .f) (c .before .before .before .before .before .before .before .before .before .before .before .before .before .before .before .before .args .layout) (viewAt (c .before .before .before .before .before .before .before .before .before .before .before .before .before .before .before .before .args .factors .now) (c .before .before .before .before .before .before .before .before .before .before .before .before .before .before .before .before .args .messages .now) (c .before .before .before .before .before .before .before .before .before .before .before .before .before .before .before .before .args .keys .now) (c .before .before .before .before .before .before .before .before .before .before .before .before .before .before .before .before .args .heads .now) (c .before .before .before .before .before .before .before .before .before .before .before .before .before .before .before .before .args .slots .now)) (length (c .before .before .before .before .before .before .before .before .before .before .before .before .before .before .before .before .args .slots .now)) _ (c .before .before .before .before .before .before .before .before .sum-up .ensures) _ (c .before .before .before .before .finish .last .0) (c .before .before .before .before .finish .ensures) (c .enum-told2 .given .1)
+returns c =
+    let args = c .before .before .before .before .before .before .before .before .before .before .before .before .before .before .before .before .args in
+    pivot-is (args .z) (args .f) (args .layout) (viewAt (args .factors .now) (args .messages .now) (args .keys .now) (args .heads .now) (args .slots .now)) (length (args .slots .now)) _ (c .before .before .before .before .before .before .before .before .sum-up .ensures) _ (c .before .before .before .before .finish .last .0) (c .before .before .before .before .finish .ensures) (c .enum-told2 .given .1)
 
 mul-finite : tie.Need-mul-finite
 mul-finite c = search needs
@@ -46,13 +48,21 @@ same-length-2 : tie.Need-same-length-2
 same-length-2 c = search needs
 
 returns-2 : tie.Need-returns-2
-returns-2 c = unbounded-is (c .before .before .before .before .before .before .before .before .before .before .before .before .before .before .before .before .before .before .before .before .args .z) (c .before .before .before .before .before .before .before .before .before .before .before .before .before .before .before .before .before .before .before .before .args .f) (c .before .before .before .before .before .before .before .before .before .before .before .before .before .before .before .before .before .before .before .before .args .layout) (viewAt (c .before .before .before .before .before .before .before .before .before .before .before .before .before .before .before .before .before .before .before .before .args .factors .now) (c .before .before .before .before .before .before .before .before .before .before .before .before .before .before .before .before .before .before .before .before .args .messages .now) (c .before .before .before .before .before .before .before .before .before .before .before .before .before .before .before .before .before .before .before .before .args .keys .now) (c .before .before .before .before .before .before .before .before .before .before .before .before .before .before .before .before .before .before .before .before .args .heads .now) (c .before .before .before .before .before .before .before .before .before .before .before .before .before .before .before .before .before .before .before .before .args .slots .now)) (length (c .before .before .before .before .before .before .before .before .before .before .before .before .before .before .before .before .before .before .before .before .args .slots .now)) _ (c .before .before .before .before .before .before .before .before .before .before .before .before .sum-up .ensures) _ (c .before .before .before .before .before .before .before .before .finish .last .0) (relaid (c .before .before .before .before .before .before .before .before .before .before .before .before .before .before .before .before .before .before .before .before .args .f) (c .before .before .before .before .before .before .before .before .finish .kept .0 ∙ c .before .before .before .before .before .before .before .before .before .before .before .before .sum-up .kept .0) (c .before .before .before .before .before .before .before .before .before .before .before .before .before .before .before .before .before .before .before .before .pre .0 .0)) (c .before .before .before .before .before .before .before .before .finish .ensures) (c .before .before .before .before .enum-told .given .1) _ (c .before .finite .ensures) (not-true _ (c .if1 .taken))
+returns-2 c =
+    let args = c .before .before .before .before .before .before .before .before .before .before .before .before .before .before .before .before .before .before .before .before .args in
+    let sum-up = c .before .before .before .before .before .before .before .before .before .before .before .before .sum-up in
+    let finish = c .before .before .before .before .before .before .before .before .finish in
+    unbounded-is (args .z) (args .f) (args .layout) (viewAt (args .factors .now) (args .messages .now) (args .keys .now) (args .heads .now) (args .slots .now)) (length (args .slots .now)) _ (sum-up .ensures) _ (finish .last .0) (relaid (args .f) (finish .kept .0 ∙ sum-up .kept .0) (c .before .before .before .before .before .before .before .before .before .before .before .before .before .before .before .before .before .before .before .before .pre .0 .0)) (finish .ensures) (c .before .before .before .before .enum-told .given .1) _ (c .before .finite .ensures) (not-true _ (c .if1 .taken))
 
 same-length-3 : tie.Need-same-length-3
 same-length-3 c = search needs
 
 returns-3 : tie.Need-returns-3
-returns-3 c = message-is (c .before .before .before .before .before .before .before .before .before .before .before .before .before .before .before .before .before .before .before .before .args .z) (c .before .before .before .before .before .before .before .before .before .before .before .before .before .before .before .before .before .before .before .before .args .f) (c .before .before .before .before .before .before .before .before .before .before .before .before .before .before .before .before .before .before .before .before .args .layout) (viewAt (c .before .before .before .before .before .before .before .before .before .before .before .before .before .before .before .before .before .before .before .before .args .factors .now) (c .before .before .before .before .before .before .before .before .before .before .before .before .before .before .before .before .before .before .before .before .args .messages .now) (c .before .before .before .before .before .before .before .before .before .before .before .before .before .before .before .before .before .before .before .before .args .keys .now) (c .before .before .before .before .before .before .before .before .before .before .before .before .before .before .before .before .before .before .before .before .args .heads .now) (c .before .before .before .before .before .before .before .before .before .before .before .before .before .before .before .before .before .before .before .before .args .slots .now)) (length (c .before .before .before .before .before .before .before .before .before .before .before .before .before .before .before .before .before .before .before .before .args .slots .now)) _ (c .before .before .before .before .before .before .before .before .before .before .before .before .sum-up .ensures) _ (c .before .before .before .before .before .before .before .before .finish .last .0) (relaid (c .before .before .before .before .before .before .before .before .before .before .before .before .before .before .before .before .before .before .before .before .args .f) (c .before .before .before .before .before .before .before .before .finish .kept .0 ∙ c .before .before .before .before .before .before .before .before .before .before .before .before .sum-up .kept .0) (c .before .before .before .before .before .before .before .before .before .before .before .before .before .before .before .before .before .before .before .before .pre .0 .0)) (c .before .before .before .before .before .before .before .before .finish .ensures) (c .before .before .before .before .enum-told .given .1) _ (c .before .finite .ensures) (not-false _ (c .if1 .left))
+returns-3 c =
+    let args = c .before .before .before .before .before .before .before .before .before .before .before .before .before .before .before .before .before .before .before .before .args in
+    let sum-up = c .before .before .before .before .before .before .before .before .before .before .before .before .sum-up in
+    let finish = c .before .before .before .before .before .before .before .before .finish in
+    message-is (args .z) (args .f) (args .layout) (viewAt (args .factors .now) (args .messages .now) (args .keys .now) (args .heads .now) (args .slots .now)) (length (args .slots .now)) _ (sum-up .ensures) _ (finish .last .0) (relaid (args .f) (finish .kept .0 ∙ sum-up .kept .0) (c .before .before .before .before .before .before .before .before .before .before .before .before .before .before .before .before .before .before .before .before .pre .0 .0)) (finish .ensures) (c .before .before .before .before .enum-told .given .1) _ (c .before .finite .ensures) (not-false _ (c .if1 .left))
 
 pub eliminate-to-spec : {M : Type 1} → statement M
 eliminate-to-spec =

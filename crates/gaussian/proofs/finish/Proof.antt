@@ -20,7 +20,9 @@ same-length : tie.Need-same-length
 same-length c = search needs
 
 returns : tie.Need-returns
-returns c = finish-done _ _ _ _ _ _ (c .before .before .before .before .before .before .before .before .cholesky-at .ensures .0) (c .before .before .before .before .before .before .before .before .cholesky-at .ensures .1) (c .before .before .before .before .enum-told .given .1) (c .before .before .lose .ensures)
+returns c =
+    let cholesky-at = c .before .before .before .before .before .before .before .before .cholesky-at in
+    finish-done _ _ _ _ _ _ (cholesky-at .ensures .0) (cholesky-at .ensures .1) (c .before .before .before .before .enum-told .given .1) (c .before .before .lose .ensures)
 
 same-length-2 : tie.Need-same-length-2
 same-length-2 c = search needs

@@ -10,10 +10,16 @@ frame-of-requires : tie.Need-frame-of-requires
 frame-of-requires c κs = let s = c .before .before .pre .0 .0 in let h = c .before .before .pre .0 .1 in (omega arith, omega arith, omega arith)
 
 sub-e : tie.Need-sub-e
-sub-e c = let s = spans _ _ _ _ (c .frame-of .ensures) (c .before .before .before .pre .0 .0) (c .before .before .before .pre .0 .1) in omega (arith, s .ends, s .within, c .before .before .before .pre .0 .2, c .before .before .before .pre .1)
+sub-e c =
+    let pre = c .before .before .before .pre in
+    let s = spans _ _ _ _ (c .frame-of .ensures) (pre .0 .0) (pre .0 .1) in
+    omega (arith, s .ends, s .within, pre .0 .2, pre .1)
 
 add-e : tie.Need-add-e
-add-e c = let s = spans _ _ _ _ (c .frame-of .ensures) (c .before .before .before .pre .0 .0) (c .before .before .before .pre .0 .1) in omega (arith, s .ends, s .within, c .before .before .before .pre .0 .2, c .before .before .before .pre .1)
+add-e c =
+    let pre = c .before .before .before .pre in
+    let s = spans _ _ _ _ (c .frame-of .ensures) (pre .0 .0) (pre .0 .1) in
+    omega (arith, s .ends, s .within, pre .0 .2, pre .1)
 
 mul-copy : tie.Need-mul-copy
 mul-copy c = search needs
@@ -25,19 +31,34 @@ part-copy-start : tie.Need-part-copy-start
 part-copy-start c = search needs
 
 part-copy-end : tie.Need-part-copy-end
-part-copy-end c = let s = spans _ _ _ _ (c .frame-of .ensures) (c .before .before .before .pre .0 .0) (c .before .before .before .pre .0 .1) in omega (arith, s .ends, s .within, c .before .before .before .pre .0 .2, c .before .before .before .pre .1)
+part-copy-end c =
+    let pre = c .before .before .before .pre in
+    let s = spans _ _ _ _ (c .frame-of .ensures) (pre .0 .0) (pre .0 .1) in
+    omega (arith, s .ends, s .within, pre .0 .2, pre .1)
 
 mul-copy-2 : tie.Need-mul-copy-2
-mul-copy-2 c = let s = spans _ _ _ _ (c .before .frame-of .ensures) (c .before .before .before .before .pre .0 .0) (c .before .before .before .before .pre .0 .1) in omega (arith, s .ends, s .within, c .before .before .before .before .pre .0 .2, c .before .before .before .before .pre .1)
+mul-copy-2 c =
+    let pre = c .before .before .before .before .pre in
+    let s = spans _ _ _ _ (c .before .frame-of .ensures) (pre .0 .0) (pre .0 .1) in
+    omega (arith, s .ends, s .within, pre .0 .2, pre .1)
 
 sub-copy-2 : tie.Need-sub-copy-2
-sub-copy-2 c = let s = spans _ _ _ _ (c .before .frame-of .ensures) (c .before .before .before .before .pre .0 .0) (c .before .before .before .before .pre .0 .1) in omega (arith, s .ends, s .within, c .before .before .before .before .pre .0 .2, c .before .before .before .before .pre .1)
+sub-copy-2 c =
+    let pre = c .before .before .before .before .pre in
+    let s = spans _ _ _ _ (c .before .frame-of .ensures) (pre .0 .0) (pre .0 .1) in
+    omega (arith, s .ends, s .within, pre .0 .2, pre .1)
 
 part-copy-start-2 : tie.Need-part-copy-start-2
-part-copy-start-2 c = let s = spans _ _ _ _ (c .before .frame-of .ensures) (c .before .before .before .before .pre .0 .0) (c .before .before .before .before .pre .0 .1) in omega (arith, s .ends, s .within, c .before .before .before .before .pre .0 .2, c .before .before .before .before .pre .1)
+part-copy-start-2 c =
+    let pre = c .before .before .before .before .pre in
+    let s = spans _ _ _ _ (c .before .frame-of .ensures) (pre .0 .0) (pre .0 .1) in
+    omega (arith, s .ends, s .within, pre .0 .2, pre .1)
 
 part-copy-end-2 : tie.Need-part-copy-end-2
-part-copy-end-2 c = let s = spans _ _ _ _ (c .before .frame-of .ensures) (c .before .before .before .before .pre .0 .0) (c .before .before .before .before .pre .0 .1) in omega (arith, s .ends, s .within, c .before .before .before .before .pre .0 .2, c .before .before .before .before .pre .1)
+part-copy-end-2 c =
+    let pre = c .before .before .before .before .pre in
+    let s = spans _ _ _ _ (c .before .frame-of .ensures) (pre .0 .0) (pre .0 .1) in
+    omega (arith, s .ends, s .within, pre .0 .2, pre .1)
 
 copy-requires : tie.Need-copy-requires
 copy-requires c κs = search needs
@@ -46,7 +67,9 @@ same-length : tie.Need-same-length
 same-length c = search needs
 
 returns : tie.Need-returns
-returns c = sent-is (c .before .before .before .before .before .before .before .before .args .u) (c .before .before .before .before .before .before .before .before .args .rows) (c .before .before .before .before .before .before .before .before .args .d) (c .before .before .before .before .before .before .before .before .args .to) _ _ (c .before .before .before .before .before .before .before .before .args .messages .now) (c .before .before .before .before .before .before .before .before .args .work .now) _ (c .before .before .before .before .before .frame-of .ensures) refl (c .before .before .copy .ensures)
+returns c =
+    let args = c .before .before .before .before .before .before .before .before .args in
+    sent-is (args .u) (args .rows) (args .d) (args .to) _ _ (args .messages .now) (args .work .now) _ (c .before .before .before .before .before .frame-of .ensures) refl (c .before .before .copy .ensures)
 
 pub send-spec : {M : Type 1} → statement M
 send-spec =

@@ -14,13 +14,19 @@ slice-aggregate-add-slots : tie.Need-slice-aggregate-add-slots
 slice-aggregate-add-slots c = search needs
 
 add-slots-requires : tie.Need-add-slots-requires
-add-slots-requires c κs = (relaid (c .before .before .before .before .before .before .before .before .before .before .before .before .args .f) (c .before .before .before .before .begin-sums .kept .0) (c .before .before .before .before .before .before .before .before .before .before .before .before .pre .0 .0), (c .before .before .before .before .before .before .before .before .before .before .before .before .pre .1 .0, c .before .before .before .before .before .before .before .before .before .before .before .before .pre .1 .1))
+add-slots-requires c κs =
+    let pre = c .before .before .before .before .before .before .before .before .before .before .before .before .pre in (
+      relaid (c .before .before .before .before .before .before .before .before .before .before .before .before .args .f) (c .before .before .before .before .begin-sums .kept .0) (pre .0 .0),
+      (pre .1 .0, pre .1 .1),
+    )
 
 same-length : tie.Need-same-length
 same-length c = search needs
 
 returns : tie.Need-returns
-returns c = views-from (c .before .before .before .before .before .before .before .before .before .before .before .before .before .before .before .before .args .z) (c .before .before .before .before .before .before .before .before .before .before .before .before .before .before .before .before .args .f) (c .before .before .before .before .before .before .before .before .before .before .before .before .before .before .before .before .args .layout) (viewAt (c .before .before .before .before .before .before .before .before .before .before .before .before .before .before .before .before .args .factors .now) (c .before .before .before .before .before .before .before .before .before .before .before .before .before .before .before .before .args .messages .now) (c .before .before .before .before .before .before .before .before .before .before .before .before .before .before .before .before .args .keys .now) (c .before .before .before .before .before .before .before .before .before .before .before .before .before .before .before .before .args .heads .now) (c .before .before .before .before .before .before .before .before .before .before .before .before .before .before .before .before .args .slots .now)) (length (c .before .before .before .before .before .before .before .before .before .before .before .before .before .before .before .before .args .slots .now)) _ (c .before .before .before .before .before .before .before .before .begin-sums .ensures) _ (c .before .before .before .add-slots .ensures)
+returns c =
+    let args = c .before .before .before .before .before .before .before .before .before .before .before .before .before .before .before .before .args in
+    views-from (args .z) (args .f) (args .layout) (viewAt (args .factors .now) (args .messages .now) (args .keys .now) (args .heads .now) (args .slots .now)) (length (args .slots .now)) _ (c .before .before .before .before .before .before .before .before .begin-sums .ensures) _ (c .before .before .before .add-slots .ensures)
 
 pub sum-up-spec : {M : Type 1} → statement M
 sum-up-spec =

@@ -36,7 +36,9 @@ same-requires : tie.Need-same-requires Inv-loop μ-loop
 same-requires c κs = search needs
 
 returns : tie.Need-returns Inv-loop μ-loop
-returns c = sym (all-fail (λ j. not (same (getD (c .before .before .before .before .before .before .args .letters .now) j 0, getD (c .before .before .before .before .before .before .args .indices .now) j 0) (c .before .before .before .before .before .before .args .name))) _ (c .before .before .before .before .before .loop .key) (omega arith) (ap not (tells (c .before .same .ensures) (c .if1 .taken))))
+returns c =
+    let args = c .before .before .before .before .before .before .args in
+    sym (all-fail (λ j. not (same (getD (args .letters .now) j 0, getD (args .indices .now) j 0) (args .name))) _ (c .before .before .before .before .before .loop .key) (omega arith) (ap not (tells (c .before .same .ensures) (c .if1 .taken))))
 
 add-key : tie.Need-add-key Inv-loop μ-loop
 add-key c = search needs

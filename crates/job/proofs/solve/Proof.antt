@@ -31,14 +31,20 @@ same-length c = search needs
 
 returns : tie.Need-returns
 unfolding ofBits
-returns c = lays-same (c .before .before .before .before .before .before .before .before .before .before .before .before .before .args .out .now) _ _ _ _ (whole (c .before .before .before .before .before .before .before .before .before .before .before .before .before .args .bytes .now) _ (c .before .before .before .before .before .before .before .before .before .read .result) (c .before .before .before .before .before .before .before .before .before .read .ensures .0 .0) (c .before .before .before .before .before .before .before .before .before .read .ensures .1) (c .before .before .before .before .before .enum-told .given .1)) (c .before .before .solve-graph .ensures)
+returns c =
+    let args = c .before .before .before .before .before .before .before .before .before .before .before .before .before .args in
+    let read = c .before .before .before .before .before .before .before .before .before .read in
+    lays-same (args .out .now) _ _ _ _ (whole (args .bytes .now) _ (read .result) (read .ensures .0 .0) (read .ensures .1) (c .before .before .before .before .before .enum-told .given .1)) (c .before .before .solve-graph .ensures)
 
 same-length-2 : tie.Need-same-length-2
 same-length-2 c = search needs
 
 returns-2 : tie.Need-returns-2
 unfolding ofBits
-returns-2 c = lays-same (c .before .before .before .before .before .before .before .before .before .before .before .before .before .args .out .now) _ _ _ _ (reading-refused (c .before .before .before .before .before .before .before .before .before .before .before .before .before .args .bytes .now) _ (c .before .before .before .before .before .before .before .before .before .read .result) (c .before .before .before .before .before .before .before .before .before .read .ensures .0 .0) (c .before .before .before .before .before .before .before .before .before .read .ensures .1) _ _ (c .before .before .before .before .before .ended .given .1)) (c .before .before .lay-refusal .ensures)
+returns-2 c =
+    let args = c .before .before .before .before .before .before .before .before .before .before .before .before .before .args in
+    let read = c .before .before .before .before .before .before .before .before .before .read in
+    lays-same (args .out .now) _ _ _ _ (reading-refused (args .bytes .now) _ (read .result) (read .ensures .0 .0) (read .ensures .1) _ _ (c .before .before .before .before .before .ended .given .1)) (c .before .before .lay-refusal .ensures)
 
 pub solve-spec : {M : Type 1} → statement M
 solve-spec =

@@ -25,7 +25,11 @@ slice-aggregate-lay-lines : tie.Need-slice-aggregate-lay-lines
 slice-aggregate-lay-lines c = search needs
 
 lay-lines-requires : tie.Need-lay-lines-requires
-lay-lines-requires c κs = (c .before .before .before .before .before .before .before .before .before .before .before .before .before .pre, omega (arith, marginals-fit (c .before .before .before .before .before .before .before .before .before .before .before .before .before .args .g) (c .before .before .before .before .before .before .before .before .before .before .before .before .before .pre)))
+lay-lines-requires c κs =
+    let pre = c .before .before .before .before .before .before .before .before .before .before .before .before .before .pre in (
+      pre,
+      omega (arith, marginals-fit (c .before .before .before .before .before .before .before .before .before .before .before .before .before .args .g) (pre)),
+    )
 
 enum-known-ended : tie.Need-enum-known-ended
 enum-known-ended c = search needs
@@ -38,14 +42,20 @@ same-length c = search needs
 
 returns : tie.Need-returns
 unfolding ofBits
-returns c = lays-same (c .before .before .before .before .before .before .before .before .before .before .before .before .before .before .before .before .args .out .now) _ _ _ _ (all-done (c .before .before .before .before .before .before .before .before .before .before .before .before .before .before .before .before .args .g) (c .before .before .before .before .before .before .before .before .before .before .before .before .before .before .before .before .args .factors .now) _ _ (c .before .before .before .before .before .before .before .before .before .before .run .result) (c .before .before .before .before .before .before .before .before .before .before .run .ensures) (c .before .before .before .before .before .enum-told .given .1)) (c .before .before .lay-lines .ensures)
+returns c =
+    let args = c .before .before .before .before .before .before .before .before .before .before .before .before .before .before .before .before .args in
+    let run = c .before .before .before .before .before .before .before .before .before .before .run in
+    lays-same (args .out .now) _ _ _ _ (all-done (args .g) (args .factors .now) _ _ (run .result) (run .ensures) (c .before .before .before .before .before .enum-told .given .1)) (c .before .before .lay-lines .ensures)
 
 same-length-2 : tie.Need-same-length-2
 same-length-2 c = search needs
 
 returns-2 : tie.Need-returns-2
 unfolding ofBits
-returns-2 c = lays-same (c .before .before .before .before .before .before .before .before .before .before .before .before .before .before .before .before .args .out .now) _ _ _ _ (run-refused (c .before .before .before .before .before .before .before .before .before .before .before .before .before .before .before .before .args .g) (c .before .before .before .before .before .before .before .before .before .before .before .before .before .before .before .before .args .factors .now) _ _ (c .before .before .before .before .before .before .before .before .before .before .run .result) (c .before .before .before .before .before .before .before .before .before .before .run .ensures) _ _ _ (c .before .before .before .before .before .ended .given .1)) (c .before .before .lay-refusal .ensures)
+returns-2 c =
+    let args = c .before .before .before .before .before .before .before .before .before .before .before .before .before .before .before .before .args in
+    let run = c .before .before .before .before .before .before .before .before .before .before .run in
+    lays-same (args .out .now) _ _ _ _ (run-refused (args .g) (args .factors .now) _ _ (run .result) (run .ensures) _ _ _ (c .before .before .before .before .before .ended .given .1)) (c .before .before .lay-refusal .ensures)
 
 pub solve-graph-spec : {M : Type 1} → statement M
 solve-graph-spec =

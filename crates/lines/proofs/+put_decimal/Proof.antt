@@ -72,7 +72,10 @@ put-decimal-put-decimal-requires : (t : ℕ) → put-decimal-lts.Need-put-decima
   put-decimal-below t,
   put-decimal.Post,
 ) (put-decimal-at t) put-decimal.Post
-put-decimal-put-decimal-requires t c κs = (omega (arith, c .before .before .before .pre .0), omega (arith, c .before .before .before .pre .1, more-length (c .before .before .before .args .x) (c .before .if1 .left)))
+put-decimal-put-decimal-requires t c κs = (
+  omega (arith, c .before .before .before .pre .0),
+  omega (arith, c .before .before .before .pre .1, more-length (c .before .before .before .args .x) (c .before .if1 .left)),
+)
 
 put-decimal-cast-put-2 : (t : ℕ) → put-decimal-lts.Need-cast-put-2 (
   put-reads.Asked,

@@ -10,7 +10,9 @@ lines-length-requires : tie.Need-lines-length-requires
 lines-length-requires c κs = search needs
 
 returns : tie.Need-returns
-returns c = too-short (c .before .before .before .before .args .out .now) _ _ (c .before .lines-length .ensures ∙ sym (lines-long (c .before .before .before .before .args .g) (c .before .before .before .before .args .marginals .now) (c .before .before .before .before .args .g .variables))) (c .if1 .taken)
+returns c =
+    let args = c .before .before .before .before .args in
+    too-short (args .out .now) _ _ (c .before .lines-length .ensures ∙ sym (lines-long (args .g) (args .marginals .now) (args .g .variables))) (c .if1 .taken)
 
 put-lines-requires : tie.Need-put-lines-requires
 put-lines-requires c κs = search needs
@@ -19,7 +21,9 @@ same-length : tie.Need-same-length
 same-length c = search needs
 
 returns-2 : tie.Need-returns-2
-returns-2 c = fitting (c .before .before .before .before .before .before .before .before .args .out .now) _ _ _ (c .before .before .before .before .before .lines-length .ensures ∙ sym (lines-long (c .before .before .before .before .before .before .before .before .args .g) (c .before .before .before .before .before .before .before .before .args .marginals .now) (c .before .before .before .before .before .before .before .before .args .g .variables))) (c .before .before .before .before .if1 .left) (c .before .before .put-lines .ensures)
+returns-2 c =
+    let args = c .before .before .before .before .before .before .before .before .args in
+    fitting (args .out .now) _ _ _ (c .before .before .before .before .before .lines-length .ensures ∙ sym (lines-long (args .g) (args .marginals .now) (args .g .variables))) (c .before .before .before .before .if1 .left) (c .before .before .put-lines .ensures)
 
 pub lay-lines-spec : {M : Type 1} → statement M
 lay-lines-spec =

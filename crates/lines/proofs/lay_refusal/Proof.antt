@@ -40,16 +40,25 @@ add-n-3 : tie.Need-add-n-3
 add-n-3 c = search needs
 
 returns : tie.Need-returns
-returns c = too-short (c .before .before .before .before .before .before .args .out .now) _ _ (length-of (c .before .before .before .before .code .result) (c .before .before .before .before .before .before .args .stage) (c .before .before .before .before .before .before .args .place) _ (c .before .before .before .decimal-length .result) (c .before .before .decimal-length2 .result) (c .before .decimal-length3 .result) (c .before .before .before .before .code .ensures) (c .before .before .before .decimal-length .ensures .0) (c .before .before .decimal-length2 .ensures .0) (c .before .decimal-length3 .ensures .0)) (c .if1 .taken)
+returns c =
+    let args = c .before .before .before .before .before .before .args in
+    too-short (args .out .now) _ _ (length-of (c .before .before .before .before .code .result) (args .stage) (args .place) _ (c .before .before .before .decimal-length .result) (c .before .before .decimal-length2 .result) (c .before .decimal-length3 .result) (c .before .before .before .before .code .ensures) (c .before .before .before .decimal-length .ensures .0) (c .before .before .decimal-length2 .ensures .0) (c .before .decimal-length3 .ensures .0)) (c .if1 .taken)
 
 put-refusal-requires : tie.Need-put-refusal-requires
-put-refusal-requires c κs = omega (arith, c .before .if1 .left, refusal-length (c .before .before .before .before .before .code .result) (c .before .before .before .before .before .before .before .args .stage) (c .before .before .before .before .before .before .before .args .place), c .before .before .before .before .decimal-length .ensures .0, c .before .before .before .decimal-length2 .ensures .0, c .before .before .decimal-length3 .ensures .0)
+put-refusal-requires c κs =
+    let args = c .before .before .before .before .before .before .before .args in
+    omega (arith, c .before .if1 .left, refusal-length (c .before .before .before .before .before .code .result) (args .stage) (args .place), c .before .before .before .before .decimal-length .ensures .0, c .before .before .before .decimal-length2 .ensures .0, c .before .before .decimal-length3 .ensures .0)
 
 same-length : tie.Need-same-length
 same-length c = search needs
 
 returns-2 : tie.Need-returns-2
-returns-2 c = fitting (c .before .before .before .before .before .before .before .before .before .before .args .out .now) _ _ _ (length-of (c .before .before .before .before .before .before .before .before .code .result) (c .before .before .before .before .before .before .before .before .before .before .args .stage) (c .before .before .before .before .before .before .before .before .before .before .args .place) _ (c .before .before .before .before .before .before .before .decimal-length .result) (c .before .before .before .before .before .before .decimal-length2 .result) (c .before .before .before .before .before .decimal-length3 .result) (c .before .before .before .before .before .before .before .before .code .ensures) (c .before .before .before .before .before .before .before .decimal-length .ensures .0) (c .before .before .before .before .before .before .decimal-length2 .ensures .0) (c .before .before .before .before .before .decimal-length3 .ensures .0)) (c .before .before .before .before .if1 .left) (of-number (c .before .before .before .before .before .before .before .before .before .before .args .out .now) _ (c .before .before .before .before .before .before .before .before .code .result) _ (c .before .before .before .before .before .before .before .before .before .before .args .stage) (c .before .before .before .before .before .before .before .before .before .before .args .place) (c .before .before .before .before .before .before .before .before .code .ensures) (c .before .before .put-refusal .ensures .0))
+returns-2 c =
+    let args = c .before .before .before .before .before .before .before .before .before .before .args in
+    let decimal-length = c .before .before .before .before .before .before .before .decimal-length in
+    let the-code = c .before .before .before .before .before .before .before .before .code in
+    let decimal-length2 = c .before .before .before .before .before .before .decimal-length2 in
+    fitting (args .out .now) _ _ _ (length-of (the-code .result) (args .stage) (args .place) _ (decimal-length .result) (decimal-length2 .result) (c .before .before .before .before .before .decimal-length3 .result) (the-code .ensures) (decimal-length .ensures .0) (decimal-length2 .ensures .0) (c .before .before .before .before .before .decimal-length3 .ensures .0)) (c .before .before .before .before .if1 .left) (of-number (args .out .now) _ (the-code .result) _ (args .stage) (args .place) (the-code .ensures) (c .before .before .put-refusal .ensures .0))
 
 pub lay-refusal-spec : {M : Type 1} → statement M
 lay-refusal-spec =

@@ -53,7 +53,13 @@ loop-less : tie.Need-loop-less Inv-loop μ-loop
 loop-less c = search needs
 
 loop-again : tie.Need-loop-again Inv-loop μ-loop
-loop-again c = (c .before .before .before .loop .inv .0, omega arith, grown (c .before .before .before .before .args .g) (c .before .before .before .loop .key) (c .before .before .before .loop .sum) (c .before .decimal-length .result) (c .numbers-of .result) (c .before .before .before .loop .inv .2) (c .before .decimal-length .ensures .0) (c .numbers-of .ensures .0), omega (arith, c .numbers-of .ensures .1, c .before .decimal-length .ensures .1))
+loop-again c =
+    let loop = c .before .before .before .loop in (
+      loop .inv .0,
+      omega arith,
+      grown (c .before .before .before .before .args .g) (loop .key) (loop .sum) (c .before .decimal-length .result) (c .numbers-of .result) (loop .inv .2) (c .before .decimal-length .ensures .0) (c .numbers-of .ensures .0),
+      omega (arith, c .numbers-of .ensures .1, c .before .decimal-length .ensures .1),
+    )
 
 returns : tie.Need-returns Inv-loop μ-loop
 returns c = done (c .before .before .args .g) (c .before .loop .key) (c .before .loop .sum) _ (omega arith) (c .before .loop .inv .2)

@@ -22,7 +22,10 @@ add-result : tie.Need-add-result
 add-result c = omega (arith, small (c .size-of .result) _ (c .size-of .ensures .0) (size-most _ (valid-size (c .before .before .args .g) (c .before .before .pre .0) (c .before .before .args .key) (c .before .before .pre .1))))
 
 returns : tie.Need-returns
-returns c = (ap (λ (n : ℕ). n + n * n) (c .size-of .ensures .0), small (c .size-of .result) _ (c .size-of .ensures .0) (size-most _ (valid-size (c .before .before .args .g) (c .before .before .pre .0) (c .before .before .args .key) (c .before .before .pre .1))))
+returns c = (
+  ap (λ (n : ℕ). n + n * n) (c .size-of .ensures .0),
+  small (c .size-of .result) _ (c .size-of .ensures .0) (size-most _ (valid-size (c .before .before .args .g) (c .before .before .pre .0) (c .before .before .args .key) (c .before .before .pre .1))),
+)
 
 pub numbers-of-spec : {M : Type 1} → statement M
 numbers-of-spec = tie.close (tie.spec size-of-requires mul-result add-result returns)

@@ -19,7 +19,9 @@ same-length c = search needs
 
 returns : tie.Need-returns
 unfolding fieldText
-returns c = puts-both (c .before .before .before .before .before .before .before .before .before .args .out .now) _ _ (c .before .before .before .before .before .before .before .before .before .args .at) _ _ (space ∷ []) (decimal (c .before .before .before .before .before .before .before .before .before .args .x)) (omega arith) (c .before .before .before .before .before .before .put .ensures) (c .before .before .put-decimal .ensures)
+returns c =
+    let args = c .before .before .before .before .before .before .before .before .before .args in
+    puts-both (args .out .now) _ _ (args .at) _ _ (space ∷ []) (decimal (args .x)) (omega arith) (c .before .before .before .before .before .before .put .ensures) (c .before .before .put-decimal .ensures)
 
 pub put-field-spec : {M : Type 1} → statement M
 put-field-spec = tie.close (tie.spec put-requires put-decimal-requires same-length returns)

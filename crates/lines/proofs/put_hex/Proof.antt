@@ -52,7 +52,13 @@ loop-less : tie.Need-loop-less Inv-loop μ-loop
 loop-less c = search needs
 
 loop-again : tie.Need-loop-again Inv-loop μ-loop
-loop-again c = (omega arith, simp length-set (c .before .before .loop .inv .1), puts-next (c .before .before .before .before .args .out .now) (c .before .before .loop .out) (c .before .before .before .before .args .at) (c .before .before .loop .i) _ (hexBy (c .before .before .loop .i) (c .before .before .before .before .args .bits)) _ (c .before .before .loop .inv .1) (omega arith) (c .before .before .loop .inv .2) (hex-more (c .before .before .loop .i) (c .before .before .before .before .args .bits) ∙ ap (λ (d : ℕ). hexBy (c .before .before .loop .i) (c .before .before .before .before .args .bits) ++ (d ∷ [])) (sym (c .hex-digit .ensures))))
+loop-again c =
+    let args = c .before .before .before .before .args in
+    let loop = c .before .before .loop in (
+      omega arith,
+      simp length-set (loop .inv .1),
+      puts-next (args .out .now) (loop .out) (args .at) (loop .i) _ (hexBy (loop .i) (args .bits)) _ (loop .inv .1) (omega arith) (loop .inv .2) (hex-more (loop .i) (args .bits) ∙ ap (λ (d : ℕ). hexBy (loop .i) (args .bits) ++ (d ∷ [])) (sym (c .hex-digit .ensures))),
+    )
 
 add-result : tie.Need-add-result Inv-loop μ-loop
 add-result c = search needs
@@ -61,7 +67,9 @@ same-length : tie.Need-same-length Inv-loop μ-loop
 same-length c = c .before .loop .inv .1
 
 returns : tie.Need-returns Inv-loop μ-loop
-returns c = done (c .before .before .before .args .out .now) (c .before .loop .out) (c .before .before .before .args .at) (c .before .loop .i) (c .before .before .before .args .bits) (omega arith) (c .before .loop .inv .2)
+returns c =
+    let args = c .before .before .before .args in
+    done (args .out .now) (c .before .loop .out) (args .at) (c .before .loop .i) (args .bits) (omega arith) (c .before .loop .inv .2)
 
 pub put-hex-spec : {M : Type 1} → statement M
 put-hex-spec =

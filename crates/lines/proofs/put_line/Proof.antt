@@ -12,17 +12,24 @@ put-decimal-requires : tie.Need-put-decimal-requires
 put-decimal-requires c κs = search needs
 
 put-numbers-requires : tie.Need-put-numbers-requires
-put-numbers-requires c κs = (omega (arith, c .before .before .before .before .before .before .before .pre .0, c .before .before .before .put-decimal .ensures .1), c .before .before .before .before .before .before .before .pre .1)
+put-numbers-requires c κs =
+    let pre = c .before .before .before .before .before .before .before .pre in
+    (omega (arith, pre .0, c .before .before .before .put-decimal .ensures .1), pre .1)
 
 put-requires : tie.Need-put-requires
-put-requires c κs = omega (arith, c .before .before .before .before .before .before .before .before .before .before .before .pre .0, c .before .before .before .before .before .before .before .put-decimal .ensures .1, c .before .before .before .put-numbers .ensures .1, numbers-length (c .before .before .before .before .before .before .before .before .before .before .before .args .values .now) (c .before .before .before .before .before .before .before .before .before .before .before .args .from) (c .before .before .before .before .before .before .before .before .before .before .before .args .n))
+put-requires c κs =
+    let args = c .before .before .before .before .before .before .before .before .before .before .before .args in
+    omega (arith, c .before .before .before .before .before .before .before .before .before .before .before .pre .0, c .before .before .before .before .before .before .before .put-decimal .ensures .1, c .before .before .before .put-numbers .ensures .1, numbers-length (args .values .now) (args .from) (args .n))
 
 same-length : tie.Need-same-length
 same-length c = search needs
 
 returns : tie.Need-returns
 unfolding lineText
-returns c = puts-both (c .before .before .before .before .before .before .before .before .before .before .before .before .before .before .args .out .now) _ _ (c .before .before .before .before .before .before .before .before .before .before .before .before .before .before .args .at) _ _ (decimal (c .before .before .before .before .before .before .before .before .before .before .before .before .before .before .args .key) ++ numbersText (c .before .before .before .before .before .before .before .before .before .before .before .before .before .before .args .values .now) (c .before .before .before .before .before .before .before .before .before .before .before .before .before .before .args .from) (c .before .before .before .before .before .before .before .before .before .before .before .before .before .before .args .n)) (feed ∷ []) (omega (arith, c .before .before .before .before .before .before .before .before .before .before .before .before .before .before .pre .0)) (puts-both (c .before .before .before .before .before .before .before .before .before .before .before .before .before .before .args .out .now) _ _ (c .before .before .before .before .before .before .before .before .before .before .before .before .before .before .args .at) _ _ (decimal (c .before .before .before .before .before .before .before .before .before .before .before .before .before .before .args .key)) (numbersText (c .before .before .before .before .before .before .before .before .before .before .before .before .before .before .args .values .now) (c .before .before .before .before .before .before .before .before .before .before .before .before .before .before .args .from) (c .before .before .before .before .before .before .before .before .before .before .before .before .before .before .args .n)) (omega (arith, c .before .before .before .before .before .before .before .before .before .before .before .before .before .before .pre .0)) (c .before .before .before .before .before .before .before .before .before .before .put-decimal .ensures) (c .before .before .before .before .before .before .put-numbers .ensures)) (c .before .before .put .ensures)
+returns c =
+    let args = c .before .before .before .before .before .before .before .before .before .before .before .before .before .before .args in
+    let pre = c .before .before .before .before .before .before .before .before .before .before .before .before .before .before .pre in
+    puts-both (args .out .now) _ _ (args .at) _ _ (decimal (args .key) ++ numbersText (args .values .now) (args .from) (args .n)) (feed ∷ []) (omega (arith, pre .0)) (puts-both (args .out .now) _ _ (args .at) _ _ (decimal (args .key)) (numbersText (args .values .now) (args .from) (args .n)) (omega (arith, pre .0)) (c .before .before .before .before .before .before .before .before .before .before .put-decimal .ensures) (c .before .before .before .before .before .before .put-numbers .ensures)) (c .before .before .put .ensures)
 
 pub put-line-spec : {M : Type 1} → statement M
 put-line-spec =

@@ -44,10 +44,17 @@ numbers-of-requires : tie.Need-numbers-of-requires Inv-loop μ-loop
 numbers-of-requires c κs = (c .before .before .before .before .pre .0, omega arith)
 
 put-line-requires : tie.Need-put-line-requires Inv-loop μ-loop
-put-line-requires c κs = (omega (arith, within (c .before .before .before .before .before .before .args .g) (c .before .before .before .loop .key) (c .before .before .before .before .before .before .args .g .variables) (omega arith) .1, length-more (c .before .before .before .before .before .before .args .g) (c .before .before .before .loop .key), c .before .numbers-of .ensures .0, c .before .before .before .loop .inv .4 .1, lines-long (c .before .before .before .before .before .before .args .g) (c .before .before .before .before .before .before .args .values .now) (c .before .before .before .loop .key), c .before .before .before .before .before .before .pre .2), omega (arith, within (c .before .before .before .before .before .before .args .g) (c .before .before .before .loop .key) (c .before .before .before .before .before .before .args .g .variables) (omega arith) .0, start-more (c .before .before .before .before .before .before .args .g) (c .before .before .before .loop .key), c .before .numbers-of .ensures .0, c .before .before .before .before .before .before .pre .1))
+put-line-requires c κs =
+    let args = c .before .before .before .before .before .before .args in
+    let loop = c .before .before .before .loop in (
+      omega (arith, within (args .g) (loop .key) (args .g .variables) (omega arith) .1, length-more (args .g) (loop .key), c .before .numbers-of .ensures .0, loop .inv .4 .1, lines-long (args .g) (args .values .now) (loop .key), c .before .before .before .before .before .before .pre .2),
+      omega (arith, within (args .g) (loop .key) (args .g .variables) (omega arith) .0, start-more (args .g) (loop .key), c .before .numbers-of .ensures .0, c .before .before .before .before .before .before .pre .1),
+    )
 
 add-from : tie.Need-add-from Inv-loop μ-loop
-add-from c = omega (arith, within (c .before .before .before .before .before .before .before .before .before .args .g) (c .before .before .before .before .before .before .loop .key) (c .before .before .before .before .before .before .before .before .before .args .g .variables) (omega arith) .0, start-more (c .before .before .before .before .before .before .before .before .before .args .g) (c .before .before .before .before .before .before .loop .key), c .before .before .before .before .numbers-of .ensures .0, c .before .before .before .before .before .before .before .before .before .pre .1)
+add-from c =
+    let args = c .before .before .before .before .before .before .before .before .before .args in
+    omega (arith, within (args .g) (c .before .before .before .before .before .before .loop .key) (args .g .variables) (omega arith) .0, start-more (args .g) (c .before .before .before .before .before .before .loop .key), c .before .before .before .before .numbers-of .ensures .0, c .before .before .before .before .before .before .before .before .before .pre .1)
 
 add-key : tie.Need-add-key Inv-loop μ-loop
 add-key c = search needs
@@ -56,13 +63,24 @@ loop-less : tie.Need-loop-less Inv-loop μ-loop
 loop-less c = search needs
 
 loop-again : tie.Need-loop-again Inv-loop μ-loop
-loop-again c = (c .before .before .before .before .before .before .loop .inv .0, omega arith, omega arith, begins (c .before .before .before .before .before .before .before .before .before .args .g) (c .before .before .before .before .before .before .loop .key) (c .before .before .before .before .before .before .loop .from) (c .before .before .before .before .numbers-of .result) (c .before .before .before .before .before .before .loop .inv .3) (c .before .before .before .before .numbers-of .ensures .0), puts-same (c .before .before .before .before .before .before .before .before .before .args .out .now) _ 0 _ _ _ (grown (c .before .before .before .before .before .before .before .before .before .args .g) (c .before .before .before .before .before .before .before .before .before .args .values .now) (c .before .before .before .before .before .before .loop .key) (c .before .before .before .before .before .before .loop .from) (c .before .before .before .before .numbers-of .result) (c .before .before .before .before .before .before .loop .inv .3) (c .before .before .before .before .numbers-of .ensures .0)) (puts-both (c .before .before .before .before .before .before .before .before .before .args .out .now) (c .before .before .before .before .before .before .loop .out) _ 0 (c .before .before .before .before .before .before .loop .next) _ (linesText (c .before .before .before .before .before .before .before .before .before .args .g) (c .before .before .before .before .before .before .before .before .before .args .values .now) (c .before .before .before .before .before .before .loop .key)) _ (omega arith) (c .before .before .before .before .before .before .loop .inv .4) (c .before .before .put-line .ensures)))
+loop-again c =
+    let args = c .before .before .before .before .before .before .before .before .before .args in
+    let loop = c .before .before .before .before .before .before .loop in
+    let numbers-of = c .before .before .before .before .numbers-of in (
+      loop .inv .0,
+      omega arith,
+      omega arith,
+      begins (args .g) (loop .key) (loop .from) (numbers-of .result) (loop .inv .3) (numbers-of .ensures .0),
+      puts-same (args .out .now) _ 0 _ _ _ (grown (args .g) (args .values .now) (loop .key) (loop .from) (numbers-of .result) (loop .inv .3) (numbers-of .ensures .0)) (puts-both (args .out .now) (loop .out) _ 0 (loop .next) _ (linesText (args .g) (args .values .now) (loop .key)) _ (omega arith) (loop .inv .4) (c .before .before .put-line .ensures)),
+    )
 
 same-length : tie.Need-same-length Inv-loop μ-loop
 same-length c = c .before .loop .inv .2
 
 returns : tie.Need-returns Inv-loop μ-loop
-returns c = done (c .before .before .before .before .args .g) (c .before .before .before .before .args .values .now) (c .before .before .before .before .args .out .now) (c .before .loop .out) (c .before .loop .next) (c .before .loop .key) _ (omega arith) (c .before .loop .inv .4)
+returns c =
+    let args = c .before .before .before .before .args in
+    done (args .g) (args .values .now) (args .out .now) (c .before .loop .out) (c .before .loop .next) (c .before .loop .key) _ (omega arith) (c .before .loop .inv .4)
 
 pub put-lines-spec : {M : Type 1} → statement M
 put-lines-spec =

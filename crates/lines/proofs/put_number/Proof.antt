@@ -27,7 +27,10 @@ same-length : tie.Need-same-length
 same-length c = search needs
 
 returns : tie.Need-returns
-returns c = of-bits (c .before .before .before .before .before .before .before .before .before .before .args .out .now) _ (c .before .before .before .before .before .before .before .before .before .before .args .at) _ (c .before .before .before .before .before .before .before .before .before .before .args .x) (c .before .before .before .bits-of .result) (c .before .before .before .bits-of .ensures) (puts-both (c .before .before .before .before .before .before .before .before .before .before .args .out .now) _ _ (c .before .before .before .before .before .before .before .before .before .before .args .at) _ _ (space ∷ []) (hexBy 16 (c .before .before .before .bits-of .result)) (omega arith) (c .before .before .before .before .before .before .before .put .ensures) (c .before .before .put-hex .ensures))
+returns c =
+    let args = c .before .before .before .before .before .before .before .before .before .before .args in
+    let bits-of = c .before .before .before .bits-of in
+    of-bits (args .out .now) _ (args .at) _ (args .x) (bits-of .result) (bits-of .ensures) (puts-both (args .out .now) _ _ (args .at) _ _ (space ∷ []) (hexBy 16 (bits-of .result)) (omega arith) (c .before .before .before .before .before .before .before .put .ensures) (c .before .before .put-hex .ensures))
 
 pub put-number-spec : {M : Type 1} → statement M
 put-number-spec =

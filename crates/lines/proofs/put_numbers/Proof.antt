@@ -44,13 +44,22 @@ loop-less : tie.Need-loop-less Inv-loop μ-loop
 loop-less c = search needs
 
 loop-again : tie.Need-loop-again Inv-loop μ-loop
-loop-again c = (omega arith, omega arith, omega (arith, c .before .before .put-number .ensures .1, number-length (getD (c .before .before .before .before .before .before .before .before .before .args .values .now) (c .before .before .before .before .before .before .before .before .before .args .from + c .before .before .before .before .before .before .loop .i) nan)), puts-same (c .before .before .before .before .before .before .before .before .before .args .out .now) _ (c .before .before .before .before .before .before .before .before .before .args .at) _ _ _ (sym (numbers-more (c .before .before .before .before .before .before .before .before .before .args .values .now) (c .before .before .before .before .before .before .before .before .before .args .from) (c .before .before .before .before .before .before .loop .i))) (puts-both (c .before .before .before .before .before .before .before .before .before .args .out .now) (c .before .before .before .before .before .before .loop .out) _ (c .before .before .before .before .before .before .before .before .before .args .at) (c .before .before .before .before .before .before .loop .next) _ (numbersText (c .before .before .before .before .before .before .before .before .before .args .values .now) (c .before .before .before .before .before .before .before .before .before .args .from) (c .before .before .before .before .before .before .loop .i)) _ (omega arith) (c .before .before .before .before .before .before .loop .inv .3) (c .before .before .put-number .ensures)))
+loop-again c =
+    let args = c .before .before .before .before .before .before .before .before .before .args in
+    let loop = c .before .before .before .before .before .before .loop in (
+      omega arith,
+      omega arith,
+      omega (arith, c .before .before .put-number .ensures .1, number-length (getD (args .values .now) (args .from + loop .i) nan)),
+      puts-same (args .out .now) _ (args .at) _ _ _ (sym (numbers-more (args .values .now) (args .from) (loop .i))) (puts-both (args .out .now) (loop .out) _ (args .at) (loop .next) _ (numbersText (args .values .now) (args .from) (loop .i)) _ (omega arith) (loop .inv .3) (c .before .before .put-number .ensures)),
+    )
 
 same-length : tie.Need-same-length Inv-loop μ-loop
 same-length c = c .before .loop .inv .1
 
 returns : tie.Need-returns Inv-loop μ-loop
-returns c = done (c .before .before .before .before .args .out .now) (c .before .loop .out) (c .before .before .before .before .args .at) (c .before .loop .next) (c .before .before .before .before .args .values .now) (c .before .before .before .before .args .from) (c .before .loop .i) (c .before .before .before .before .args .n) (omega arith) (c .before .loop .inv .3)
+returns c =
+    let args = c .before .before .before .before .args in
+    done (args .out .now) (c .before .loop .out) (args .at) (c .before .loop .next) (args .values .now) (args .from) (c .before .loop .i) (args .n) (omega arith) (c .before .loop .inv .3)
 
 pub put-numbers-spec : {M : Type 1} → statement M
 put-numbers-spec =

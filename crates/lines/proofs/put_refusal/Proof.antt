@@ -24,25 +24,37 @@ slice-aggregate-put-word : tie.Need-slice-aggregate-put-word
 slice-aggregate-put-word c = search needs
 
 put-word-requires : tie.Need-put-word-requires
-put-word-requires c κs = omega (arith, c .before .before .before .pre, refusal-length (c .before .before .before .args .number) (c .before .before .before .args .stage) (c .before .before .before .args .place))
+put-word-requires c κs =
+    let args = c .before .before .before .args in
+    omega (arith, c .before .before .before .pre, refusal-length (args .number) (args .stage) (args .place))
 
 put-field-requires : tie.Need-put-field-requires
-put-field-requires c κs = omega (arith, c .before .before .before .before .before .before .before .pre, refusal-length (c .before .before .before .before .before .before .before .args .number) (c .before .before .before .before .before .before .before .args .stage) (c .before .before .before .before .before .before .before .args .place), field-length (c .before .before .before .before .before .before .before .args .number), field-length (c .before .before .before .before .before .before .before .args .stage), field-length (c .before .before .before .before .before .before .before .args .place), c .before .before .before .put-word .ensures .1)
+put-field-requires c κs =
+    let args = c .before .before .before .before .before .before .before .args in
+    omega (arith, c .before .before .before .before .before .before .before .pre, refusal-length (args .number) (args .stage) (args .place), field-length (args .number), field-length (args .stage), field-length (args .place), c .before .before .before .put-word .ensures .1)
 
 put-field-requires-2 : tie.Need-put-field-requires-2
-put-field-requires-2 c κs = omega (arith, c .before .before .before .before .before .before .before .before .before .before .before .pre, refusal-length (c .before .before .before .before .before .before .before .before .before .before .before .args .number) (c .before .before .before .before .before .before .before .before .before .before .before .args .stage) (c .before .before .before .before .before .before .before .before .before .before .before .args .place), field-length (c .before .before .before .before .before .before .before .before .before .before .before .args .number), field-length (c .before .before .before .before .before .before .before .before .before .before .before .args .stage), field-length (c .before .before .before .before .before .before .before .before .before .before .before .args .place), c .before .before .before .before .before .before .before .put-word .ensures .1, c .before .before .before .put-field .ensures .1)
+put-field-requires-2 c κs =
+    let args = c .before .before .before .before .before .before .before .before .before .before .before .args in
+    omega (arith, c .before .before .before .before .before .before .before .before .before .before .before .pre, refusal-length (args .number) (args .stage) (args .place), field-length (args .number), field-length (args .stage), field-length (args .place), c .before .before .before .before .before .before .before .put-word .ensures .1, c .before .before .before .put-field .ensures .1)
 
 put-field-requires-3 : tie.Need-put-field-requires-3
-put-field-requires-3 c κs = omega (arith, c .before .before .before .before .before .before .before .before .before .before .before .before .before .before .before .pre, refusal-length (c .before .before .before .before .before .before .before .before .before .before .before .before .before .before .before .args .number) (c .before .before .before .before .before .before .before .before .before .before .before .before .before .before .before .args .stage) (c .before .before .before .before .before .before .before .before .before .before .before .before .before .before .before .args .place), field-length (c .before .before .before .before .before .before .before .before .before .before .before .before .before .before .before .args .number), field-length (c .before .before .before .before .before .before .before .before .before .before .before .before .before .before .before .args .stage), field-length (c .before .before .before .before .before .before .before .before .before .before .before .before .before .before .before .args .place), c .before .before .before .before .before .before .before .before .before .before .before .put-word .ensures .1, c .before .before .before .before .before .before .before .put-field .ensures .1, c .before .before .before .put-field2 .ensures .1)
+put-field-requires-3 c κs =
+    let args = c .before .before .before .before .before .before .before .before .before .before .before .before .before .before .before .args in
+    omega (arith, c .before .before .before .before .before .before .before .before .before .before .before .before .before .before .before .pre, refusal-length (args .number) (args .stage) (args .place), field-length (args .number), field-length (args .stage), field-length (args .place), c .before .before .before .before .before .before .before .before .before .before .before .put-word .ensures .1, c .before .before .before .before .before .before .before .put-field .ensures .1, c .before .before .before .put-field2 .ensures .1)
 
 put-requires : tie.Need-put-requires
-put-requires c κs = omega (arith, c .before .before .before .before .before .before .before .before .before .before .before .before .before .before .before .before .before .before .before .pre, refusal-length (c .before .before .before .before .before .before .before .before .before .before .before .before .before .before .before .before .before .before .before .args .number) (c .before .before .before .before .before .before .before .before .before .before .before .before .before .before .before .before .before .before .before .args .stage) (c .before .before .before .before .before .before .before .before .before .before .before .before .before .before .before .before .before .before .before .args .place), field-length (c .before .before .before .before .before .before .before .before .before .before .before .before .before .before .before .before .before .before .before .args .number), field-length (c .before .before .before .before .before .before .before .before .before .before .before .before .before .before .before .before .before .before .before .args .stage), field-length (c .before .before .before .before .before .before .before .before .before .before .before .before .before .before .before .before .before .before .before .args .place), c .before .before .before .before .before .before .before .before .before .before .before .before .before .before .before .put-word .ensures .1, c .before .before .before .before .before .before .before .before .before .before .before .put-field .ensures .1, c .before .before .before .before .before .before .before .put-field2 .ensures .1, c .before .before .before .put-field3 .ensures .1)
+put-requires c κs =
+    let args = c .before .before .before .before .before .before .before .before .before .before .before .before .before .before .before .before .before .before .before .args in
+    omega (arith, c .before .before .before .before .before .before .before .before .before .before .before .before .before .before .before .before .before .before .before .pre, refusal-length (args .number) (args .stage) (args .place), field-length (args .number), field-length (args .stage), field-length (args .place), c .before .before .before .before .before .before .before .before .before .before .before .before .before .before .before .put-word .ensures .1, c .before .before .before .before .before .before .before .before .before .before .before .put-field .ensures .1, c .before .before .before .before .before .before .before .put-field2 .ensures .1, c .before .before .before .put-field3 .ensures .1)
 
 same-length : tie.Need-same-length
 same-length c = search needs
 
 returns : tie.Need-returns
-returns c = in-turn (c .before .before .before .before .before .before .before .before .before .before .before .before .before .before .before .before .before .before .before .before .before .before .args .out .now) _ _ _ _ _ _ _ _ _ _ (c .before .before .before .before .before .before .before .before .before .before .before .before .before .before .before .before .before .before .before .before .before .before .args .number) (c .before .before .before .before .before .before .before .before .before .before .before .before .before .before .before .before .before .before .before .before .before .before .args .stage) (c .before .before .before .before .before .before .before .before .before .before .before .before .before .before .before .before .before .before .before .before .before .before .args .place) (c .before .before .before .before .before .before .before .before .before .before .before .before .before .before .before .before .before .before .put-word .ensures) (c .before .before .before .before .before .before .before .before .before .before .before .before .before .before .put-field .ensures) (c .before .before .before .before .before .before .before .before .before .before .put-field2 .ensures) (c .before .before .before .before .before .before .put-field3 .ensures) (c .before .before .put .ensures)
+returns c =
+    let args = c .before .before .before .before .before .before .before .before .before .before .before .before .before .before .before .before .before .before .before .before .before .before .args in
+    in-turn (args .out .now) _ _ _ _ _ _ _ _ _ _ (args .number) (args .stage) (args .place) (c .before .before .before .before .before .before .before .before .before .before .before .before .before .before .before .before .before .before .put-word .ensures) (c .before .before .before .before .before .before .before .before .before .before .before .before .before .before .put-field .ensures) (c .before .before .before .before .before .before .before .before .before .before .put-field2 .ensures) (c .before .before .before .before .before .before .put-field3 .ensures) (c .before .before .put .ensures)
 
 pub put-refusal-spec : {M : Type 1} → statement M
 put-refusal-spec =

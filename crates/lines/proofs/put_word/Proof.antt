@@ -40,7 +40,14 @@ loop-less : tie.Need-loop-less Inv-loop μ-loop
 loop-less c = search needs
 
 loop-again : tie.Need-loop-again Inv-loop μ-loop
-loop-again c = (c .before .before .loop .inv .0, omega arith, simp length-set (c .before .before .loop .inv .2), puts-next (c .before .before .before .args .out .now) (c .before .before .loop .out) (c .before .before .before .args .at) (c .before .before .loop .i) _ (take (c .before .before .loop .i) (c .before .before .before .args .word .now)) _ (c .before .before .loop .inv .2) (omega arith) (c .before .before .loop .inv .3) (ap (λ (k : ℕ). take k (c .before .before .before .args .word .now)) (add-one (c .before .before .loop .i)) ∙ take-suc (c .before .before .before .args .word .now) (c .before .before .loop .i) 0 (omega arith)))
+loop-again c =
+    let args = c .before .before .before .args in
+    let loop = c .before .before .loop in (
+      loop .inv .0,
+      omega arith,
+      simp length-set (loop .inv .2),
+      puts-next (args .out .now) (loop .out) (args .at) (loop .i) _ (take (loop .i) (args .word .now)) _ (loop .inv .2) (omega arith) (loop .inv .3) (ap (λ (k : ℕ). take k (args .word .now)) (add-one (loop .i)) ∙ take-suc (args .word .now) (loop .i) 0 (omega arith)),
+    )
 
 add-result : tie.Need-add-result Inv-loop μ-loop
 add-result c = search needs

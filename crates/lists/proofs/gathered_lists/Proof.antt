@@ -38,7 +38,11 @@ put-slots-requires : tie.Need-put-slots-requires
 put-slots-requires c κs = search needs
 
 returns : tie.Need-returns
-returns c = gathered-holds (c .before .before .before .before .before .before .before .before .before .before .before .before .before .before .args .q) (c .before .before .before .before .before .before .before .before .before .before .before .before .before .before .args .key) _ _ _ _ _ _ _ _ _ (c .before .before .before .before .before .before .before .before .before .before .before .before .before .before .pre) (c .before .before .before .before .before .before .before .before .before .before .before .put-set .ensures .0) (c .before .before .before .before .before .before .before .before .before .before .before .put-set .ensures .1) (c .before .before .before .before .before .before .before .before .put-set2 .ensures .0) (c .before .before .before .before .before .before .before .before .put-set2 .ensures .1) (c .before .before .before .before .before .put-set3 .ensures .0) (c .before .before .before .before .before .put-set3 .ensures .1) (c .before .put-slots .ensures .0) (c .before .put-slots .ensures .1)
+returns c =
+    let args = c .before .before .before .before .before .before .before .before .before .before .before .before .before .before .args in
+    let put-set = c .before .before .before .before .before .before .before .before .before .before .before .put-set in
+    let put-set2 = c .before .before .before .before .before .before .before .before .put-set2 in
+    gathered-holds (args .q) (args .key) _ _ _ _ _ _ _ _ _ (c .before .before .before .before .before .before .before .before .before .before .before .before .before .before .pre) (put-set .ensures .0) (put-set .ensures .1) (put-set2 .ensures .0) (put-set2 .ensures .1) (c .before .before .before .before .before .put-set3 .ensures .0) (c .before .before .before .before .before .put-set3 .ensures .1) (c .before .put-slots .ensures .0) (c .before .put-slots .ensures .1)
 
 pub gathered-lists-spec : {M : Type 1} → statement M
 gathered-lists-spec =

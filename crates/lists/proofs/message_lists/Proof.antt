@@ -51,10 +51,21 @@ slice-aggregate-put-slots-2 : tie.Need-slice-aggregate-put-slots-2
 slice-aggregate-put-slots-2 c = search needs
 
 put-slots-requires : tie.Need-put-slots-requires
-put-slots-requires c κs = (c .before .before .before .before .before .before .before .before .before .before .before .before .before .before .pre .0 .ordered (c .before .before .before .before .before .before .before .before .before .before .before .before .before .before .args .j) (c .before .before .before .before .before .before .before .before .before .before .before .before .before .before .pre .1), omega (arith, c .before .before .before .before .before .before .before .before .before .before .before .before .before .before .pre .0 .closed (c .before .before .before .before .before .before .before .before .before .before .before .before .before .before .args .j) (c .before .before .before .before .before .before .before .before .before .before .before .before .before .before .pre .1), c .before .before .before .before .before .before .before .before .before .before .before .before .before .before .pre .0 .room .contents .few, c .before .before .before .before .before .before .before .before .before .before .before .before .before .before .pre .0 .room .contents .long), omega (arith, c .before .before .before .before .before .before .before .before .before .before .before .before .before .before .pre .0 .closed (c .before .before .before .before .before .before .before .before .before .before .before .before .before .before .args .j) (c .before .before .before .before .before .before .before .before .before .before .before .before .before .before .pre .1), c .before .before .before .before .before .before .before .before .before .before .before .before .before .before .pre .0 .room .contents .few), omega arith)
+put-slots-requires c κs =
+    let args = c .before .before .before .before .before .before .before .before .before .before .before .before .before .before .args in
+    let pre = c .before .before .before .before .before .before .before .before .before .before .before .before .before .before .pre in (
+      pre .0 .ordered (args .j) (pre .1),
+      omega (arith, pre .0 .closed (args .j) (pre .1), pre .0 .room .contents .few, pre .0 .room .contents .long),
+      omega (arith, pre .0 .closed (args .j) (pre .1), pre .0 .room .contents .few),
+      omega arith,
+    )
 
 returns : tie.Need-returns
-returns c = message-holds (c .before .before .before .before .before .before .before .before .before .before .before .before .before .before .before .before .args .t1) (c .before .before .before .before .before .before .before .before .before .before .before .before .before .before .before .before .args .j) (c .before .before .before .before .before .before .before .before .before .before .before .before .before .before .before .before .args .shift) _ _ _ _ _ _ (c .before .before .before .before .before .before .before .before .before .before .before .before .before .before .before .before .pre .1) (c .before .before .before .before .before .before .before .before .before .before .before .before .before .before .before .before .pre .2) (c .before .before .before .before .before .before .before .before .before .before .before .before .before .before .before .before .pre .0) (c .before .before .before .before .before .before .before .before .put-set .ensures .0) (c .before .before .before .before .before .before .before .before .put-set .ensures .1) (c .before .before .before .before .before .put-set2 .ensures .0) (c .before .before .before .before .before .put-set2 .ensures .1) (c .before .put-slots .ensures .0) (c .before .put-slots .ensures .1)
+returns c =
+    let args = c .before .before .before .before .before .before .before .before .before .before .before .before .before .before .before .before .args in
+    let pre = c .before .before .before .before .before .before .before .before .before .before .before .before .before .before .before .before .pre in
+    let put-set = c .before .before .before .before .before .before .before .before .put-set in
+    message-holds (args .t1) (args .j) (args .shift) _ _ _ _ _ _ (pre .1) (pre .2) (pre .0) (put-set .ensures .0) (put-set .ensures .1) (c .before .before .before .before .before .put-set2 .ensures .0) (c .before .before .before .before .before .put-set2 .ensures .1) (c .before .put-slots .ensures .0) (c .before .put-slots .ensures .1)
 
 pub message-lists-spec : {M : Type 1} → statement M
 message-lists-spec =

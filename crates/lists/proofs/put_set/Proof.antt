@@ -19,7 +19,9 @@ abbrev μ-loop : tie.MeasureT-loop
 μ-loop list₀ at set shift to₀ j₀ list to j = 32 - j
 
 loop-holds : tie.Need-loop-holds Inv-loop μ-loop
-loop-holds c = let args = c .before .args in rw (rising-zero (λ i. has i (args .set)), append-nil (take (args .at) (args .list .now))) (omega arith, omega arith, refl, refl)
+loop-holds c =
+    let args = c .before .args in
+    rw (rising-zero (λ i. has i (args .set)), append-nil (take (args .at) (args .list .now))) (omega arith, omega arith, refl, refl)
 
 single-requires : tie.Need-single-requires Inv-loop μ-loop
 single-requires c κs = search needs

@@ -22,7 +22,10 @@ unfolding filledUpper sweep
 loop-holds c = (omega arith, refl, refl)
 
 fill-upper-column-requires : tie.Need-fill-upper-column-requires Inv-loop μ-loop
-fill-upper-column-requires c κs = (λ i h. within (c .before .before .loop .inv .1) (c .before .before .before .before .pre i _ (omega arith) (c .before .loop-test .taken)), λ i h. within (c .before .before .loop .inv .1) (c .before .before .before .before .pre _ i (c .before .loop-test .taken) (omega arith)))
+fill-upper-column-requires c κs = (
+  λ i h. within (c .before .before .loop .inv .1) (c .before .before .before .before .pre i _ (omega arith) (c .before .loop-test .taken)),
+  λ i h. within (c .before .before .loop .inv .1) (c .before .before .before .before .pre _ i (c .before .loop-test .taken) (omega arith)),
+)
 
 add-j : tie.Need-add-j Inv-loop μ-loop
 add-j c = omega arith

@@ -37,7 +37,11 @@ loop-less : tie.Need-loop-less Inv-loop μ-loop
 loop-less c = omega arith
 
 loop-again : tie.Need-loop-again Inv-loop μ-loop
-loop-again c = (refl, omega arith, rest-decides _ _ (omega arith) (c .before .before .before .before .loop .inv .2) (sym (c .before .is-finite .ensures) ∙ not-false _ (c .if1 .left)))
+loop-again c = (
+  refl,
+  omega arith,
+  rest-decides _ _ (omega arith) (c .before .before .before .before .loop .inv .2) (sym (c .before .is-finite .ensures) ∙ not-false _ (c .if1 .left)),
+)
 
 returns-2 : tie.Need-returns-2 Inv-loop μ-loop
 returns-2 c = sym (none-left (c .before .before .before .args .s .now) (c .before .loop .i) (omega arith) (c .before .loop .inv .2))

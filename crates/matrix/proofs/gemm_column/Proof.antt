@@ -35,10 +35,17 @@ loop-less : tie.Need-loop-less Inv-loop μ-loop
 loop-less c = omega (arith, c .before .before .before .before .loop-test .taken)
 
 loop-again : tie.Need-loop-again Inv-loop μ-loop
-loop-again c = (omega (arith, c .before .before .before .before .loop-test .taken), omega (arith, c .before .before .gemm-four .kept .0), c .before .before .gemm-four .ensures _ (c .before .before .before .before .before .loop .inv .2))
+loop-again c = (
+  omega (arith, c .before .before .before .before .loop-test .taken),
+  omega (arith, c .before .before .gemm-four .kept .0),
+  c .before .before .gemm-four .ensures _ (c .before .before .before .before .before .loop .inv .2),
+)
 
 gemm-rows-requires : tie.Need-gemm-rows-requires Inv-loop μ-loop
-gemm-rows-requires c κs = ((c .before .before .loop .inv .0, λ r h. omega (arith, c .before .before .loop .inv .1, c .before .before .before .before .before .before .pre .0 r h)), c .before .before .before .before .before .before .pre .1)
+gemm-rows-requires c κs = (
+  (c .before .before .loop .inv .0, λ r h. omega (arith, c .before .before .loop .inv .1, c .before .before .before .before .before .before .pre .0 r h)),
+  c .before .before .before .before .before .before .pre .1,
+)
 
 same-length : tie.Need-same-length Inv-loop μ-loop
 same-length c = search needs

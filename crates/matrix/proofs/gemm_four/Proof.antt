@@ -7,7 +7,7 @@ use Rattle.matrix.proofs.gemm_four.Statement.{statement}
 use Rattle.matrix.proofs.gemm_four.Tie as tie
 
 dots-requires : tie.Need-dots-requires
-dots-requires c κs = ((c .before .before .before .pre .0 .0, c .before .before .before .pre .0 .2), c .before .before .before .pre .1)
+dots-requires c κs = let pre = c .before .before .before .pre in ((pre .0 .0, pre .0 .2), pre .1)
 
 meet-requires : tie.Need-meet-requires
 meet-requires c κs = c .before .before .before .before .before .pre .0 .1 _ (omega arith)

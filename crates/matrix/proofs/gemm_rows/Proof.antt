@@ -21,7 +21,10 @@ loop-holds : tie.Need-loop-holds Inv-loop μ-loop
 loop-holds c = (omega arith, refl, λ u e. e)
 
 dot-requires : tie.Need-dot-requires Inv-loop μ-loop
-dot-requires c κs = (λ k h. c .before .before .before .before .before .before .pre .1 .0 _ k (c .before .loop-test .taken) h, c .before .before .before .before .before .before .pre .1 .1)
+dot-requires c κs = (
+  λ k h. c .before .before .before .before .before .before .pre .1 .0 _ k (c .before .loop-test .taken) h,
+  c .before .before .before .before .before .before .pre .1 .1,
+)
 
 meet-requires : tie.Need-meet-requires Inv-loop μ-loop
 meet-requires c κs = omega (arith, c .before .before .before .before .before .before .before .pre .0 .1 _ (c .before .before .loop-test .taken))
@@ -43,7 +46,9 @@ same-length : tie.Need-same-length Inv-loop μ-loop
 same-length c = search needs
 
 returns : tie.Need-returns Inv-loop μ-loop
-returns c = let e : c .before .loop .i ≡ c .before .before .before .before .before .args .m = omega arith in λ u h. let q = c .before .loop .inv .2 u h in cc
+returns c =
+    let e : c .before .loop .i ≡ c .before .before .before .before .before .args .m = omega arith in
+    λ u h. let q = c .before .loop .inv .2 u h in cc
 
 pub gemm-rows-spec : {M : Type 1} → statement M
 gemm-rows-spec =

@@ -8,7 +8,9 @@ flip-requires : tie.Need-flip-requires
 flip-requires c κs = search needs
 
 gemm-requires : tie.Need-gemm-requires
-gemm-requires c κs = (c .before .before .before .before .before .pre .0, (λ i j hi hj. rw (c .flip .ensures) (omega (arith, c .before .before .before .before .before .pre .1 .0 j i hj hi)), c .before .before .before .before .before .pre .1 .1))
+gemm-requires c κs =
+    let pre = c .before .before .before .before .before .pre in
+    (pre .0, (λ i j hi hj. rw (c .flip .ensures) (omega (arith, pre .1 .0 j i hj hi)), pre .1 .1))
 
 same-length : tie.Need-same-length
 same-length c = search needs

@@ -17,7 +17,13 @@ abbrev μ-loop : tie.MeasureT-loop
 μ-loop g times factors messages₀ work₀ marginals₀ counter₀ messages work marginals counter = times - counter
 
 loop-holds : tie.Need-loop-holds Inv-loop μ-loop
-loop-holds c = (omega arith, (c .before .before .before .before .pre), no-run (c .before .before .before .before .args .g) (c .before .before .before .before .args .factors .now) (stores (c .before .before .before .before .args .messages .now) (c .before .before .before .before .args .marginals .now)), refl, refl)
+loop-holds c =
+    let args = c .before .before .before .before .args in
+    (omega arith,
+    (c .before .before .before .before .pre),
+    no-run (args .g) (args .factors .now) (stores (args .messages .now) (args .marginals .now)),
+    refl,
+    refl)
 
 run-requires : tie.Need-run-requires Inv-loop μ-loop
 run-requires c κs = search needs
@@ -29,7 +35,15 @@ loop-less : tie.Need-loop-less Inv-loop μ-loop
 loop-less c = search needs
 
 loop-again : tie.Need-loop-again Inv-loop μ-loop
-loop-again c = (omega arith, c .before .before .before .before .before .before .run .kept .1 .1 .1 .0 ∙ c .before .before .before .before .before .before .before .before .before .before .before .loop .inv .1, one-run (c .before .before .before .before .before .before .before .before .before .before .before .before .before .before .before .before .args .g) (c .before .before .before .before .before .before .before .before .before .before .before .before .before .before .before .before .args .factors .now) (stores (c .before .before .before .before .before .before .before .before .before .before .before .before .before .before .before .before .args .messages .now) (c .before .before .before .before .before .before .before .before .before .before .before .before .before .before .before .before .args .marginals .now)) (c .before .before .before .before .before .before .before .before .before .before .before .loop .counter) (c .before .before .before .before .before .before .before .before .before .before .before .loop .messages) (c .before .before .before .before .before .before .before .before .before .before .before .loop .marginals) (length (c .before .before .before .before .before .before .before .before .before .before .before .loop .work)) _ _ _ (c .before .before .before .before .before .before .before .before .before .before .before .loop .inv .1) (c .before .before .before .before .before .before .before .before .before .before .before .loop .inv .2) (c .before .before .before .before .before .before .run .ensures), c .before .before .before .before .before .before .run .kept .1 .1 .0 ∙ c .before .before .before .before .before .before .before .before .before .before .before .loop .inv .3, c .before .before .before .before .before .before .run .kept .1 .1 .1 .1 .0 ∙ c .before .before .before .before .before .before .before .before .before .before .before .loop .inv .4)
+loop-again c =
+    let args = c .before .before .before .before .before .before .before .before .before .before .before .before .before .before .before .before .args in
+    let loop = c .before .before .before .before .before .before .before .before .before .before .before .loop in
+    let run = c .before .before .before .before .before .before .run in
+    (omega arith,
+    run .kept .1 .1 .1 .0 ∙ loop .inv .1,
+    one-run (args .g) (args .factors .now) (stores (args .messages .now) (args .marginals .now)) (loop .counter) (loop .messages) (loop .marginals) (length (loop .work)) _ _ _ (loop .inv .1) (loop .inv .2) (run .ensures),
+    run .kept .1 .1 .0 ∙ loop .inv .3,
+    run .kept .1 .1 .1 .1 .0 ∙ loop .inv .4)
 
 same-length : tie.Need-same-length Inv-loop μ-loop
 same-length c = search needs
@@ -41,7 +55,9 @@ same-length-3 : tie.Need-same-length-3 Inv-loop μ-loop
 same-length-3 c = search needs
 
 returns : tie.Need-returns Inv-loop μ-loop
-returns c = all-runs (c .before .before .before .before .before .before .args .g) (c .before .before .before .before .before .before .args .factors .now) (stores (c .before .before .before .before .before .before .args .messages .now) (c .before .before .before .before .before .before .args .marginals .now)) (c .before .before .before .before .before .before .args .times) (c .before .loop .counter) _ (omega arith) (c .before .loop .inv .2)
+returns c =
+    let args = c .before .before .before .before .before .before .args in
+    all-runs (args .g) (args .factors .now) (stores (args .messages .now) (args .marginals .now)) (args .times) (c .before .loop .counter) _ (omega arith) (c .before .loop .inv .2)
 
 pub repeat-spec : {M : Type 1} → statement M
 repeat-spec =

@@ -15,7 +15,9 @@ part-eliminate-slots-start : tie.Need-part-eliminate-slots-start
 part-eliminate-slots-start c = search needs
 
 part-eliminate-slots-end : tie.Need-part-eliminate-slots-end
-part-eliminate-slots-end c = let y : length (c .before .before .before .before .before .before .before .before .before .before .before .args .l .kept) ≡ 32 = search needs in omega (arith, c .before .before .before .before .before .before .before .before .before .before .before .pre .0 .kept)
+part-eliminate-slots-end c =
+    let y : length (c .before .before .before .before .before .before .before .before .before .before .before .args .l .kept) ≡ 32 = search needs in
+    omega (arith, c .before .before .before .before .before .before .before .before .before .before .before .pre .0 .kept)
 
 sub-eliminate-slots-2 : tie.Need-sub-eliminate-slots-2
 sub-eliminate-slots-2 c = search needs
@@ -24,7 +26,9 @@ part-eliminate-slots-start-2 : tie.Need-part-eliminate-slots-start-2
 part-eliminate-slots-start-2 c = search needs
 
 part-eliminate-slots-end-2 : tie.Need-part-eliminate-slots-end-2
-part-eliminate-slots-end-2 c = let y : length (c .before .before .before .before .before .before .before .before .before .before .before .before .before .args .l .cleared) ≡ 32 = search needs in omega (arith, c .before .before .before .before .before .before .before .before .before .before .before .before .before .pre .0 .cleared)
+part-eliminate-slots-end-2 c =
+    let y : length (c .before .before .before .before .before .before .before .before .before .before .before .before .before .args .l .cleared) ≡ 32 = search needs in
+    omega (arith, c .before .before .before .before .before .before .before .before .before .before .before .before .before .pre .0 .cleared)
 
 sub-eliminate-slots-3 : tie.Need-sub-eliminate-slots-3
 sub-eliminate-slots-3 c = search needs
@@ -33,10 +37,15 @@ part-eliminate-slots-start-3 : tie.Need-part-eliminate-slots-start-3
 part-eliminate-slots-start-3 c = search needs
 
 part-eliminate-slots-end-3 : tie.Need-part-eliminate-slots-end-3
-part-eliminate-slots-end-3 c = let y : length (c .before .before .before .before .before .before .before .before .before .before .before .before .before .before .before .args .l .slots) ≡ 128 = search needs in omega (arith, c .before .before .before .before .before .before .before .before .before .before .before .before .before .before .before .pre .0 .slots)
+part-eliminate-slots-end-3 c =
+    let y : length (c .before .before .before .before .before .before .before .before .before .before .before .before .before .before .before .args .l .slots) ≡ 128 = search needs in
+    omega (arith, c .before .before .before .before .before .before .before .before .before .before .before .before .before .before .before .pre .0 .slots)
 
 eliminate-slots-requires : tie.Need-eliminate-slots-requires
-eliminate-slots-requires c κs = to-parts (c .before .before .before .before .before .before .before .before .before .before .before .before .before .before .before .before .args .l) (λ kept cleared slots. Asked kept cleared (c .before .before .before .before .before .before .before .before .before .before .before .before .before .before .before .before .args .sizes) (c .before .before .before .before .before .before .before .before .before .before .before .before .before .before .before .before .args .factors .now) (c .before .before .before .before .before .before .before .before .before .before .before .before .before .before .before .before .args .messages .now) (length (c .before .before .before .before .before .before .before .before .before .before .before .before .before .before .before .before .args .work .now)) (c .before .before .before .before .before .before .before .before .before .before .before .before .before .before .before .before .args .keys .now) (c .before .before .before .before .before .before .before .before .before .before .before .before .before .before .before .before .args .heads .now) slots × Roomy kept cleared (c .before .before .before .before .before .before .before .before .before .before .before .before .before .before .before .before .args .sizes) (c .before .before .before .before .before .before .before .before .before .before .before .before .before .before .before .before .args .keys .now) (c .before .before .before .before .before .before .before .before .before .before .before .before .before .before .before .before .args .heads .now) slots (c .before .before .before .before .before .before .before .before .before .before .before .before .before .before .before .before .args .to) (length (c .before .before .before .before .before .before .before .before .before .before .before .before .before .before .before .before .args .messages .now))) (c .before .before .before .before .before .before .before .before .before .before .before .before .before .before .before .before .pre .1 .0, c .before .before .before .before .before .before .before .before .before .before .before .before .before .before .before .before .pre .1 .1)
+eliminate-slots-requires c κs =
+    let args = c .before .before .before .before .before .before .before .before .before .before .before .before .before .before .before .before .args in
+    let pre = c .before .before .before .before .before .before .before .before .before .before .before .before .before .before .before .before .pre in
+    to-parts (args .l) (λ kept cleared slots. Asked kept cleared (args .sizes) (args .factors .now) (args .messages .now) (length (args .work .now)) (args .keys .now) (args .heads .now) slots × Roomy kept cleared (args .sizes) (args .keys .now) (args .heads .now) slots (args .to) (length (args .messages .now))) (pre .1 .0, pre .1 .1)
 
 same-length : tie.Need-same-length
 same-length c = search needs
@@ -45,7 +54,9 @@ same-length-2 : tie.Need-same-length-2
 same-length-2 c = search needs
 
 returns : tie.Need-returns
-returns c = from-parts (c .before .before .before .before .before .before .before .before .before .before .before .before .before .before .before .before .before .before .before .before .before .args .l) (EliminatedBy (c .before .before .before .before .before .before .before .before .before .before .before .before .before .before .before .before .before .before .before .before .before .args .sizes) (c .before .before .before .before .before .before .before .before .before .before .before .before .before .before .before .before .before .before .before .before .before .args .factors .now) (c .before .before .before .before .before .before .before .before .before .before .before .before .before .before .before .before .before .before .before .before .before .args .messages .now) (c .before .before .before .before .before .before .before .before .before .before .before .before .before .before .before .before .before .before .before .before .before .args .keys .now) (c .before .before .before .before .before .before .before .before .before .before .before .before .before .before .before .before .before .before .before .before .before .args .heads .now) (c .before .before .before .before .before .before .before .before .before .before .before .before .before .before .before .before .before .before .before .before .before .args .to) _ _) (c .before .before .before .before .eliminate-slots .ensures .0, c .before .before .before .before .eliminate-slots .ensures .1)
+returns c =
+    let args = c .before .before .before .before .before .before .before .before .before .before .before .before .before .before .before .before .before .before .before .before .before .args in
+    from-parts (args .l) (EliminatedBy (args .sizes) (args .factors .now) (args .messages .now) (args .keys .now) (args .heads .now) (args .to) _ _) (c .before .before .before .before .eliminate-slots .ensures .0, c .before .before .before .before .eliminate-slots .ensures .1)
 
 pub eliminate-listed-spec : {M : Type 1} → statement M
 eliminate-listed-spec =

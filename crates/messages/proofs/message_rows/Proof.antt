@@ -15,10 +15,14 @@ dim-of-requires : tie.Need-dim-of-requires
 dim-of-requires c κs = search needs
 
 returns : tie.Need-returns
-returns c = all-rows (c .before .before .before .before .before .before .before .before .before .args .kept .now) (c .before .before .before .before .before .before .before .before .before .args .cleared .now) (c .before .before .before .before .before .before .before .before .before .args .slots .now) (c .before .before .before .before .before .before .before .before .before .args .sizes) (c .before .before .before .before .before .before .before .before .before .args .keys .now) (c .before .before .before .before .before .before .before .before .before .args .heads .now) _ _ _ (c .before .before .before .layout-of .ensures) (c .before .before .count-rows .ensures) (c .before .dim-of .ensures) (omega arith)
+returns c =
+    let args = c .before .before .before .before .before .before .before .before .before .args in
+    all-rows (args .kept .now) (args .cleared .now) (args .slots .now) (args .sizes) (args .keys .now) (args .heads .now) _ _ _ (c .before .before .before .layout-of .ensures) (c .before .before .count-rows .ensures) (c .before .dim-of .ensures) (omega arith)
 
 returns-2 : tie.Need-returns-2
-returns-2 c = kept-rows (c .before .before .before .before .before .before .before .before .before .args .kept .now) (c .before .before .before .before .before .before .before .before .before .args .cleared .now) (c .before .before .before .before .before .before .before .before .before .args .slots .now) (c .before .before .before .before .before .before .before .before .before .args .sizes) (c .before .before .before .before .before .before .before .before .before .args .keys .now) (c .before .before .before .before .before .before .before .before .before .args .heads .now) _ _ _ (c .before .before .before .layout-of .ensures) (c .before .before .count-rows .ensures) (c .before .dim-of .ensures) (omega arith)
+returns-2 c =
+    let args = c .before .before .before .before .before .before .before .before .before .args in
+    kept-rows (args .kept .now) (args .cleared .now) (args .slots .now) (args .sizes) (args .keys .now) (args .heads .now) _ _ _ (c .before .before .before .layout-of .ensures) (c .before .before .count-rows .ensures) (c .before .dim-of .ensures) (omega arith)
 
 pub message-rows-spec : {M : Type 1} → statement M
 message-rows-spec =

@@ -15,7 +15,9 @@ part-place-message-start : tie.Need-part-place-message-start
 part-place-message-start c = search needs
 
 part-place-message-end : tie.Need-part-place-message-end
-part-place-message-end c = let y : length (c .before .before .before .before .before .before .args .l .kept) ≡ 32 = search needs in omega (arith, c .before .before .before .before .before .before .pre .0 .kept)
+part-place-message-end c =
+    let y : length (c .before .before .before .before .before .before .args .l .kept) ≡ 32 = search needs in
+    omega (arith, c .before .before .before .before .before .before .pre .0 .kept)
 
 sub-place-message-2 : tie.Need-sub-place-message-2
 sub-place-message-2 c = search needs
@@ -24,7 +26,9 @@ part-place-message-start-2 : tie.Need-part-place-message-start-2
 part-place-message-start-2 c = search needs
 
 part-place-message-end-2 : tie.Need-part-place-message-end-2
-part-place-message-end-2 c = let y : length (c .before .before .before .before .before .before .before .before .args .l .cleared) ≡ 32 = search needs in omega (arith, c .before .before .before .before .before .before .before .before .pre .0 .cleared)
+part-place-message-end-2 c =
+    let y : length (c .before .before .before .before .before .before .before .before .args .l .cleared) ≡ 32 = search needs in
+    omega (arith, c .before .before .before .before .before .before .before .before .pre .0 .cleared)
 
 sub-place-message-3 : tie.Need-sub-place-message-3
 sub-place-message-3 c = search needs
@@ -33,10 +37,14 @@ part-place-message-start-3 : tie.Need-part-place-message-start-3
 part-place-message-start-3 c = search needs
 
 part-place-message-end-3 : tie.Need-part-place-message-end-3
-part-place-message-end-3 c = let y : length (c .before .before .before .before .before .before .before .before .before .before .args .l .slots) ≡ 128 = search needs in omega (arith, c .before .before .before .before .before .before .before .before .before .before .pre .0 .slots)
+part-place-message-end-3 c =
+    let y : length (c .before .before .before .before .before .before .before .before .before .before .args .l .slots) ≡ 128 = search needs in
+    omega (arith, c .before .before .before .before .before .before .before .before .before .before .pre .0 .slots)
 
 place-message-requires : tie.Need-place-message-requires
-place-message-requires c κs = to-parts (c .before .before .before .before .before .before .before .before .before .before .before .before .before .args .l) (λ kept cleared slots. Placeable kept cleared slots (c .before .before .before .before .before .before .before .before .before .before .before .before .before .args .sizes) (c .before .before .before .before .before .before .before .before .before .before .before .before .before .args .keys .now) (c .before .before .before .before .before .before .before .before .before .before .before .before .before .args .heads .now) (c .before .before .before .before .before .before .before .before .before .before .before .before .before .args .number) (c .before .before .before .before .before .before .before .before .before .before .before .before .before .args .start)) (c .before .before .before .before .before .before .before .before .before .before .before .before .before .pre .1)
+place-message-requires c κs =
+    let args = c .before .before .before .before .before .before .before .before .before .before .before .before .before .args in
+    to-parts (args .l) (λ kept cleared slots. Placeable kept cleared slots (args .sizes) (args .keys .now) (args .heads .now) (args .number) (args .start)) (c .before .before .before .before .before .before .before .before .before .before .before .before .before .pre .1)
 
 same-length : tie.Need-same-length
 same-length c = search needs
@@ -45,7 +53,10 @@ same-length-2 : tie.Need-same-length-2
 same-length-2 c = search needs
 
 returns : tie.Need-returns
-returns c = from-parts (c .before .before .before .before .before .before .before .before .before .before .before .before .before .before .before .before .before .before .args .l) (PlacedBy (c .before .before .before .before .before .before .before .before .before .before .before .before .before .before .before .before .before .before .args .sizes) (c .before .before .before .before .before .before .before .before .before .before .before .before .before .before .before .before .before .before .args .keys .now) (c .before .before .before .before .before .before .before .before .before .before .before .before .before .before .before .before .before .before .args .heads .now) (c .before .before .before .before .before .before .before .before .before .before .before .before .before .before .before .before .before .before .args .number) (c .before .before .before .before .before .before .before .before .before .before .before .before .before .before .before .before .before .before .args .start) _ _ _) (c .before .before .before .before .place-message .ensures .0, (c .before .before .before .before .place-message .ensures .1 .0, c .before .before .before .before .place-message .ensures .1 .1))
+returns c =
+    let args = c .before .before .before .before .before .before .before .before .before .before .before .before .before .before .before .before .before .before .args in
+    let place-message = c .before .before .before .before .place-message in
+    from-parts (args .l) (PlacedBy (args .sizes) (args .keys .now) (args .heads .now) (args .number) (args .start) _ _ _) (place-message .ensures .0, (place-message .ensures .1 .0, place-message .ensures .1 .1))
 
 pub place-listed-spec : {M : Type 1} → statement M
 place-listed-spec =

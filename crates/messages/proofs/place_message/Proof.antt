@@ -6,7 +6,9 @@ use Rattle.messages.proofs.place_message.Statement.{statement}
 use Rattle.messages.proofs.place_message.Tie as tie
 
 message-rows-requires : tie.Need-message-rows-requires
-message-rows-requires c κs = (c .before .before .before .before .before .before .before .pre .kept-listed, c .before .before .before .before .before .before .before .pre .cleared-listed, c .before .before .before .before .before .before .before .pre .counted)
+message-rows-requires c κs =
+    let pre = c .before .before .before .before .before .before .before .pre in
+    (pre .kept-listed, pre .cleared-listed, pre .counted)
 
 dim-of-requires : tie.Need-dim-of-requires
 dim-of-requires c κs = c .before .before .before .before .before .before .before .before .pre .kept-listed
@@ -30,19 +32,39 @@ put-head-requires : tie.Need-put-head-requires
 put-head-requires c κs = c .before .before .before .before .before .before .before .before .before .before .before .before .before .before .pre .headed
 
 mul-result : tie.Need-mul-result
-mul-result c = let small = placed-small (c .before .before .before .before .before .before .before .before .before .before .before .before .before .before .before .before .before .args .kept .now) (c .before .before .before .before .before .before .before .before .before .before .before .before .before .before .before .before .before .args .cleared .now) (c .before .before .before .before .before .before .before .before .before .before .before .before .before .before .before .before .before .args .slots .now) (c .before .before .before .before .before .before .before .before .before .before .before .before .before .before .before .before .before .args .sizes) (c .before .before .before .before .before .before .before .before .before .before .before .before .before .before .before .before .before .args .keys .now) (c .before .before .before .before .before .before .before .before .before .before .before .before .before .before .before .before .before .args .heads .now) _ _ (c .before .before .before .before .before .before .before .before .before .before .before .before .before .before .before .before .before .pre .kept-listed) (c .before .before .before .before .before .before .before .before .before .message-rows .ensures) (c .before .before .before .before .before .before .before .before .dim-of .ensures) in record { fits = omega (arith, small .0, small .1, small .2, small .3, c .before .before .before .before .before .before .before .before .before .before .before .before .before .before .before .before .before .pre .low) }
+mul-result c =
+    let args = c .before .before .before .before .before .before .before .before .before .before .before .before .before .before .before .before .before .args in
+    let pre = c .before .before .before .before .before .before .before .before .before .before .before .before .before .before .before .before .before .pre in
+    let small = placed-small (args .kept .now) (args .cleared .now) (args .slots .now) (args .sizes) (args .keys .now) (args .heads .now) _ _ (pre .kept-listed) (c .before .before .before .before .before .before .before .before .before .message-rows .ensures) (c .before .before .before .before .before .before .before .before .dim-of .ensures) in
+    record { fits = omega (arith, small .0, small .1, small .2, small .3, pre .low) }
 
 add-result : tie.Need-add-result
-add-result c = let small = placed-small (c .before .before .before .before .before .before .before .before .before .before .before .before .before .before .before .before .before .args .kept .now) (c .before .before .before .before .before .before .before .before .before .before .before .before .before .before .before .before .before .args .cleared .now) (c .before .before .before .before .before .before .before .before .before .before .before .before .before .before .before .before .before .args .slots .now) (c .before .before .before .before .before .before .before .before .before .before .before .before .before .before .before .before .before .args .sizes) (c .before .before .before .before .before .before .before .before .before .before .before .before .before .before .before .before .before .args .keys .now) (c .before .before .before .before .before .before .before .before .before .before .before .before .before .before .before .before .before .args .heads .now) _ _ (c .before .before .before .before .before .before .before .before .before .before .before .before .before .before .before .before .before .pre .kept-listed) (c .before .before .before .before .before .before .before .before .before .message-rows .ensures) (c .before .before .before .before .before .before .before .before .dim-of .ensures) in record { fits = omega (arith, small .0, small .1, small .2, small .3, c .before .before .before .before .before .before .before .before .before .before .before .before .before .before .before .before .before .pre .low) }
+add-result c =
+    let args = c .before .before .before .before .before .before .before .before .before .before .before .before .before .before .before .before .before .args in
+    let pre = c .before .before .before .before .before .before .before .before .before .before .before .before .before .before .before .before .before .pre in
+    let small = placed-small (args .kept .now) (args .cleared .now) (args .slots .now) (args .sizes) (args .keys .now) (args .heads .now) _ _ (pre .kept-listed) (c .before .before .before .before .before .before .before .before .before .message-rows .ensures) (c .before .before .before .before .before .before .before .before .dim-of .ensures) in
+    record { fits = omega (arith, small .0, small .1, small .2, small .3, pre .low) }
 
 mul-result-2 : tie.Need-mul-result-2
-mul-result-2 c = let small = placed-small (c .before .before .before .before .before .before .before .before .before .before .before .before .before .before .before .before .before .args .kept .now) (c .before .before .before .before .before .before .before .before .before .before .before .before .before .before .before .before .before .args .cleared .now) (c .before .before .before .before .before .before .before .before .before .before .before .before .before .before .before .before .before .args .slots .now) (c .before .before .before .before .before .before .before .before .before .before .before .before .before .before .before .before .before .args .sizes) (c .before .before .before .before .before .before .before .before .before .before .before .before .before .before .before .before .before .args .keys .now) (c .before .before .before .before .before .before .before .before .before .before .before .before .before .before .before .before .before .args .heads .now) _ _ (c .before .before .before .before .before .before .before .before .before .before .before .before .before .before .before .before .before .pre .kept-listed) (c .before .before .before .before .before .before .before .before .before .message-rows .ensures) (c .before .before .before .before .before .before .before .before .dim-of .ensures) in record { fits = omega (arith, small .0, small .1, small .2, small .3, c .before .before .before .before .before .before .before .before .before .before .before .before .before .before .before .before .before .pre .low) }
+mul-result-2 c =
+    let args = c .before .before .before .before .before .before .before .before .before .before .before .before .before .before .before .before .before .args in
+    let pre = c .before .before .before .before .before .before .before .before .before .before .before .before .before .before .before .before .before .pre in
+    let small = placed-small (args .kept .now) (args .cleared .now) (args .slots .now) (args .sizes) (args .keys .now) (args .heads .now) _ _ (pre .kept-listed) (c .before .before .before .before .before .before .before .before .before .message-rows .ensures) (c .before .before .before .before .before .before .before .before .dim-of .ensures) in
+    record { fits = omega (arith, small .0, small .1, small .2, small .3, pre .low) }
 
 add-result-2 : tie.Need-add-result-2
-add-result-2 c = let small = placed-small (c .before .before .before .before .before .before .before .before .before .before .before .before .before .before .before .before .before .args .kept .now) (c .before .before .before .before .before .before .before .before .before .before .before .before .before .before .before .before .before .args .cleared .now) (c .before .before .before .before .before .before .before .before .before .before .before .before .before .before .before .before .before .args .slots .now) (c .before .before .before .before .before .before .before .before .before .before .before .before .before .before .before .before .before .args .sizes) (c .before .before .before .before .before .before .before .before .before .before .before .before .before .before .before .before .before .args .keys .now) (c .before .before .before .before .before .before .before .before .before .before .before .before .before .before .before .before .before .args .heads .now) _ _ (c .before .before .before .before .before .before .before .before .before .before .before .before .before .before .before .before .before .pre .kept-listed) (c .before .before .before .before .before .before .before .before .before .message-rows .ensures) (c .before .before .before .before .before .before .before .before .dim-of .ensures) in record { fits = omega (arith, small .0, small .1, small .2, small .3, c .before .before .before .before .before .before .before .before .before .before .before .before .before .before .before .before .before .pre .low) }
+add-result-2 c =
+    let args = c .before .before .before .before .before .before .before .before .before .before .before .before .before .before .before .before .before .args in
+    let pre = c .before .before .before .before .before .before .before .before .before .before .before .before .before .before .before .before .before .pre in
+    let small = placed-small (args .kept .now) (args .cleared .now) (args .slots .now) (args .sizes) (args .keys .now) (args .heads .now) _ _ (pre .kept-listed) (c .before .before .before .before .before .before .before .before .before .message-rows .ensures) (c .before .before .before .before .before .before .before .before .dim-of .ensures) in
+    record { fits = omega (arith, small .0, small .1, small .2, small .3, pre .low) }
 
 add-result-3 : tie.Need-add-result-3
-add-result-3 c = let small = placed-small (c .before .before .before .before .before .before .before .before .before .before .before .before .before .before .before .before .before .args .kept .now) (c .before .before .before .before .before .before .before .before .before .before .before .before .before .before .before .before .before .args .cleared .now) (c .before .before .before .before .before .before .before .before .before .before .before .before .before .before .before .before .before .args .slots .now) (c .before .before .before .before .before .before .before .before .before .before .before .before .before .before .before .before .before .args .sizes) (c .before .before .before .before .before .before .before .before .before .before .before .before .before .before .before .before .before .args .keys .now) (c .before .before .before .before .before .before .before .before .before .before .before .before .before .before .before .before .before .args .heads .now) _ _ (c .before .before .before .before .before .before .before .before .before .before .before .before .before .before .before .before .before .pre .kept-listed) (c .before .before .before .before .before .before .before .before .before .message-rows .ensures) (c .before .before .before .before .before .before .before .before .dim-of .ensures) in record { fits = omega (arith, small .0, small .1, small .2, small .3, c .before .before .before .before .before .before .before .before .before .before .before .before .before .before .before .before .before .pre .low) }
+add-result-3 c =
+    let args = c .before .before .before .before .before .before .before .before .before .before .before .before .before .before .before .before .before .args in
+    let pre = c .before .before .before .before .before .before .before .before .before .before .before .before .before .before .before .before .before .pre in
+    let small = placed-small (args .kept .now) (args .cleared .now) (args .slots .now) (args .sizes) (args .keys .now) (args .heads .now) _ _ (pre .kept-listed) (c .before .before .before .before .before .before .before .before .before .message-rows .ensures) (c .before .before .before .before .before .before .before .before .dim-of .ensures) in
+    record { fits = omega (arith, small .0, small .1, small .2, small .3, pre .low) }
 
 same-length : tie.Need-same-length
 same-length c = search needs
@@ -51,7 +73,10 @@ same-length-2 : tie.Need-same-length-2
 same-length-2 c = search needs
 
 returns : tie.Need-returns
-returns c = let p = placed-is (c .before .before .before .before .before .before .before .before .before .before .before .before .before .before .before .before .before .args .kept .now) (c .before .before .before .before .before .before .before .before .before .before .before .before .before .before .before .before .before .args .cleared .now) (c .before .before .before .before .before .before .before .before .before .before .before .before .before .before .before .before .before .args .slots .now) (c .before .before .before .before .before .before .before .before .before .before .before .before .before .before .before .before .before .args .sizes) (c .before .before .before .before .before .before .before .before .before .before .before .before .before .before .before .before .before .args .keys .now) (c .before .before .before .before .before .before .before .before .before .before .before .before .before .before .before .before .before .args .heads .now) (c .before .before .before .before .before .before .before .before .before .before .before .before .before .before .before .before .before .args .number) (c .before .before .before .before .before .before .before .before .before .before .before .before .before .before .before .before .before .args .start) _ _ _ _ (c .before .before .before .before .before .before .before .before .before .message-rows .ensures) (c .before .before .before .before .before .before .before .before .dim-of .ensures) (c .before .before .before .before .before .before .put-list .ensures) (c .before .before .put-head .ensures) in (p .0, (p .1, p .2))
+returns c =
+    let args = c .before .before .before .before .before .before .before .before .before .before .before .before .before .before .before .before .before .args in
+    let p = placed-is (args .kept .now) (args .cleared .now) (args .slots .now) (args .sizes) (args .keys .now) (args .heads .now) (args .number) (args .start) _ _ _ _ (c .before .before .before .before .before .before .before .before .before .message-rows .ensures) (c .before .before .before .before .before .before .before .before .dim-of .ensures) (c .before .before .before .before .before .before .put-list .ensures) (c .before .before .put-head .ensures) in
+    (p .0, (p .1, p .2))
 
 pub place-message-spec : {M : Type 1} → statement M
 place-message-spec =

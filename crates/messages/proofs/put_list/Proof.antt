@@ -40,7 +40,13 @@ loop-less : tie.Need-loop-less Inv-loop μ-loop
 loop-less c = search needs
 
 loop-again : tie.Need-loop-again Inv-loop μ-loop
-loop-again c = (omega arith, copy-more (c .before .before .before .args .table .now) (c .before .before .loop .table) (c .before .before .before .args .first) (c .before .before .before .args .list .now) (c .before .before .loop .i) _ (c .before .before .loop .inv .1) refl (omega arith) (omega arith), simp length-set (c .before .before .loop .inv .2))
+loop-again c =
+    let args = c .before .before .before .args in
+    let loop = c .before .before .loop in (
+      omega arith,
+      copy-more (args .table .now) (loop .table) (args .first) (args .list .now) (loop .i) _ (loop .inv .1) refl (omega arith) (omega arith),
+      simp length-set (loop .inv .2),
+    )
 
 same-length : tie.Need-same-length Inv-loop μ-loop
 same-length c = search needs

@@ -52,7 +52,13 @@ new-requires : tie.Need-new-requires Inv-loop μ-loop
 new-requires c κs = search needs
 
 loop-holds : tie.Need-loop-holds Inv-loop μ-loop
-loop-holds c = (omega arith, omega arith, refl, begun-reached (c .new .result) (c .new .ensures), begun (c .before .before .before .args .bytes .now) (c .before .before .before .args .store .now) (c .new .result) (c .new .ensures))
+loop-holds c = (
+  omega arith,
+  omega arith,
+  refl,
+  begun-reached (c .new .result) (c .new .ensures),
+  begun (c .before .before .before .args .bytes .now) (c .before .before .before .args .store .now) (c .new .result) (c .new .ensures),
+)
 
 read-record-requires : tie.Need-read-record-requires Inv-loop μ-loop
 read-record-requires c κs = (good-of (c .before .before .loop .g) (c .before .before .loop .inv .3) .1, omega arith)
@@ -67,22 +73,45 @@ same-length : tie.Need-same-length Inv-loop μ-loop
 same-length c = omega arith
 
 returns : tie.Need-returns Inv-loop μ-loop
-returns c = turned-back (readAll (c .before .before .before .before .before .before .before .before .before .before .before .before .before .args .bytes .now) (c .before .before .before .before .before .before .before .before .before .before .before .before .before .args .store .now)) _ _ _ (off (c .before .before .before .before .before .before .before .before .before .before .before .before .before .args .bytes .now) (c .before .before .before .before .before .before .before .before .before .loop .at) (c .before .before .before .before .before .before .before .before .before .loop .place) (c .before .before .before .before .before .before .before .before .before .loop .g) (c .before .before .before .before .before .before .before .before .before .loop .store) (readAll (c .before .before .before .before .before .before .before .before .before .before .before .before .before .args .bytes .now) (c .before .before .before .before .before .before .before .before .before .before .before .before .before .args .store .now)) (c .before .before .before .before .before .before .before .before .before .loop .inv .4) (c .before .before .before .before .before .before .before .before .loop-test .taken) (c .before .before .before .before .before .before .before .before .before .loop .inv .0) (c .before .before .before .before .before .before .read-record .result) _ (c .before .before .before .before .before .before .read-record .ensures .0) (c .before .before .before .before .before .before .read-record .ensures .1) _ (c .before .next2 .given .1)) (valid-step (c .before .before .before .before .before .before .before .before .before .loop .g) (recordAt (c .before .before .before .before .before .before .before .before .before .loop .g) (c .before .before .before .before .before .before .before .before .before .loop .store) (c .before .before .before .before .before .before .before .before .before .before .before .before .before .args .bytes .now) (c .before .before .before .before .before .before .before .before .before .loop .at)) (c .before .before .before .before .before .before .read-record .result) (c .before .before .before .before .before .before .read-record .ensures .0) (c .before .before .before .before .before .before .before .before .before .loop .inv .3))
+returns c =
+    let args = c .before .before .before .before .before .before .before .before .before .before .before .before .before .args in
+    let loop = c .before .before .before .before .before .before .before .before .before .loop in
+    let read-record = c .before .before .before .before .before .before .read-record in
+    turned-back (readAll (args .bytes .now) (args .store .now)) _ _ _ (off (args .bytes .now) (loop .at) (loop .place) (loop .g) (loop .store) (readAll (args .bytes .now) (args .store .now)) (loop .inv .4) (c .before .before .before .before .before .before .before .before .loop-test .taken) (loop .inv .0) (read-record .result) _ (read-record .ensures .0) (read-record .ensures .1) _ (c .before .next2 .given .1)) (valid-step (loop .g) (recordAt (loop .g) (loop .store) (args .bytes .now) (loop .at)) (read-record .result) (read-record .ensures .0) (loop .inv .3))
 
 add-place : tie.Need-add-place Inv-loop μ-loop
 add-place c = omega arith
 
 loop-less : tie.Need-loop-less Inv-loop μ-loop
-loop-less c = let w : (c .before .before .before .before .before .before .before .before .before .loop .at < c .before .next .given .0 .0) × (c .before .next .given .0 .0 ≤ length (c .before .before .before .before .before .before .before .before .before .before .before .before .before .args .bytes .now)) = (on (c .before .before .before .before .before .before .before .before .before .before .before .before .before .args .bytes .now) (c .before .before .before .before .before .before .before .before .before .loop .at) (c .before .before .before .before .before .before .before .before .before .loop .place) (c .before .before .before .before .before .before .before .before .before .loop .g) (c .before .before .before .before .before .before .before .before .before .loop .store) (readAll (c .before .before .before .before .before .before .before .before .before .before .before .before .before .args .bytes .now) (c .before .before .before .before .before .before .before .before .before .before .before .before .before .args .store .now)) (c .before .before .before .before .before .before .before .before .before .loop .inv .4) (c .before .before .before .before .before .before .before .before .loop-test .taken) (c .before .before .before .before .before .before .before .before .before .loop .inv .0) (c .before .before .before .before .before .before .read-record .result) _ (c .before .before .before .before .before .before .read-record .ensures .0) (c .before .before .before .before .before .before .read-record .ensures .1) _ (c .before .next .given .1) .1, on (c .before .before .before .before .before .before .before .before .before .before .before .before .before .args .bytes .now) (c .before .before .before .before .before .before .before .before .before .loop .at) (c .before .before .before .before .before .before .before .before .before .loop .place) (c .before .before .before .before .before .before .before .before .before .loop .g) (c .before .before .before .before .before .before .before .before .before .loop .store) (readAll (c .before .before .before .before .before .before .before .before .before .before .before .before .before .args .bytes .now) (c .before .before .before .before .before .before .before .before .before .before .before .before .before .args .store .now)) (c .before .before .before .before .before .before .before .before .before .loop .inv .4) (c .before .before .before .before .before .before .before .before .loop-test .taken) (c .before .before .before .before .before .before .before .before .before .loop .inv .0) (c .before .before .before .before .before .before .read-record .result) _ (c .before .before .before .before .before .before .read-record .ensures .0) (c .before .before .before .before .before .before .read-record .ensures .1) _ (c .before .next .given .1) .2) in omega arith
+loop-less c =
+    let args = c .before .before .before .before .before .before .before .before .before .before .before .before .before .args in
+    let loop = c .before .before .before .before .before .before .before .before .before .loop in
+    let loop-test = c .before .before .before .before .before .before .before .before .loop-test in
+    let read-record = c .before .before .before .before .before .before .read-record in
+    let w : (loop .at < c .before .next .given .0 .0) × (c .before .next .given .0 .0 ≤ length (args .bytes .now)) = (on (args .bytes .now) (loop .at) (loop .place) (loop .g) (loop .store) (readAll (args .bytes .now) (args .store .now)) (loop .inv .4) (loop-test .taken) (loop .inv .0) (read-record .result) _ (read-record .ensures .0) (read-record .ensures .1) _ (c .before .next .given .1) .1, on (args .bytes .now) (loop .at) (loop .place) (loop .g) (loop .store) (readAll (args .bytes .now) (args .store .now)) (loop .inv .4) (loop-test .taken) (loop .inv .0) (read-record .result) _ (read-record .ensures .0) (read-record .ensures .1) _ (c .before .next .given .1) .2) in
+    omega arith
 
 loop-again : tie.Need-loop-again Inv-loop μ-loop
-loop-again c = let w : (c .before .before .before .before .before .before .before .before .before .loop .at < c .before .next .given .0 .0) × (c .before .next .given .0 .0 ≤ length (c .before .before .before .before .before .before .before .before .before .before .before .before .before .args .bytes .now)) = (on (c .before .before .before .before .before .before .before .before .before .before .before .before .before .args .bytes .now) (c .before .before .before .before .before .before .before .before .before .loop .at) (c .before .before .before .before .before .before .before .before .before .loop .place) (c .before .before .before .before .before .before .before .before .before .loop .g) (c .before .before .before .before .before .before .before .before .before .loop .store) (readAll (c .before .before .before .before .before .before .before .before .before .before .before .before .before .args .bytes .now) (c .before .before .before .before .before .before .before .before .before .before .before .before .before .args .store .now)) (c .before .before .before .before .before .before .before .before .before .loop .inv .4) (c .before .before .before .before .before .before .before .before .loop-test .taken) (c .before .before .before .before .before .before .before .before .before .loop .inv .0) (c .before .before .before .before .before .before .read-record .result) _ (c .before .before .before .before .before .before .read-record .ensures .0) (c .before .before .before .before .before .before .read-record .ensures .1) _ (c .before .next .given .1) .1, on (c .before .before .before .before .before .before .before .before .before .before .before .before .before .args .bytes .now) (c .before .before .before .before .before .before .before .before .before .loop .at) (c .before .before .before .before .before .before .before .before .before .loop .place) (c .before .before .before .before .before .before .before .before .before .loop .g) (c .before .before .before .before .before .before .before .before .before .loop .store) (readAll (c .before .before .before .before .before .before .before .before .before .before .before .before .before .args .bytes .now) (c .before .before .before .before .before .before .before .before .before .before .before .before .before .args .store .now)) (c .before .before .before .before .before .before .before .before .before .loop .inv .4) (c .before .before .before .before .before .before .before .before .loop-test .taken) (c .before .before .before .before .before .before .before .before .before .loop .inv .0) (c .before .before .before .before .before .before .read-record .result) _ (c .before .before .before .before .before .before .read-record .ensures .0) (c .before .before .before .before .before .before .read-record .ensures .1) _ (c .before .next .given .1) .2) in (omega arith, omega arith, omega arith, reached-step (c .before .before .before .before .before .before .before .before .before .loop .g) (recordAt (c .before .before .before .before .before .before .before .before .before .loop .g) (c .before .before .before .before .before .before .before .before .before .loop .store) (c .before .before .before .before .before .before .before .before .before .before .before .before .before .args .bytes .now) (c .before .before .before .before .before .before .before .before .before .loop .at)) (c .before .before .before .before .before .before .read-record .result) (c .before .before .before .before .before .before .read-record .ensures .0) (c .before .before .before .before .before .before .before .before .before .loop .inv .3), on (c .before .before .before .before .before .before .before .before .before .before .before .before .before .args .bytes .now) (c .before .before .before .before .before .before .before .before .before .loop .at) (c .before .before .before .before .before .before .before .before .before .loop .place) (c .before .before .before .before .before .before .before .before .before .loop .g) (c .before .before .before .before .before .before .before .before .before .loop .store) (readAll (c .before .before .before .before .before .before .before .before .before .before .before .before .before .args .bytes .now) (c .before .before .before .before .before .before .before .before .before .before .before .before .before .args .store .now)) (c .before .before .before .before .before .before .before .before .before .loop .inv .4) (c .before .before .before .before .before .before .before .before .loop-test .taken) (c .before .before .before .before .before .before .before .before .before .loop .inv .0) (c .before .before .before .before .before .before .read-record .result) _ (c .before .before .before .before .before .before .read-record .ensures .0) (c .before .before .before .before .before .before .read-record .ensures .1) _ (c .before .next .given .1) .0)
+loop-again c =
+    let args = c .before .before .before .before .before .before .before .before .before .before .before .before .before .args in
+    let loop = c .before .before .before .before .before .before .before .before .before .loop in
+    let loop-test = c .before .before .before .before .before .before .before .before .loop-test in
+    let read-record = c .before .before .before .before .before .before .read-record in
+    let w : (loop .at < c .before .next .given .0 .0) × (c .before .next .given .0 .0 ≤ length (args .bytes .now)) = (on (args .bytes .now) (loop .at) (loop .place) (loop .g) (loop .store) (readAll (args .bytes .now) (args .store .now)) (loop .inv .4) (loop-test .taken) (loop .inv .0) (read-record .result) _ (read-record .ensures .0) (read-record .ensures .1) _ (c .before .next .given .1) .1, on (args .bytes .now) (loop .at) (loop .place) (loop .g) (loop .store) (readAll (args .bytes .now) (args .store .now)) (loop .inv .4) (loop-test .taken) (loop .inv .0) (read-record .result) _ (read-record .ensures .0) (read-record .ensures .1) _ (c .before .next .given .1) .2) in (
+      omega arith,
+      omega arith,
+      omega arith,
+      reached-step (loop .g) (recordAt (loop .g) (loop .store) (args .bytes .now) (loop .at)) (read-record .result) (read-record .ensures .0) (loop .inv .3),
+      on (args .bytes .now) (loop .at) (loop .place) (loop .g) (loop .store) (readAll (args .bytes .now) (args .store .now)) (loop .inv .4) (loop-test .taken) (loop .inv .0) (read-record .result) _ (read-record .ensures .0) (read-record .ensures .1) _ (c .before .next .given .1) .0,
+    )
 
 same-length-2 : tie.Need-same-length-2 Inv-loop μ-loop
 same-length-2 c = c .before .loop .inv .2
 
 returns-2 : tie.Need-returns-2 Inv-loop μ-loop
-returns-2 c = taken-whole (readAll (c .before .before .before .before .before .args .bytes .now) (c .before .before .before .before .before .args .store .now)) _ _ (all-read (c .before .before .before .before .before .args .bytes .now) (c .before .loop .at) (c .before .loop .place) (c .before .loop .g) (c .before .loop .store) (readAll (c .before .before .before .before .before .args .bytes .now) (c .before .before .before .before .before .args .store .now)) (c .before .loop .inv .4) (omega arith)) (good-of (c .before .loop .g) (c .before .loop .inv .3) .1)
+returns-2 c =
+    let args = c .before .before .before .before .before .args in
+    taken-whole (readAll (args .bytes .now) (args .store .now)) _ _ (all-read (args .bytes .now) (c .before .loop .at) (c .before .loop .place) (c .before .loop .g) (c .before .loop .store) (readAll (args .bytes .now) (args .store .now)) (c .before .loop .inv .4) (omega arith)) (good-of (c .before .loop .g) (c .before .loop .inv .3) .1)
 
 pub read-spec : {M : Type 1} → statement M
 read-spec =

@@ -58,7 +58,9 @@ stop-requires : tie.Need-stop-requires
 stop-requires c κs = search needs
 
 returns : tie.Need-returns
-returns c = turned (c .before .before .before .before .before .args .g) (c .before .before .before .before .before .args .store .now) _ _ BadRecord _ (cut-short (c .before .before .before .before .before .args .g) (c .before .before .before .before .before .args .store .now) (c .before .before .before .before .before .args .bytes .now) (c .before .before .before .before .before .args .at) (tells (c .before .before .cut .ensures) (c .before .if1 .taken))) (c .stop .ensures) refl
+returns c =
+    let args = c .before .before .before .before .before .args in
+    turned (args .g) (args .store .now) _ _ BadRecord _ (cut-short (args .g) (args .store .now) (args .bytes .now) (args .at) (tells (c .before .before .cut .ensures) (c .before .if1 .taken))) (c .stop .ensures) refl
 
 byte-requires : tie.Need-byte-requires
 byte-requires c κs = omega (arith, there (c .before .before .before .before .args .bytes .now) (c .before .before .before .before .args .at) 3 (tells (c .before .cut .ensures) (c .if1 .left)))
@@ -85,7 +87,10 @@ stop-requires-2 : tie.Need-stop-requires-2
 stop-requires-2 c κs = search needs
 
 returns-2 : tie.Need-returns-2
-returns-2 c = turned (c .before .before .before .before .before .before .before .before .before .before .before .args .g) (c .before .before .before .before .before .before .before .before .before .before .before .args .store .now) _ _ BadRecord _ (no-flag (c .before .before .before .before .before .before .before .before .before .before .before .args .g) (c .before .before .before .before .before .before .before .before .before .before .before .args .store .now) (c .before .before .before .before .before .before .before .before .before .before .before .args .bytes .now) (c .before .before .before .before .before .before .before .before .before .before .before .args .at) (tells (c .before .before .before .before .before .before .before .before .cut .ensures) (c .before .before .before .before .before .before .before .if1 .left)) (c .before .before .before .before .before .before .byte .result) (c .before .before .before .before .before .byte2 .result) (c .before .before .before .meaning .result) (c .before .before .before .before .before .before .byte .ensures .0) (c .before .before .before .before .before .byte2 .ensures .0) (meant (c .before .before .before .before .before .before .before .before .before .before .before .args .bytes .now) (c .before .before .before .before .before .before .before .before .before .before .before .args .at) (c .before .before .before .before .byte3 .result) (c .before .before .before .meaning .result) (c .before .before .before .before .byte3 .ensures .0) (c .before .before .before .meaning .ensures)) (tells (c .before .before .flag-known .ensures) (not-true _ (c .before .if2 .taken)))) (c .stop2 .ensures) refl
+returns-2 c =
+    let args = c .before .before .before .before .before .before .before .before .before .before .before .args in
+    let the-meaning = c .before .before .before .meaning in
+    turned (args .g) (args .store .now) _ _ BadRecord _ (no-flag (args .g) (args .store .now) (args .bytes .now) (args .at) (tells (c .before .before .before .before .before .before .before .before .cut .ensures) (c .before .before .before .before .before .before .before .if1 .left)) (c .before .before .before .before .before .before .byte .result) (c .before .before .before .before .before .byte2 .result) (the-meaning .result) (c .before .before .before .before .before .before .byte .ensures .0) (c .before .before .before .before .before .byte2 .ensures .0) (meant (args .bytes .now) (args .at) (c .before .before .before .before .byte3 .result) (the-meaning .result) (c .before .before .before .before .byte3 .ensures .0) (the-meaning .ensures)) (tells (c .before .before .flag-known .ensures) (not-true _ (c .before .if2 .taken)))) (c .stop2 .ensures) refl
 
 counts-fit-requires : tie.Need-counts-fit-requires
 counts-fit-requires c κs = search needs
@@ -94,34 +99,59 @@ stop-requires-3 : tie.Need-stop-requires-3
 stop-requires-3 c κs = search needs
 
 returns-3 : tie.Need-returns-3
-returns-3 c = turned (c .before .before .before .before .before .before .before .before .before .before .before .before .before .args .g) (c .before .before .before .before .before .before .before .before .before .before .before .before .before .args .store .now) _ _ CountOutside _ (outside (c .before .before .before .before .before .before .before .before .before .before .before .before .before .args .g) (c .before .before .before .before .before .before .before .before .before .before .before .before .before .args .store .now) (c .before .before .before .before .before .before .before .before .before .before .before .before .before .args .bytes .now) (c .before .before .before .before .before .before .before .before .before .before .before .before .before .args .at) (tells (c .before .before .before .before .before .before .before .before .before .before .cut .ensures) (c .before .before .before .before .before .before .before .before .before .if1 .left)) (c .before .before .before .before .before .before .before .before .byte .result) (c .before .before .before .before .before .before .before .byte2 .result) (c .before .before .before .before .before .meaning .result) (c .before .before .before .before .before .before .before .before .byte .ensures .0) (c .before .before .before .before .before .before .before .byte2 .ensures .0) (meant (c .before .before .before .before .before .before .before .before .before .before .before .before .before .args .bytes .now) (c .before .before .before .before .before .before .before .before .before .before .before .before .before .args .at) (c .before .before .before .before .before .before .byte3 .result) (c .before .before .before .before .before .meaning .result) (c .before .before .before .before .before .before .byte3 .ensures .0) (c .before .before .before .before .before .meaning .ensures)) (tells (c .before .before .before .before .flag-known .ensures) (not-false _ (c .before .before .before .if2 .left))) (tells (c .before .before .counts-fit .ensures) (not-true _ (c .before .if3 .taken)))) (c .stop3 .ensures) refl
+returns-3 c =
+    let args = c .before .before .before .before .before .before .before .before .before .before .before .before .before .args in
+    let byte = c .before .before .before .before .before .before .before .before .byte in
+    let byte2 = c .before .before .before .before .before .before .before .byte2 in
+    let the-meaning = c .before .before .before .before .before .meaning in
+    turned (args .g) (args .store .now) _ _ CountOutside _ (outside (args .g) (args .store .now) (args .bytes .now) (args .at) (tells (c .before .before .before .before .before .before .before .before .before .before .cut .ensures) (c .before .before .before .before .before .before .before .before .before .if1 .left)) (byte .result) (byte2 .result) (the-meaning .result) (byte .ensures .0) (byte2 .ensures .0) (meant (args .bytes .now) (args .at) (c .before .before .before .before .before .before .byte3 .result) (the-meaning .result) (c .before .before .before .before .before .before .byte3 .ensures .0) (the-meaning .ensures)) (tells (c .before .before .before .before .flag-known .ensures) (not-false _ (c .before .before .before .if2 .left))) (tells (c .before .before .counts-fit .ensures) (not-true _ (c .before .if3 .taken)))) (c .stop3 .ensures) refl
 
 add-cut : tie.Need-add-cut
-add-cut c = omega (arith, there (c .before .before .before .before .before .before .before .before .before .before .before .before .args .bytes .now) (c .before .before .before .before .before .before .before .before .before .before .before .before .args .at) 3 (tells (c .before .before .before .before .before .before .before .before .before .cut .ensures) (c .before .before .before .before .before .before .before .before .if1 .left)))
+add-cut c =
+    let args = c .before .before .before .before .before .before .before .before .before .before .before .before .args in
+    omega (arith, there (args .bytes .now) (args .at) 3 (tells (c .before .before .before .before .before .before .before .before .before .cut .ensures) (c .before .before .before .before .before .before .before .before .if1 .left)))
 
 cut-requires-2 : tie.Need-cut-requires-2
-cut-requires-2 c κs = omega (arith, there (c .before .before .before .before .before .before .before .before .before .before .before .before .args .bytes .now) (c .before .before .before .before .before .before .before .before .before .before .before .before .args .at) 3 (tells (c .before .before .before .before .before .before .before .before .before .cut .ensures) (c .before .before .before .before .before .before .before .before .if1 .left)))
+cut-requires-2 c κs =
+    let args = c .before .before .before .before .before .before .before .before .before .before .before .before .args in
+    omega (arith, there (args .bytes .now) (args .at) 3 (tells (c .before .before .before .before .before .before .before .before .before .cut .ensures) (c .before .before .before .before .before .before .before .before .if1 .left)))
 
 stop-requires-4 : tie.Need-stop-requires-4
 stop-requires-4 c κs = search needs
 
 returns-4 : tie.Need-returns-4
-returns-4 c = turned (c .before .before .before .before .before .before .before .before .before .before .before .before .before .before .before .args .g) (c .before .before .before .before .before .before .before .before .before .before .before .before .before .before .before .args .store .now) _ _ BadRecord _ (keys-cut (c .before .before .before .before .before .before .before .before .before .before .before .before .before .before .before .args .g) (c .before .before .before .before .before .before .before .before .before .before .before .before .before .before .before .args .store .now) (c .before .before .before .before .before .before .before .before .before .before .before .before .before .before .before .args .bytes .now) (c .before .before .before .before .before .before .before .before .before .before .before .before .before .before .before .args .at) (tells (c .before .before .before .before .before .before .before .before .before .before .before .before .cut .ensures) (c .before .before .before .before .before .before .before .before .before .before .before .if1 .left)) (c .before .before .before .before .before .before .before .before .before .before .byte .result) (c .before .before .before .before .before .before .before .before .before .byte2 .result) (c .before .before .before .before .before .before .before .meaning .result) (c .before .before .before .before .before .before .before .before .before .before .byte .ensures .0) (c .before .before .before .before .before .before .before .before .before .byte2 .ensures .0) (meant (c .before .before .before .before .before .before .before .before .before .before .before .before .before .before .before .args .bytes .now) (c .before .before .before .before .before .before .before .before .before .before .before .before .before .before .before .args .at) (c .before .before .before .before .before .before .before .before .byte3 .result) (c .before .before .before .before .before .before .before .meaning .result) (c .before .before .before .before .before .before .before .before .byte3 .ensures .0) (c .before .before .before .before .before .before .before .meaning .ensures)) (tells (c .before .before .before .before .before .before .flag-known .ensures) (not-false _ (c .before .before .before .before .before .if2 .left))) (tells (c .before .before .before .before .counts-fit .ensures) (not-false _ (c .before .before .before .if3 .left))) (tells (c .before .before .cut2 .ensures) (c .before .if4 .taken))) (c .stop4 .ensures) refl
+returns-4 c =
+    let args = c .before .before .before .before .before .before .before .before .before .before .before .before .before .before .before .args in
+    let byte = c .before .before .before .before .before .before .before .before .before .before .byte in
+    let byte2 = c .before .before .before .before .before .before .before .before .before .byte2 in
+    let byte3 = c .before .before .before .before .before .before .before .before .byte3 in
+    let the-meaning = c .before .before .before .before .before .before .before .meaning in
+    turned (args .g) (args .store .now) _ _ BadRecord _ (keys-cut (args .g) (args .store .now) (args .bytes .now) (args .at) (tells (c .before .before .before .before .before .before .before .before .before .before .before .before .cut .ensures) (c .before .before .before .before .before .before .before .before .before .before .before .if1 .left)) (byte .result) (byte2 .result) (the-meaning .result) (byte .ensures .0) (byte2 .ensures .0) (meant (args .bytes .now) (args .at) (byte3 .result) (the-meaning .result) (byte3 .ensures .0) (the-meaning .ensures)) (tells (c .before .before .before .before .before .before .flag-known .ensures) (not-false _ (c .before .before .before .before .before .if2 .left))) (tells (c .before .before .before .before .counts-fit .ensures) (not-false _ (c .before .before .before .if3 .left))) (tells (c .before .before .cut2 .ensures) (c .before .if4 .taken))) (c .stop4 .ensures) refl
 
 add-keys : tie.Need-add-keys
-add-keys c = omega (arith, there (c .before .before .before .before .before .before .before .before .before .before .before .before .before .before .args .bytes .now) (c .before .before .before .before .before .before .before .before .before .before .before .before .before .before .args .at) 3 (tells (c .before .before .before .before .before .before .before .before .before .before .before .cut .ensures) (c .before .before .before .before .before .before .before .before .before .before .if1 .left)))
+add-keys c =
+    let args = c .before .before .before .before .before .before .before .before .before .before .before .before .before .before .args in
+    omega (arith, there (args .bytes .now) (args .at) 3 (tells (c .before .before .before .before .before .before .before .before .before .before .before .cut .ensures) (c .before .before .before .before .before .before .before .before .before .before .if1 .left)))
 
 slice-aggregate-keys : tie.Need-slice-aggregate-keys
 slice-aggregate-keys c = search needs
 
 keys-requires : tie.Need-keys-requires
-keys-requires c κs = (there (c .before .before .before .before .before .before .before .before .before .before .before .before .before .before .before .args .bytes .now) (c .before .before .before .before .before .before .before .before .before .before .before .before .before .before .before .args .at + 3) (c .before .before .before .before .before .before .before .before .before .before .byte .result) (tells (c .before .before .cut2 .ensures) (c .before .if4 .left)), few-keys _ _ (tells (c .before .before .before .before .counts-fit .ensures) (not-false _ (c .before .before .before .if3 .left))))
+keys-requires c κs =
+    let args = c .before .before .before .before .before .before .before .before .before .before .before .before .before .before .before .args in (
+      there (args .bytes .now) (args .at + 3) (c .before .before .before .before .before .before .before .before .before .before .byte .result) (tells (c .before .before .cut2 .ensures) (c .before .if4 .left)),
+      few-keys _ _ (tells (c .before .before .before .before .counts-fit .ensures) (not-false _ (c .before .before .before .if3 .left))),
+    )
 
 add-read-observed : tie.Need-add-read-observed
-add-read-observed c = omega (arith, there (c .before .before .before .before .before .before .before .before .before .before .before .before .before .before .before .before .before .args .bytes .now) (c .before .before .before .before .before .before .before .before .before .before .before .before .before .before .before .before .before .args .at) 3 (tells (c .before .before .before .before .before .before .before .before .before .before .before .before .before .before .cut .ensures) (c .before .before .before .before .before .before .before .before .before .before .before .before .before .if1 .left)))
+add-read-observed c =
+    let args = c .before .before .before .before .before .before .before .before .before .before .before .before .before .before .before .before .before .args in
+    omega (arith, there (args .bytes .now) (args .at) 3 (tells (c .before .before .before .before .before .before .before .before .before .before .before .before .before .before .cut .ensures) (c .before .before .before .before .before .before .before .before .before .before .before .before .before .if1 .left)))
 
 add-read-observed-2 : tie.Need-add-read-observed-2
-add-read-observed-2 c = omega (arith, there (c .before .before .before .before .before .before .before .before .before .before .before .before .before .before .before .before .before .args .bytes .now) (c .before .before .before .before .before .before .before .before .before .before .before .before .before .before .before .before .before .args .at + 3) (c .before .before .before .before .before .before .before .before .before .before .before .before .byte .result) (tells (c .before .before .before .before .cut2 .ensures) (c .before .before .before .if4 .left)))
+add-read-observed-2 c =
+    let args = c .before .before .before .before .before .before .before .before .before .before .before .before .before .before .before .before .before .args in
+    omega (arith, there (args .bytes .now) (args .at + 3) (c .before .before .before .before .before .before .before .before .before .before .before .before .byte .result) (tells (c .before .before .before .before .cut2 .ensures) (c .before .before .before .if4 .left)))
 
 sub-read-observed : tie.Need-sub-read-observed
 sub-read-observed c = search needs
@@ -133,13 +163,24 @@ part-read-observed-end : tie.Need-part-read-observed-end
 part-read-observed-end c = omega (arith, few-keys (c .before .before .before .before .before .before .before .before .before .before .before .before .before .byte .result) (c .before .before .before .before .before .before .before .before .before .before .before .before .byte2 .result) (tells (c .before .before .before .before .before .before .before .counts-fit .ensures) (not-false _ (c .before .before .before .before .before .before .if3 .left))))
 
 read-observed-requires : tie.Need-read-observed-requires
-read-observed-requires c κs = ((c .before .before .before .before .before .before .before .before .before .before .before .before .before .before .before .before .before .before .before .before .pre .0, there (c .before .before .before .before .before .before .before .before .before .before .before .before .before .before .before .before .before .before .before .before .args .bytes .now) (c .before .before .before .before .before .before .before .before .before .before .before .before .before .before .before .before .before .before .before .before .args .at + 3) (c .before .before .before .before .before .before .before .before .before .before .before .before .before .before .before .byte .result) (tells (c .before .before .before .before .before .before .before .cut2 .ensures) (c .before .before .before .before .before .before .if4 .left))), (counted (c .before .before .before .before .before .before .before .before .before .before .before .before .before .before .before .before .before .before .before .before .args .bytes .now) (c .before .before .before .before .before .before .before .before .before .before .before .before .before .before .before .before .before .before .before .before .args .at + 3) (c .before .before .before .before .before .before .before .before .before .before .before .before .before .before .before .byte .result) (c .before .before .before .before .before .before .before .before .before .before .before .before .before .before .byte2 .result) _ (front (λ i. byteAt (c .before .before .before .before .before .before .before .before .before .before .before .before .before .before .before .before .before .before .before .before .args .bytes .now) (c .before .before .before .before .before .before .before .before .before .before .before .before .before .before .before .before .before .before .before .before .args .at + 3 + i)) (c .before .before .before .before .before .before .before .before .before .before .before .before .before .before .before .byte .result) _ _ (c .before .before .before .before .keys2 .ensures)) (tells (c .before .before .before .before .before .before .before .before .before .counts-fit .ensures) (not-false _ (c .before .before .before .before .before .before .before .before .if3 .left))), (tells (c .before .before .before .before .before .before .before .before .before .before .before .flag-known .ensures) (not-false _ (c .before .before .before .before .before .before .before .before .before .before .if2 .left)))))
+read-observed-requires c κs =
+    let args = c .before .before .before .before .before .before .before .before .before .before .before .before .before .before .before .before .before .before .before .before .args in
+    let byte = c .before .before .before .before .before .before .before .before .before .before .before .before .before .before .before .byte in (
+      (c .before .before .before .before .before .before .before .before .before .before .before .before .before .before .before .before .before .before .before .before .pre .0, there (args .bytes .now) (args .at + 3) (byte .result) (tells (c .before .before .before .before .before .before .before .cut2 .ensures) (c .before .before .before .before .before .before .if4 .left))),
+      (counted (args .bytes .now) (args .at + 3) (byte .result) (c .before .before .before .before .before .before .before .before .before .before .before .before .before .before .byte2 .result) _ (front (λ i. byteAt (args .bytes .now) (args .at + 3 + i)) (byte .result) _ _ (c .before .before .before .before .keys2 .ensures)) (tells (c .before .before .before .before .before .before .before .before .before .counts-fit .ensures) (not-false _ (c .before .before .before .before .before .before .before .before .if3 .left))), (tells (c .before .before .before .before .before .before .before .before .before .before .before .flag-known .ensures) (not-false _ (c .before .before .before .before .before .before .before .before .before .before .if2 .left)))),
+    )
 
 same-length : tie.Need-same-length
 same-length c = search needs
 
 returns-5 : tie.Need-returns-5
-returns-5 c = met (c .before .before .before .before .before .before .before .before .before .before .before .before .before .before .before .before .before .before .before .before .before .before .before .args .g) (c .before .before .before .before .before .before .before .before .before .before .before .before .before .before .before .before .before .before .before .before .before .before .before .args .store .now) _ _ _ _ (from-keys (c .before .before .before .before .before .before .before .before .before .before .before .before .before .before .before .before .before .before .before .before .before .before .before .args .g) (c .before .before .before .before .before .before .before .before .before .before .before .before .before .before .before .before .before .before .before .before .before .before .before .args .store .now) (c .before .before .before .before .before .before .before .before .before .before .before .before .before .before .before .before .before .before .before .before .before .before .before .args .bytes .now) (c .before .before .before .before .before .before .before .before .before .before .before .before .before .before .before .before .before .before .before .before .before .before .before .args .at) (tells (c .before .before .before .before .before .before .before .before .before .before .before .before .before .before .before .before .before .before .before .before .cut .ensures) (c .before .before .before .before .before .before .before .before .before .before .before .before .before .before .before .before .before .before .before .if1 .left)) (c .before .before .before .before .before .before .before .before .before .before .before .before .before .before .before .before .before .before .byte .result) (c .before .before .before .before .before .before .before .before .before .before .before .before .before .before .before .before .before .byte2 .result) (c .before .before .before .before .before .before .before .before .before .before .before .before .before .before .before .meaning .result) (c .before .before .before .before .before .before .before .before .before .before .before .before .before .before .before .before .before .before .byte .ensures .0) (c .before .before .before .before .before .before .before .before .before .before .before .before .before .before .before .before .before .byte2 .ensures .0) (meant (c .before .before .before .before .before .before .before .before .before .before .before .before .before .before .before .before .before .before .before .before .before .before .before .args .bytes .now) (c .before .before .before .before .before .before .before .before .before .before .before .before .before .before .before .before .before .before .before .before .before .before .before .args .at) (c .before .before .before .before .before .before .before .before .before .before .before .before .before .before .before .before .byte3 .result) (c .before .before .before .before .before .before .before .before .before .before .before .before .before .before .before .meaning .result) (c .before .before .before .before .before .before .before .before .before .before .before .before .before .before .before .before .byte3 .ensures .0) (c .before .before .before .before .before .before .before .before .before .before .before .before .before .before .before .meaning .ensures)) (tells (c .before .before .before .before .before .before .before .before .before .before .before .before .before .before .flag-known .ensures) (not-false _ (c .before .before .before .before .before .before .before .before .before .before .before .before .before .if2 .left))) (tells (c .before .before .before .before .before .before .before .before .before .before .before .before .counts-fit .ensures) (not-false _ (c .before .before .before .before .before .before .before .before .before .before .before .if3 .left))) (tells (c .before .before .before .before .before .before .before .before .before .before .cut2 .ensures) (c .before .before .before .before .before .before .before .before .before .if4 .left)) _ (front (λ i. byteAt (c .before .before .before .before .before .before .before .before .before .before .before .before .before .before .before .before .before .before .before .before .before .before .before .args .bytes .now) (c .before .before .before .before .before .before .before .before .before .before .before .before .before .before .before .before .before .before .before .before .before .before .before .args .at + 3 + i)) (c .before .before .before .before .before .before .before .before .before .before .before .before .before .before .before .before .before .before .byte .result) _ _ (c .before .before .before .before .before .before .before .keys2 .ensures))) (c .before .before .read-observed .ensures)
+returns-5 c =
+    let args = c .before .before .before .before .before .before .before .before .before .before .before .before .before .before .before .before .before .before .before .before .before .before .before .args in
+    let byte = c .before .before .before .before .before .before .before .before .before .before .before .before .before .before .before .before .before .before .byte in
+    let byte2 = c .before .before .before .before .before .before .before .before .before .before .before .before .before .before .before .before .before .byte2 in
+    let byte3 = c .before .before .before .before .before .before .before .before .before .before .before .before .before .before .before .before .byte3 in
+    let the-meaning = c .before .before .before .before .before .before .before .before .before .before .before .before .before .before .before .meaning in
+    met (args .g) (args .store .now) _ _ _ _ (from-keys (args .g) (args .store .now) (args .bytes .now) (args .at) (tells (c .before .before .before .before .before .before .before .before .before .before .before .before .before .before .before .before .before .before .before .before .cut .ensures) (c .before .before .before .before .before .before .before .before .before .before .before .before .before .before .before .before .before .before .before .if1 .left)) (byte .result) (byte2 .result) (the-meaning .result) (byte .ensures .0) (byte2 .ensures .0) (meant (args .bytes .now) (args .at) (byte3 .result) (the-meaning .result) (byte3 .ensures .0) (the-meaning .ensures)) (tells (c .before .before .before .before .before .before .before .before .before .before .before .before .before .before .flag-known .ensures) (not-false _ (c .before .before .before .before .before .before .before .before .before .before .before .before .before .if2 .left))) (tells (c .before .before .before .before .before .before .before .before .before .before .before .before .counts-fit .ensures) (not-false _ (c .before .before .before .before .before .before .before .before .before .before .before .if3 .left))) (tells (c .before .before .before .before .before .before .before .before .before .before .cut2 .ensures) (c .before .before .before .before .before .before .before .before .before .if4 .left)) _ (front (λ i. byteAt (args .bytes .now) (args .at + 3 + i)) (byte .result) _ _ (c .before .before .before .before .before .before .before .keys2 .ensures))) (c .before .before .read-observed .ensures)
 
 pub read-observation-spec : {M : Type 1} → statement M
 read-observation-spec =

@@ -50,7 +50,9 @@ stop-requires : tie.Need-stop-requires
 stop-requires c κs = search needs
 
 returns : tie.Need-returns
-returns c = turned (c .before .before .before .before .before .before .args .g) (c .before .before .before .before .before .before .args .store .now) _ _ KeysNotRising _ (not-rising (c .before .before .before .before .before .before .args .g) (c .before .before .before .before .before .before .args .store .now) (c .before .before .before .before .before .before .args .bytes .now) (c .before .before .before .before .before .before .args .keys .now) (c .before .before .before .before .before .before .args .rows) (c .before .before .before .before .before .before .args .flag) (c .before .before .before .before .before .before .args .at) (tells (c .before .before .rising .ensures) (not-true _ (c .before .if1 .taken)))) (c .stop .ensures) refl
+returns c =
+    let args = c .before .before .before .before .before .before .args in
+    turned (args .g) (args .store .now) _ _ KeysNotRising _ (not-rising (args .g) (args .store .now) (args .bytes .now) (args .keys .now) (args .rows) (args .flag) (args .at) (tells (c .before .before .rising .ensures) (not-true _ (c .before .if1 .taken)))) (c .stop .ensures) refl
 
 known-requires : tie.Need-known-requires
 known-requires c κs = search needs
@@ -59,22 +61,39 @@ stop-requires-2 : tie.Need-stop-requires-2
 stop-requires-2 c κs = search needs
 
 returns-2 : tie.Need-returns-2
-returns-2 c = turned (c .before .before .before .before .before .before .before .before .args .g) (c .before .before .before .before .before .before .before .before .args .store .now) _ _ NoSuchKey _ (no-key (c .before .before .before .before .before .before .before .before .args .g) (c .before .before .before .before .before .before .before .before .args .store .now) (c .before .before .before .before .before .before .before .before .args .bytes .now) (c .before .before .before .before .before .before .before .before .args .keys .now) (c .before .before .before .before .before .before .before .before .args .rows) (c .before .before .before .before .before .before .before .before .args .flag) (c .before .before .before .before .before .before .before .before .args .at) (tells (c .before .before .before .before .rising .ensures) (not-false _ (c .before .before .before .if1 .left))) (tells (c .before .before .known .ensures) (not-true _ (c .before .if2 .taken)))) (c .stop2 .ensures) refl
+returns-2 c =
+    let args = c .before .before .before .before .before .before .before .before .args in
+    turned (args .g) (args .store .now) _ _ NoSuchKey _ (no-key (args .g) (args .store .now) (args .bytes .now) (args .keys .now) (args .rows) (args .flag) (args .at) (tells (c .before .before .before .before .rising .ensures) (not-false _ (c .before .before .before .if1 .left))) (tells (c .before .before .known .ensures) (not-true _ (c .before .if2 .taken)))) (c .stop2 .ensures) refl
 
 observation-of-requires : tie.Need-observation-of-requires
-observation-of-requires c κs = (few-keys _ _ (c .before .before .before .before .before .before .before .before .pre .1 .0), omega (arith, most-rows _ _ (c .before .before .before .before .before .before .before .before .pre .1 .0)), known-more (c .before .before .before .before .before .before .before .before .args .g .variables) (c .before .before .before .before .before .before .before .before .args .keys .now) (valid-variables (c .before .before .before .before .before .before .before .before .args .g) (c .before .before .before .before .before .before .before .before .pre .0 .0)) (tells (c .before .before .known .ensures) (not-false _ (c .before .if2 .left))))
+observation-of-requires c κs =
+    let args = c .before .before .before .before .before .before .before .before .args in
+    let pre = c .before .before .before .before .before .before .before .before .pre in (
+      few-keys _ _ (pre .1 .0),
+      omega (arith, most-rows _ _ (pre .1 .0)),
+      known-more (args .g .variables) (args .keys .now) (valid-variables (args .g) (pre .0 .0)) (tells (c .before .before .known .ensures) (not-false _ (c .before .if2 .left))),
+    )
 
 a-numbers-requires : tie.Need-a-numbers-requires
-a-numbers-requires c κs = few-touched (c .before .before .before .before .before .before .before .before .before .args .keys .now) (c .before .before .before .before .before .before .before .before .before .args .rows) (c .observation-of .result) (c .observation-of .ensures) (few-keys _ _ (c .before .before .before .before .before .before .before .before .before .pre .1 .0))
+a-numbers-requires c κs =
+    let args = c .before .before .before .before .before .before .before .before .before .args in
+    few-touched (args .keys .now) (args .rows) (c .observation-of .result) (c .observation-of .ensures) (few-keys _ _ (c .before .before .before .before .before .before .before .before .before .pre .1 .0))
 
 read-observed-numbers-requires : tie.Need-read-observed-numbers-requires
-read-observed-numbers-requires c κs = ((c .before .before .before .before .before .before .before .before .before .before .before .pre .0 .1, c .before .before .before .before .before .before .before .before .before .before .before .pre .1 .1, c .before .before .before .before .before .before .before .before .before .before .before .pre .0 .0), (some-rows _ _ (c .before .before .before .before .before .before .before .before .before .before .before .pre .1 .0), most-rows _ _ (c .before .before .before .before .before .before .before .before .before .before .before .pre .1 .0), numbers-most (c .before .before .before .before .before .before .before .before .before .before .before .args .g) (c .before .before .before .before .before .before .before .before .before .before .before .args .keys .now) (c .before .before .before .before .before .before .before .before .before .before .before .args .rows) (c .before .before .observation-of .result) _ (c .before .before .before .before .before .before .before .before .before .before .before .pre .0 .0) (c .before .before .before .before .before .before .before .before .before .before .before .pre .1 .0) (tells (c .before .before .before .before .before .before .before .rising .ensures) (not-false _ (c .before .before .before .before .before .before .if1 .left))) (tells (c .before .before .before .before .before .known .ensures) (not-false _ (c .before .before .before .before .if2 .left))) (c .before .before .observation-of .ensures) (c .before .a-numbers .ensures .0)))
+read-observed-numbers-requires c κs =
+    let args = c .before .before .before .before .before .before .before .before .before .before .before .args in
+    let pre = c .before .before .before .before .before .before .before .before .before .before .before .pre in (
+      (pre .0 .1, pre .1 .1, pre .0 .0),
+      (some-rows _ _ (pre .1 .0), most-rows _ _ (pre .1 .0), numbers-most (args .g) (args .keys .now) (args .rows) (c .before .before .observation-of .result) _ (pre .0 .0) (pre .1 .0) (tells (c .before .before .before .before .before .before .before .rising .ensures) (not-false _ (c .before .before .before .before .before .before .if1 .left))) (tells (c .before .before .before .before .before .known .ensures) (not-false _ (c .before .before .before .before .if2 .left))) (c .before .before .observation-of .ensures) (c .before .a-numbers .ensures .0)),
+    )
 
 same-length : tie.Need-same-length
 same-length c = search needs
 
 returns-3 : tie.Need-returns-3
-returns-3 c = met (c .before .before .before .before .before .before .before .before .before .before .before .before .before .before .args .g) (c .before .before .before .before .before .before .before .before .before .before .before .before .before .before .args .store .now) _ _ _ _ (from-numbers (c .before .before .before .before .before .before .before .before .before .before .before .before .before .before .args .g) (c .before .before .before .before .before .before .before .before .before .before .before .before .before .before .args .store .now) (c .before .before .before .before .before .before .before .before .before .before .before .before .before .before .args .bytes .now) (c .before .before .before .before .before .before .before .before .before .before .before .before .before .before .args .keys .now) (c .before .before .before .before .before .before .before .before .before .before .before .before .before .before .args .rows) (c .before .before .before .before .before .before .before .before .before .before .before .before .before .before .args .flag) (c .before .before .before .before .before .before .before .before .before .before .before .before .before .before .args .at) (tells (c .before .before .before .before .before .before .before .before .before .before .rising .ensures) (not-false _ (c .before .before .before .before .before .before .before .before .before .if1 .left))) (tells (c .before .before .before .before .before .before .before .before .known .ensures) (not-false _ (c .before .before .before .before .before .before .before .if2 .left))) (c .before .before .before .before .before .observation-of .result) _ (c .before .before .before .before .before .observation-of .ensures) (c .before .before .before .before .a-numbers .ensures .0)) (c .before .before .read-observed-numbers .ensures)
+returns-3 c =
+    let args = c .before .before .before .before .before .before .before .before .before .before .before .before .before .before .args in
+    met (args .g) (args .store .now) _ _ _ _ (from-numbers (args .g) (args .store .now) (args .bytes .now) (args .keys .now) (args .rows) (args .flag) (args .at) (tells (c .before .before .before .before .before .before .before .before .before .before .rising .ensures) (not-false _ (c .before .before .before .before .before .before .before .before .before .if1 .left))) (tells (c .before .before .before .before .before .before .before .before .known .ensures) (not-false _ (c .before .before .before .before .before .before .before .if2 .left))) (c .before .before .before .before .before .observation-of .result) _ (c .before .before .before .before .before .observation-of .ensures) (c .before .before .before .before .a-numbers .ensures .0)) (c .before .before .read-observed-numbers .ensures)
 
 pub read-observed-spec : {M : Type 1} → statement M
 read-observed-spec =

@@ -72,43 +72,86 @@ stop-requires : tie.Need-stop-requires
 stop-requires c κs = search needs
 
 returns : tie.Need-returns
-returns c = turned (c .before .before .before .before .before .before .before .args .g) (c .before .before .before .before .before .before .before .args .store .now) _ _ BadRecord _ (cut-short (c .before .before .before .before .before .before .before .args .g) (c .before .before .before .before .before .before .before .args .store .now) (c .before .before .before .before .before .before .before .args .bytes .now) (c .before .before .before .before .before .before .before .args .keys .now) (c .before .before .before .before .before .before .before .args .rows) (c .before .before .before .before .before .before .before .args .flag) (c .before .before .before .before .before .before .before .args .n) (c .before .before .before .before .before .before .before .args .at) _ (c .before .before .before .given .ensures .0) (tells (c .before .before .cut .ensures) (c .before .if1 .taken))) (c .stop .ensures) refl
+returns c =
+    let args = c .before .before .before .before .before .before .before .args in
+    turned (args .g) (args .store .now) _ _ BadRecord _ (cut-short (args .g) (args .store .now) (args .bytes .now) (args .keys .now) (args .rows) (args .flag) (args .n) (args .at) _ (c .before .before .before .given .ensures .0) (tells (c .before .before .cut .ensures) (c .before .if1 .taken))) (c .stop .ensures) refl
 
 add-end : tie.Need-add-end
-add-end c = omega (arith, mul-le-mul (c .before .before .before .before .before .before .pre .1 .1) (c .before .before .before .before .before .before .pre .1 .1), c .before .before .given .ensures .0, c .before .before .given .ensures .1, of-all (c .before .before .before .before .before .before .args .bytes .now) (c .before .before .before .before .before .before .args .at) (c .before .before .before .before .before .before .args .n + c .before .before .before .before .before .before .args .rows) (c .before .before .given .result) (given (c .before .before .before .before .before .before .args .flag) (c .before .before .before .before .before .before .args .rows)) (c .before .cut .result) (c .before .before .given .ensures .0) (c .before .cut .ensures) (c .if1 .left))
+add-end c =
+    let args = c .before .before .before .before .before .before .args in
+    let the-given = c .before .before .given in
+    omega (arith, mul-le-mul (c .before .before .before .before .before .before .pre .1 .1) (c .before .before .before .before .before .before .pre .1 .1), the-given .ensures .0, the-given .ensures .1, of-all (args .bytes .now) (args .at) (args .n + args .rows) (the-given .result) (given (args .flag) (args .rows)) (c .before .cut .result) (the-given .ensures .0) (c .before .cut .ensures) (c .if1 .left))
 
 slice-aggregate-numbers : tie.Need-slice-aggregate-numbers
 slice-aggregate-numbers c = search needs
 
 numbers-requires : tie.Need-numbers-requires
-numbers-requires c κs = omega (arith, mul-le-mul (c .before .before .before .before .before .before .before .pre .1 .1) (c .before .before .before .before .before .before .before .pre .1 .1), c .before .before .before .given .ensures .0, c .before .before .before .given .ensures .1, of-all (c .before .before .before .before .before .before .before .args .bytes .now) (c .before .before .before .before .before .before .before .args .at) (c .before .before .before .before .before .before .before .args .n + c .before .before .before .before .before .before .before .args .rows) (c .before .before .before .given .result) (given (c .before .before .before .before .before .before .before .args .flag) (c .before .before .before .before .before .before .before .args .rows)) (c .before .before .cut .result) (c .before .before .before .given .ensures .0) (c .before .before .cut .ensures) (c .before .if1 .left))
+numbers-requires c κs =
+    let args = c .before .before .before .before .before .before .before .args in
+    let pre = c .before .before .before .before .before .before .before .pre in
+    let the-given = c .before .before .before .given in
+    omega (arith, mul-le-mul (pre .1 .1) (pre .1 .1), the-given .ensures .0, the-given .ensures .1, of-all (args .bytes .now) (args .at) (args .n + args .rows) (the-given .result) (given (args .flag) (args .rows)) (c .before .before .cut .result) (the-given .ensures .0) (c .before .before .cut .ensures) (c .before .if1 .left))
 
 mul-numbers : tie.Need-mul-numbers
-mul-numbers c = omega (arith, mul-le-mul (c .before .before .before .before .before .before .before .before .before .pre .1 .1) (c .before .before .before .before .before .before .before .before .before .pre .1 .1), c .before .before .before .before .before .given .ensures .0, c .before .before .before .before .before .given .ensures .1, of-all (c .before .before .before .before .before .before .before .before .before .args .bytes .now) (c .before .before .before .before .before .before .before .before .before .args .at) (c .before .before .before .before .before .before .before .before .before .args .n + c .before .before .before .before .before .before .before .before .before .args .rows) (c .before .before .before .before .before .given .result) (given (c .before .before .before .before .before .before .before .before .before .args .flag) (c .before .before .before .before .before .before .before .before .before .args .rows)) (c .before .before .before .before .cut .result) (c .before .before .before .before .before .given .ensures .0) (c .before .before .before .before .cut .ensures) (c .before .before .before .if1 .left))
+mul-numbers c =
+    let args = c .before .before .before .before .before .before .before .before .before .args in
+    let pre = c .before .before .before .before .before .before .before .before .before .pre in
+    let the-given = c .before .before .before .before .before .given in
+    omega (arith, mul-le-mul (pre .1 .1) (pre .1 .1), the-given .ensures .0, the-given .ensures .1, of-all (args .bytes .now) (args .at) (args .n + args .rows) (the-given .result) (given (args .flag) (args .rows)) (c .before .before .before .before .cut .result) (the-given .ensures .0) (c .before .before .before .before .cut .ensures) (c .before .before .before .if1 .left))
 
 add-numbers : tie.Need-add-numbers
-add-numbers c = omega (arith, mul-le-mul (c .before .before .before .before .before .before .before .before .before .pre .1 .1) (c .before .before .before .before .before .before .before .before .before .pre .1 .1), c .before .before .before .before .before .given .ensures .0, c .before .before .before .before .before .given .ensures .1, of-all (c .before .before .before .before .before .before .before .before .before .args .bytes .now) (c .before .before .before .before .before .before .before .before .before .args .at) (c .before .before .before .before .before .before .before .before .before .args .n + c .before .before .before .before .before .before .before .before .before .args .rows) (c .before .before .before .before .before .given .result) (given (c .before .before .before .before .before .before .before .before .before .args .flag) (c .before .before .before .before .before .before .before .before .before .args .rows)) (c .before .before .before .before .cut .result) (c .before .before .before .before .before .given .ensures .0) (c .before .before .before .before .cut .ensures) (c .before .before .before .if1 .left))
+add-numbers c =
+    let args = c .before .before .before .before .before .before .before .before .before .args in
+    let pre = c .before .before .before .before .before .before .before .before .before .pre in
+    let the-given = c .before .before .before .before .before .given in
+    omega (arith, mul-le-mul (pre .1 .1) (pre .1 .1), the-given .ensures .0, the-given .ensures .1, of-all (args .bytes .now) (args .at) (args .n + args .rows) (the-given .result) (given (args .flag) (args .rows)) (c .before .before .before .before .cut .result) (the-given .ensures .0) (c .before .before .before .before .cut .ensures) (c .before .before .before .if1 .left))
 
 slice-aggregate-numbers-2 : tie.Need-slice-aggregate-numbers-2
 slice-aggregate-numbers-2 c = search needs
 
 numbers-requires-2 : tie.Need-numbers-requires-2
-numbers-requires-2 c κs = omega (arith, mul-le-mul (c .before .before .before .before .before .before .before .before .before .before .pre .1 .1) (c .before .before .before .before .before .before .before .before .before .before .pre .1 .1), c .before .before .before .before .before .before .given .ensures .0, c .before .before .before .before .before .before .given .ensures .1, of-all (c .before .before .before .before .before .before .before .before .before .before .args .bytes .now) (c .before .before .before .before .before .before .before .before .before .before .args .at) (c .before .before .before .before .before .before .before .before .before .before .args .n + c .before .before .before .before .before .before .before .before .before .before .args .rows) (c .before .before .before .before .before .before .given .result) (given (c .before .before .before .before .before .before .before .before .before .before .args .flag) (c .before .before .before .before .before .before .before .before .before .before .args .rows)) (c .before .before .before .before .before .cut .result) (c .before .before .before .before .before .before .given .ensures .0) (c .before .before .before .before .before .cut .ensures) (c .before .before .before .before .if1 .left))
+numbers-requires-2 c κs =
+    let args = c .before .before .before .before .before .before .before .before .before .before .args in
+    let pre = c .before .before .before .before .before .before .before .before .before .before .pre in
+    let the-given = c .before .before .before .before .before .before .given in
+    omega (arith, mul-le-mul (pre .1 .1) (pre .1 .1), the-given .ensures .0, the-given .ensures .1, of-all (args .bytes .now) (args .at) (args .n + args .rows) (the-given .result) (given (args .flag) (args .rows)) (c .before .before .before .before .before .cut .result) (the-given .ensures .0) (c .before .before .before .before .before .cut .ensures) (c .before .before .before .before .if1 .left))
 
 add-read-variance : tie.Need-add-read-variance
-add-read-variance c = omega (arith, mul-le-mul (c .before .before .before .before .before .before .before .before .before .before .before .before .pre .1 .1) (c .before .before .before .before .before .before .before .before .before .before .before .before .pre .1 .1), c .before .before .before .before .before .before .before .before .given .ensures .0, c .before .before .before .before .before .before .before .before .given .ensures .1, of-all (c .before .before .before .before .before .before .before .before .before .before .before .before .args .bytes .now) (c .before .before .before .before .before .before .before .before .before .before .before .before .args .at) (c .before .before .before .before .before .before .before .before .before .before .before .before .args .n + c .before .before .before .before .before .before .before .before .before .before .before .before .args .rows) (c .before .before .before .before .before .before .before .before .given .result) (given (c .before .before .before .before .before .before .before .before .before .before .before .before .args .flag) (c .before .before .before .before .before .before .before .before .before .before .before .before .args .rows)) (c .before .before .before .before .before .before .before .cut .result) (c .before .before .before .before .before .before .before .before .given .ensures .0) (c .before .before .before .before .before .before .before .cut .ensures) (c .before .before .before .before .before .before .if1 .left))
+add-read-variance c =
+    let args = c .before .before .before .before .before .before .before .before .before .before .before .before .args in
+    let pre = c .before .before .before .before .before .before .before .before .before .before .before .before .pre in
+    let the-given = c .before .before .before .before .before .before .before .before .given in
+    let the-cut = c .before .before .before .before .before .before .before .cut in
+    omega (arith, mul-le-mul (pre .1 .1) (pre .1 .1), the-given .ensures .0, the-given .ensures .1, of-all (args .bytes .now) (args .at) (args .n + args .rows) (the-given .result) (given (args .flag) (args .rows)) (the-cut .result) (the-given .ensures .0) (the-cut .ensures) (c .before .before .before .before .before .before .if1 .left))
 
 mul-read-variance : tie.Need-mul-read-variance
-mul-read-variance c = omega (arith, mul-le-mul (c .before .before .before .before .before .before .before .before .before .before .before .before .pre .1 .1) (c .before .before .before .before .before .before .before .before .before .before .before .before .pre .1 .1), c .before .before .before .before .before .before .before .before .given .ensures .0, c .before .before .before .before .before .before .before .before .given .ensures .1, of-all (c .before .before .before .before .before .before .before .before .before .before .before .before .args .bytes .now) (c .before .before .before .before .before .before .before .before .before .before .before .before .args .at) (c .before .before .before .before .before .before .before .before .before .before .before .before .args .n + c .before .before .before .before .before .before .before .before .before .before .before .before .args .rows) (c .before .before .before .before .before .before .before .before .given .result) (given (c .before .before .before .before .before .before .before .before .before .before .before .before .args .flag) (c .before .before .before .before .before .before .before .before .before .before .before .before .args .rows)) (c .before .before .before .before .before .before .before .cut .result) (c .before .before .before .before .before .before .before .before .given .ensures .0) (c .before .before .before .before .before .before .before .cut .ensures) (c .before .before .before .before .before .before .if1 .left))
+mul-read-variance c =
+    let args = c .before .before .before .before .before .before .before .before .before .before .before .before .args in
+    let pre = c .before .before .before .before .before .before .before .before .before .before .before .before .pre in
+    let the-given = c .before .before .before .before .before .before .before .before .given in
+    let the-cut = c .before .before .before .before .before .before .before .cut in
+    omega (arith, mul-le-mul (pre .1 .1) (pre .1 .1), the-given .ensures .0, the-given .ensures .1, of-all (args .bytes .now) (args .at) (args .n + args .rows) (the-given .result) (given (args .flag) (args .rows)) (the-cut .result) (the-given .ensures .0) (the-cut .ensures) (c .before .before .before .before .before .before .if1 .left))
 
 add-read-variance-2 : tie.Need-add-read-variance-2
-add-read-variance-2 c = omega (arith, mul-le-mul (c .before .before .before .before .before .before .before .before .before .before .before .before .pre .1 .1) (c .before .before .before .before .before .before .before .before .before .before .before .before .pre .1 .1), c .before .before .before .before .before .before .before .before .given .ensures .0, c .before .before .before .before .before .before .before .before .given .ensures .1, of-all (c .before .before .before .before .before .before .before .before .before .before .before .before .args .bytes .now) (c .before .before .before .before .before .before .before .before .before .before .before .before .args .at) (c .before .before .before .before .before .before .before .before .before .before .before .before .args .n + c .before .before .before .before .before .before .before .before .before .before .before .before .args .rows) (c .before .before .before .before .before .before .before .before .given .result) (given (c .before .before .before .before .before .before .before .before .before .before .before .before .args .flag) (c .before .before .before .before .before .before .before .before .before .before .before .before .args .rows)) (c .before .before .before .before .before .before .before .cut .result) (c .before .before .before .before .before .before .before .before .given .ensures .0) (c .before .before .before .before .before .before .before .cut .ensures) (c .before .before .before .before .before .before .if1 .left))
+add-read-variance-2 c =
+    let args = c .before .before .before .before .before .before .before .before .before .before .before .before .args in
+    let pre = c .before .before .before .before .before .before .before .before .before .before .before .before .pre in
+    let the-given = c .before .before .before .before .before .before .before .before .given in
+    let the-cut = c .before .before .before .before .before .before .before .cut in
+    omega (arith, mul-le-mul (pre .1 .1) (pre .1 .1), the-given .ensures .0, the-given .ensures .1, of-all (args .bytes .now) (args .at) (args .n + args .rows) (the-given .result) (given (args .flag) (args .rows)) (the-cut .result) (the-given .ensures .0) (the-cut .ensures) (c .before .before .before .before .before .before .if1 .left))
 
 slice-aggregate-read-variance : tie.Need-slice-aggregate-read-variance
 slice-aggregate-read-variance c = search needs
 
 read-variance-requires : tie.Need-read-variance-requires
-read-variance-requires c κs = ((omega (arith, of-all (c .before .before .before .before .before .before .before .before .before .before .before .before .before .args .bytes .now) (c .before .before .before .before .before .before .before .before .before .before .before .before .before .args .at) (c .before .before .before .before .before .before .before .before .before .before .before .before .before .args .n + c .before .before .before .before .before .before .before .before .before .before .before .before .before .args .rows) (c .before .before .before .before .before .before .before .before .before .given .result) (given (c .before .before .before .before .before .before .before .before .before .before .before .before .before .args .flag) (c .before .before .before .before .before .before .before .before .before .before .before .before .before .args .rows)) (c .before .before .before .before .before .before .before .before .cut .result) (c .before .before .before .before .before .before .before .before .before .given .ensures .0) (c .before .before .before .before .before .before .before .before .cut .ensures) (c .before .before .before .before .before .before .before .if1 .left)), c .before .before .before .before .before .before .before .before .before .before .before .before .before .pre .0 .1), (c .before .before .before .before .before .before .before .before .before .before .before .before .before .pre .1 .0, c .before .before .before .before .before .before .before .before .before .before .before .before .before .pre .1 .1, mul-le-mul (c .before .before .before .before .before .before .before .before .before .before .before .before .before .pre .1 .1) (c .before .before .before .before .before .before .before .before .before .before .before .before .before .pre .1 .1)))
+read-variance-requires c κs =
+    let args = c .before .before .before .before .before .before .before .before .before .before .before .before .before .args in
+    let pre = c .before .before .before .before .before .before .before .before .before .before .before .before .before .pre in
+    let the-given = c .before .before .before .before .before .before .before .before .before .given in
+    let the-cut = c .before .before .before .before .before .before .before .before .cut in (
+      (omega (arith, of-all (args .bytes .now) (args .at) (args .n + args .rows) (the-given .result) (given (args .flag) (args .rows)) (the-cut .result) (the-given .ensures .0) (the-cut .ensures) (c .before .before .before .before .before .before .before .if1 .left)), pre .0 .1),
+      (pre .1 .0, pre .1 .1, mul-le-mul (pre .1 .1) (pre .1 .1)),
+    )
 
 sub-enter-observation : tie.Need-sub-enter-observation
 sub-enter-observation c = search needs
@@ -135,7 +178,9 @@ part-enter-observation-start-3 : tie.Need-part-enter-observation-start-3
 part-enter-observation-start-3 c = search needs
 
 part-enter-observation-end-3 : tie.Need-part-enter-observation-end-3
-part-enter-observation-end-3 c = omega (arith, mul-le-mul (c .before .before .before .before .before .before .before .before .before .before .before .before .before .before .before .before .before .before .before .before .pre .1 .1) (c .before .before .before .before .before .before .before .before .before .before .before .before .before .before .before .before .before .before .before .before .pre .1 .1))
+part-enter-observation-end-3 c =
+    let pre = c .before .before .before .before .before .before .before .before .before .before .before .before .before .before .before .before .before .before .before .before .pre in
+    omega (arith, mul-le-mul (pre .1 .1) (pre .1 .1))
 
 enter-observation-requires : tie.Need-enter-observation-requires
 enter-observation-requires c κs = search needs
@@ -147,7 +192,10 @@ same-length : tie.Need-same-length
 same-length c = search needs
 
 returns-2 : tie.Need-returns-2
-returns-2 c = taken (c .before .before .before .before .before .before .before .before .before .before .before .before .before .before .before .before .before .before .before .before .before .before .before .before .before .before .args .g) (c .before .before .before .before .before .before .before .before .before .before .before .before .before .before .before .before .before .before .before .before .before .before .before .before .before .before .args .store .now) (c .before .before .before .before .before .before .before .before .before .before .before .before .before .before .before .before .before .before .before .before .before .before .before .before .before .before .args .bytes .now) (c .before .before .before .before .before .before .before .before .before .before .before .before .before .before .before .before .before .before .before .before .before .before .before .before .before .before .args .keys .now) (c .before .before .before .before .before .before .before .before .before .before .before .before .before .before .before .before .before .before .before .before .before .before .before .before .before .before .args .rows) (c .before .before .before .before .before .before .before .before .before .before .before .before .before .before .before .before .before .before .before .before .before .before .before .before .before .before .args .flag) (c .before .before .before .before .before .before .before .before .before .before .before .before .before .before .before .before .before .before .before .before .before .before .before .before .before .before .args .n) (c .before .before .before .before .before .before .before .before .before .before .before .before .before .before .before .before .before .before .before .before .before .before .before .before .before .before .args .at) _ (c .before .before .before .before .before .before .before .before .before .before .before .before .before .before .before .before .before .before .before .before .before .before .given .ensures .0) (tells (c .before .before .before .before .before .before .before .before .before .before .before .before .before .before .before .before .before .before .before .before .before .cut .ensures) (c .before .before .before .before .before .before .before .before .before .before .before .before .before .before .before .before .before .before .before .before .if1 .left)) _ _ _ (c .before .before .before .enter-observation .result) _ _ (front (λ i. numberAt (c .before .before .before .before .before .before .before .before .before .before .before .before .before .before .before .before .before .before .before .before .before .before .before .before .before .before .args .bytes .now) (c .before .before .before .before .before .before .before .before .before .before .before .before .before .before .before .before .before .before .before .before .before .before .before .before .before .before .args .at + 8 * i)) (c .before .before .before .before .before .before .before .before .before .before .before .before .before .before .before .before .before .before .before .before .before .before .before .before .before .before .args .n) _ _ (c .before .before .before .before .before .before .before .before .before .before .before .before .before .before .before .before .before .before .numbers .ensures)) (front (λ i. numberAt (c .before .before .before .before .before .before .before .before .before .before .before .before .before .before .before .before .before .before .before .before .before .before .before .before .before .before .args .bytes .now) (c .before .before .before .before .before .before .before .before .before .before .before .before .before .before .before .before .before .before .before .before .before .before .before .before .before .before .args .at + 8 * c .before .before .before .before .before .before .before .before .before .before .before .before .before .before .before .before .before .before .before .before .before .before .before .before .before .before .args .n + 8 * i)) (c .before .before .before .before .before .before .before .before .before .before .before .before .before .before .before .before .before .before .before .before .before .before .before .before .before .before .args .rows) _ _ (c .before .before .before .before .before .before .before .before .before .before .before .before .before .before .before .numbers2 .ensures)) (variance-front (c .before .before .before .before .before .before .before .before .before .before .before .before .before .before .before .before .before .before .before .before .before .before .before .before .before .before .args .flag) (c .before .before .before .before .before .before .before .before .before .before .before .before .before .before .before .before .before .before .before .before .before .before .before .before .before .before .args .bytes .now) (c .before .before .before .before .before .before .before .before .before .before .before .before .before .before .before .before .before .before .before .before .before .before .before .before .before .before .args .at + 8 * (c .before .before .before .before .before .before .before .before .before .before .before .before .before .before .before .before .before .before .before .before .before .before .before .before .before .before .args .n + c .before .before .before .before .before .before .before .before .before .before .before .before .before .before .before .before .before .before .before .before .before .before .before .before .before .before .args .rows)) (c .before .before .before .before .before .before .before .before .before .before .before .before .before .before .before .before .before .before .before .before .before .before .before .before .before .before .args .rows) _ _ (c .before .before .before .before .before .before .before .before .before .before .before .before .before .before .before .before .before .before .before .before .before .before .before .before .before .before .pre .0 .1) (c .before .before .before .before .before .before .before .before .before .before .before .before .read-variance .ensures)) (c .before .before .before .enter-observation .ensures .0) (c .went .ensures) (c .before .before .before .enter-observation .ensures .1)
+returns-2 c =
+    let args = c .before .before .before .before .before .before .before .before .before .before .before .before .before .before .before .before .before .before .before .before .before .before .before .before .before .before .args in
+    let enter-observation = c .before .before .before .enter-observation in
+    taken (args .g) (args .store .now) (args .bytes .now) (args .keys .now) (args .rows) (args .flag) (args .n) (args .at) _ (c .before .before .before .before .before .before .before .before .before .before .before .before .before .before .before .before .before .before .before .before .before .before .given .ensures .0) (tells (c .before .before .before .before .before .before .before .before .before .before .before .before .before .before .before .before .before .before .before .before .before .cut .ensures) (c .before .before .before .before .before .before .before .before .before .before .before .before .before .before .before .before .before .before .before .before .if1 .left)) _ _ _ (enter-observation .result) _ _ (front (λ i. numberAt (args .bytes .now) (args .at + 8 * i)) (args .n) _ _ (c .before .before .before .before .before .before .before .before .before .before .before .before .before .before .before .before .before .before .numbers .ensures)) (front (λ i. numberAt (args .bytes .now) (args .at + 8 * args .n + 8 * i)) (args .rows) _ _ (c .before .before .before .before .before .before .before .before .before .before .before .before .before .before .before .numbers2 .ensures)) (variance-front (args .flag) (args .bytes .now) (args .at + 8 * (args .n + args .rows)) (args .rows) _ _ (c .before .before .before .before .before .before .before .before .before .before .before .before .before .before .before .before .before .before .before .before .before .before .before .before .before .before .pre .0 .1) (c .before .before .before .before .before .before .before .before .before .before .before .before .read-variance .ensures)) (enter-observation .ensures .0) (c .went .ensures) (enter-observation .ensures .1)
 
 pub read-observed-numbers-spec : {M : Type 1} → statement M
 read-observed-numbers-spec =

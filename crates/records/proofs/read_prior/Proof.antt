@@ -43,7 +43,9 @@ stop-requires : tie.Need-stop-requires
 stop-requires c κs = search needs
 
 returns : tie.Need-returns
-returns c = turned (c .before .before .before .before .before .args .g) (c .before .before .before .before .before .args .store .now) _ _ BadRecord _ (cut-short (c .before .before .before .before .before .args .g) (c .before .before .before .before .before .args .store .now) (c .before .before .before .before .before .args .bytes .now) (c .before .before .before .before .before .args .at) (tells (c .before .before .cut .ensures) (c .before .if1 .taken))) (c .stop .ensures) refl
+returns c =
+    let args = c .before .before .before .before .before .args in
+    turned (args .g) (args .store .now) _ _ BadRecord _ (cut-short (args .g) (args .store .now) (args .bytes .now) (args .at) (tells (c .before .before .cut .ensures) (c .before .if1 .taken))) (c .stop .ensures) refl
 
 byte-requires : tie.Need-byte-requires
 byte-requires c κs = omega (arith, there (c .before .before .before .before .args .bytes .now) (c .before .before .before .before .args .at) 1 (tells (c .before .cut .ensures) (c .if1 .left)))
@@ -52,22 +54,35 @@ stop-requires-2 : tie.Need-stop-requires-2
 stop-requires-2 c κs = search needs
 
 returns-2 : tie.Need-returns-2
-returns-2 c = turned (c .before .before .before .before .before .before .before .before .args .g) (c .before .before .before .before .before .before .before .before .args .store .now) _ _ NoSuchKey _ (no-key (c .before .before .before .before .before .before .before .before .args .g) (c .before .before .before .before .before .before .before .before .args .store .now) (c .before .before .before .before .before .before .before .before .args .bytes .now) (c .before .before .before .before .before .before .before .before .args .at) (tells (c .before .before .before .before .before .cut .ensures) (c .before .before .before .before .if1 .left)) (c .before .before .before .byte .result) (c .before .before .before .byte .ensures .0) (c .before .if2 .taken)) (c .stop2 .ensures) refl
+returns-2 c =
+    let args = c .before .before .before .before .before .before .before .before .args in
+    turned (args .g) (args .store .now) _ _ NoSuchKey _ (no-key (args .g) (args .store .now) (args .bytes .now) (args .at) (tells (c .before .before .before .before .before .cut .ensures) (c .before .before .before .before .if1 .left)) (c .before .before .before .byte .result) (c .before .before .before .byte .ensures .0) (c .before .if2 .taken)) (c .stop2 .ensures) refl
 
 size-of-requires : tie.Need-size-of-requires
 size-of-requires c κs = search needs
 
 add-read-prior-numbers : tie.Need-add-read-prior-numbers
-add-read-prior-numbers c = omega (arith, there (c .before .before .before .before .before .before .before .before .before .args .bytes .now) (c .before .before .before .before .before .before .before .before .before .args .at) 1 (tells (c .before .before .before .before .before .before .cut .ensures) (c .before .before .before .before .before .if1 .left)))
+add-read-prior-numbers c =
+    let args = c .before .before .before .before .before .before .before .before .before .args in
+    omega (arith, there (args .bytes .now) (args .at) 1 (tells (c .before .before .before .before .before .before .cut .ensures) (c .before .before .before .before .before .if1 .left)))
 
 read-prior-numbers-requires : tie.Need-read-prior-numbers-requires
-read-prior-numbers-requires c κs = (omega (arith, there (c .before .before .before .before .before .before .before .before .before .before .args .bytes .now) (c .before .before .before .before .before .before .before .before .before .before .args .at) 1 (tells (c .before .before .before .before .before .before .before .cut .ensures) (c .before .before .before .before .before .before .if1 .left))), of-size (c .before .before .before .before .before .before .before .before .before .before .args .g) (c .before .before .before .before .before .before .before .before .before .before .args .store .now) (c .before .before .before .before .before .before .before .before .before .before .args .bytes .now) (c .before .before .before .before .before .before .before .before .before .before .args .at) (c .before .before .before .before .before .byte .result) (c .before .size-of .result) (c .before .size-of .ensures .0) (size-most _ (valid-size (c .before .before .before .before .before .before .before .before .before .before .args .g) (c .before .before .before .before .before .before .before .before .before .before .pre .0) (c .before .before .before .before .before .byte .result) (c .before .before .before .if2 .left))), c .before .before .before .before .before .before .before .before .before .before .pre .0)
+read-prior-numbers-requires c κs =
+    let args = c .before .before .before .before .before .before .before .before .before .before .args in
+    let pre = c .before .before .before .before .before .before .before .before .before .before .pre in (
+      omega (arith, there (args .bytes .now) (args .at) 1 (tells (c .before .before .before .before .before .before .before .cut .ensures) (c .before .before .before .before .before .before .if1 .left))),
+      of-size (args .g) (args .store .now) (args .bytes .now) (args .at) (c .before .before .before .before .before .byte .result) (c .before .size-of .result) (c .before .size-of .ensures .0) (size-most _ (valid-size (args .g) (pre .0) (c .before .before .before .before .before .byte .result) (c .before .before .before .if2 .left))),
+      pre .0,
+    )
 
 same-length : tie.Need-same-length
 same-length c = search needs
 
 returns-3 : tie.Need-returns-3
-returns-3 c = met (c .before .before .before .before .before .before .before .before .before .before .before .before .before .args .g) (c .before .before .before .before .before .before .before .before .before .before .before .before .before .args .store .now) _ _ _ _ (from-numbers (c .before .before .before .before .before .before .before .before .before .before .before .before .before .args .g) (c .before .before .before .before .before .before .before .before .before .before .before .before .before .args .store .now) (c .before .before .before .before .before .before .before .before .before .before .before .before .before .args .bytes .now) (c .before .before .before .before .before .before .before .before .before .before .before .before .before .args .at) (tells (c .before .before .before .before .before .before .before .before .before .before .cut .ensures) (c .before .before .before .before .before .before .before .before .before .if1 .left)) (c .before .before .before .before .before .before .before .before .byte .result) (c .before .before .before .before .size-of .result) (c .before .before .before .before .before .before .before .before .byte .ensures .0) (c .before .before .before .before .before .before .if2 .left) (c .before .before .before .before .size-of .ensures .0)) (c .before .before .read-prior-numbers .ensures)
+returns-3 c =
+    let args = c .before .before .before .before .before .before .before .before .before .before .before .before .before .args in
+    let byte = c .before .before .before .before .before .before .before .before .byte in
+    met (args .g) (args .store .now) _ _ _ _ (from-numbers (args .g) (args .store .now) (args .bytes .now) (args .at) (tells (c .before .before .before .before .before .before .before .before .before .before .cut .ensures) (c .before .before .before .before .before .before .before .before .before .if1 .left)) (byte .result) (c .before .before .before .before .size-of .result) (byte .ensures .0) (c .before .before .before .before .before .before .if2 .left) (c .before .before .before .before .size-of .ensures .0)) (c .before .before .read-prior-numbers .ensures)
 
 pub read-prior-spec : {M : Type 1} → statement M
 read-prior-spec =

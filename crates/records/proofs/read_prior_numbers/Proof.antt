@@ -46,34 +46,53 @@ stop-requires : tie.Need-stop-requires
 stop-requires c κs = search needs
 
 returns : tie.Need-returns
-returns c = turned (c .before .before .before .before .before .args .g) (c .before .before .before .before .before .args .store .now) _ _ BadRecord _ (cut-short (c .before .before .before .before .before .args .g) (c .before .before .before .before .before .args .store .now) (c .before .before .before .before .before .args .bytes .now) (c .before .before .before .before .before .args .key) (c .before .before .before .before .before .args .s) (c .before .before .before .before .before .args .at) (tells (c .before .before .cut .ensures) (c .before .if1 .taken))) (c .stop .ensures) refl
+returns c =
+    let args = c .before .before .before .before .before .args in
+    turned (args .g) (args .store .now) _ _ BadRecord _ (cut-short (args .g) (args .store .now) (args .bytes .now) (args .key) (args .s) (args .at) (tells (c .before .before .cut .ensures) (c .before .if1 .taken))) (c .stop .ensures) refl
 
 add-end : tie.Need-add-end
-add-end c = omega (arith, mul-le-mul (c .before .before .before .before .pre .1) (c .before .before .before .before .pre .1), there (c .before .before .before .before .args .bytes .now) (c .before .before .before .before .args .at) (8 * (c .before .before .before .before .args .s + c .before .before .before .before .args .s * c .before .before .before .before .args .s)) (tells (c .before .cut .ensures) (c .if1 .left)))
+add-end c =
+    let args = c .before .before .before .before .args in
+    omega (arith, mul-le-mul (c .before .before .before .before .pre .1) (c .before .before .before .before .pre .1), there (args .bytes .now) (args .at) (8 * (args .s + args .s * args .s)) (tells (c .before .cut .ensures) (c .if1 .left)))
 
 mul-end : tie.Need-mul-end
-mul-end c = omega (arith, mul-le-mul (c .before .before .before .before .pre .1) (c .before .before .before .before .pre .1), there (c .before .before .before .before .args .bytes .now) (c .before .before .before .before .args .at) (8 * (c .before .before .before .before .args .s + c .before .before .before .before .args .s * c .before .before .before .before .args .s)) (tells (c .before .cut .ensures) (c .if1 .left)))
+mul-end c =
+    let args = c .before .before .before .before .args in
+    omega (arith, mul-le-mul (c .before .before .before .before .pre .1) (c .before .before .before .before .pre .1), there (args .bytes .now) (args .at) (8 * (args .s + args .s * args .s)) (tells (c .before .cut .ensures) (c .if1 .left)))
 
 add-end-2 : tie.Need-add-end-2
-add-end-2 c = omega (arith, mul-le-mul (c .before .before .before .before .pre .1) (c .before .before .before .before .pre .1), there (c .before .before .before .before .args .bytes .now) (c .before .before .before .before .args .at) (8 * (c .before .before .before .before .args .s + c .before .before .before .before .args .s * c .before .before .before .before .args .s)) (tells (c .before .cut .ensures) (c .if1 .left)))
+add-end-2 c =
+    let args = c .before .before .before .before .args in
+    omega (arith, mul-le-mul (c .before .before .before .before .pre .1) (c .before .before .before .before .pre .1), there (args .bytes .now) (args .at) (8 * (args .s + args .s * args .s)) (tells (c .before .cut .ensures) (c .if1 .left)))
 
 slice-aggregate-numbers : tie.Need-slice-aggregate-numbers
 slice-aggregate-numbers c = search needs
 
 numbers-requires : tie.Need-numbers-requires
-numbers-requires c κs = omega (arith, mul-le-mul (c .before .before .before .before .before .pre .1) (c .before .before .before .before .before .pre .1), there (c .before .before .before .before .before .args .bytes .now) (c .before .before .before .before .before .args .at) (8 * (c .before .before .before .before .before .args .s + c .before .before .before .before .before .args .s * c .before .before .before .before .before .args .s)) (tells (c .before .before .cut .ensures) (c .before .if1 .left)))
+numbers-requires c κs =
+    let args = c .before .before .before .before .before .args in
+    omega (arith, mul-le-mul (c .before .before .before .before .before .pre .1) (c .before .before .before .before .before .pre .1), there (args .bytes .now) (args .at) (8 * (args .s + args .s * args .s)) (tells (c .before .before .cut .ensures) (c .before .if1 .left)))
 
 mul-numbers : tie.Need-mul-numbers
-mul-numbers c = omega (arith, mul-le-mul (c .before .before .before .before .before .before .before .pre .1) (c .before .before .before .before .before .before .before .pre .1), there (c .before .before .before .before .before .before .before .args .bytes .now) (c .before .before .before .before .before .before .before .args .at) (8 * (c .before .before .before .before .before .before .before .args .s + c .before .before .before .before .before .before .before .args .s * c .before .before .before .before .before .before .before .args .s)) (tells (c .before .before .before .before .cut .ensures) (c .before .before .before .if1 .left)))
+mul-numbers c =
+    let args = c .before .before .before .before .before .before .before .args in
+    let pre = c .before .before .before .before .before .before .before .pre in
+    omega (arith, mul-le-mul (pre .1) (pre .1), there (args .bytes .now) (args .at) (8 * (args .s + args .s * args .s)) (tells (c .before .before .before .before .cut .ensures) (c .before .before .before .if1 .left)))
 
 add-numbers : tie.Need-add-numbers
-add-numbers c = omega (arith, mul-le-mul (c .before .before .before .before .before .before .before .pre .1) (c .before .before .before .before .before .before .before .pre .1), there (c .before .before .before .before .before .before .before .args .bytes .now) (c .before .before .before .before .before .before .before .args .at) (8 * (c .before .before .before .before .before .before .before .args .s + c .before .before .before .before .before .before .before .args .s * c .before .before .before .before .before .before .before .args .s)) (tells (c .before .before .before .before .cut .ensures) (c .before .before .before .if1 .left)))
+add-numbers c =
+    let args = c .before .before .before .before .before .before .before .args in
+    let pre = c .before .before .before .before .before .before .before .pre in
+    omega (arith, mul-le-mul (pre .1) (pre .1), there (args .bytes .now) (args .at) (8 * (args .s + args .s * args .s)) (tells (c .before .before .before .before .cut .ensures) (c .before .before .before .if1 .left)))
 
 slice-aggregate-numbers-2 : tie.Need-slice-aggregate-numbers-2
 slice-aggregate-numbers-2 c = search needs
 
 numbers-requires-2 : tie.Need-numbers-requires-2
-numbers-requires-2 c κs = omega (arith, mul-le-mul (c .before .before .before .before .before .before .before .before .pre .1) (c .before .before .before .before .before .before .before .before .pre .1), there (c .before .before .before .before .before .before .before .before .args .bytes .now) (c .before .before .before .before .before .before .before .before .args .at) (8 * (c .before .before .before .before .before .before .before .before .args .s + c .before .before .before .before .before .before .before .before .args .s * c .before .before .before .before .before .before .before .before .args .s)) (tells (c .before .before .before .before .before .cut .ensures) (c .before .before .before .before .if1 .left)))
+numbers-requires-2 c κs =
+    let args = c .before .before .before .before .before .before .before .before .args in
+    let pre = c .before .before .before .before .before .before .before .before .pre in
+    omega (arith, mul-le-mul (pre .1) (pre .1), there (args .bytes .now) (args .at) (8 * (args .s + args .s * args .s)) (tells (c .before .before .before .before .before .cut .ensures) (c .before .before .before .before .if1 .left)))
 
 sub-enter-prior : tie.Need-sub-enter-prior
 sub-enter-prior c = search needs
@@ -82,7 +101,9 @@ part-enter-prior-start : tie.Need-part-enter-prior-start
 part-enter-prior-start c = search needs
 
 part-enter-prior-end : tie.Need-part-enter-prior-end
-part-enter-prior-end c = omega (arith, mul-le-mul (c .before .before .before .before .before .before .before .before .before .before .before .pre .1) (c .before .before .before .before .before .before .before .before .before .before .before .pre .1))
+part-enter-prior-end c =
+    let pre = c .before .before .before .before .before .before .before .before .before .before .before .pre in
+    omega (arith, mul-le-mul (pre .1) (pre .1))
 
 sub-enter-prior-2 : tie.Need-sub-enter-prior-2
 sub-enter-prior-2 c = search needs
@@ -91,7 +112,9 @@ part-enter-prior-start-2 : tie.Need-part-enter-prior-start-2
 part-enter-prior-start-2 c = search needs
 
 part-enter-prior-end-2 : tie.Need-part-enter-prior-end-2
-part-enter-prior-end-2 c = omega (arith, mul-le-mul (c .before .before .before .before .before .before .before .before .before .before .before .before .before .pre .1) (c .before .before .before .before .before .before .before .before .before .before .before .before .before .pre .1))
+part-enter-prior-end-2 c =
+    let pre = c .before .before .before .before .before .before .before .before .before .before .before .before .before .pre in
+    omega (arith, mul-le-mul (pre .1) (pre .1))
 
 enter-prior-requires : tie.Need-enter-prior-requires
 enter-prior-requires c κs = search needs
@@ -103,7 +126,10 @@ same-length : tie.Need-same-length
 same-length c = search needs
 
 returns-2 : tie.Need-returns-2
-returns-2 c = taken (c .before .before .before .before .before .before .before .before .before .before .before .before .before .before .before .before .before .before .before .args .g) (c .before .before .before .before .before .before .before .before .before .before .before .before .before .before .before .before .before .before .before .args .store .now) (c .before .before .before .before .before .before .before .before .before .before .before .before .before .before .before .before .before .before .before .args .bytes .now) (c .before .before .before .before .before .before .before .before .before .before .before .before .before .before .before .before .before .before .before .args .key) (c .before .before .before .before .before .before .before .before .before .before .before .before .before .before .before .before .before .before .before .args .s) (c .before .before .before .before .before .before .before .before .before .before .before .before .before .before .before .before .before .before .before .args .at) (tells (c .before .before .before .before .before .before .before .before .before .before .before .before .before .before .before .before .cut .ensures) (c .before .before .before .before .before .before .before .before .before .before .before .before .before .before .before .if1 .left)) _ _ (c .before .before .before .enter-prior .result) _ _ (front (λ i. numberAt (c .before .before .before .before .before .before .before .before .before .before .before .before .before .before .before .before .before .before .before .args .bytes .now) (c .before .before .before .before .before .before .before .before .before .before .before .before .before .before .before .before .before .before .before .args .at + 8 * i)) (c .before .before .before .before .before .before .before .before .before .before .before .before .before .before .before .before .before .before .before .args .s) _ _ (c .before .before .before .before .before .before .before .before .before .before .before .before .before .numbers .ensures)) (front (λ i. numberAt (c .before .before .before .before .before .before .before .before .before .before .before .before .before .before .before .before .before .before .before .args .bytes .now) (c .before .before .before .before .before .before .before .before .before .before .before .before .before .before .before .before .before .before .before .args .at + 8 * c .before .before .before .before .before .before .before .before .before .before .before .before .before .before .before .before .before .before .before .args .s + 8 * i)) (c .before .before .before .before .before .before .before .before .before .before .before .before .before .before .before .before .before .before .before .args .s * c .before .before .before .before .before .before .before .before .before .before .before .before .before .before .before .before .before .before .before .args .s) _ _ (c .before .before .before .before .before .before .before .before .before .before .numbers2 .ensures)) (c .before .before .before .enter-prior .ensures .0) (c .went .ensures) (c .before .before .before .enter-prior .ensures .1)
+returns-2 c =
+    let args = c .before .before .before .before .before .before .before .before .before .before .before .before .before .before .before .before .before .before .before .args in
+    let enter-prior = c .before .before .before .enter-prior in
+    taken (args .g) (args .store .now) (args .bytes .now) (args .key) (args .s) (args .at) (tells (c .before .before .before .before .before .before .before .before .before .before .before .before .before .before .before .before .cut .ensures) (c .before .before .before .before .before .before .before .before .before .before .before .before .before .before .before .if1 .left)) _ _ (enter-prior .result) _ _ (front (λ i. numberAt (args .bytes .now) (args .at + 8 * i)) (args .s) _ _ (c .before .before .before .before .before .before .before .before .before .before .before .before .before .numbers .ensures)) (front (λ i. numberAt (args .bytes .now) (args .at + 8 * args .s + 8 * i)) (args .s * args .s) _ _ (c .before .before .before .before .before .before .before .before .before .before .numbers2 .ensures)) (enter-prior .ensures .0) (c .went .ensures) (enter-prior .ensures .1)
 
 pub read-prior-numbers-spec : {M : Type 1} → statement M
 read-prior-numbers-spec =

@@ -36,7 +36,9 @@ stop-requires : tie.Need-stop-requires
 stop-requires c κs = search needs
 
 returns : tie.Need-returns
-returns c = turned (c .before .before .before .before .before .args .g) (c .before .before .before .before .before .args .store .now) _ _ BadRecord _ (cut-short (c .before .before .before .before .before .args .g) (c .before .before .before .before .before .args .store .now) (c .before .before .before .before .before .args .bytes .now) (c .before .before .before .before .before .args .at) (tells (c .before .before .cut .ensures) (c .before .if1 .taken))) (c .stop .ensures) refl
+returns c =
+    let args = c .before .before .before .before .before .args in
+    turned (args .g) (args .store .now) _ _ BadRecord _ (cut-short (args .g) (args .store .now) (args .bytes .now) (args .at) (tells (c .before .before .cut .ensures) (c .before .if1 .taken))) (c .stop .ensures) refl
 
 byte-requires : tie.Need-byte-requires
 byte-requires c κs = omega (arith, there (c .before .before .before .before .args .bytes .now) (c .before .before .before .before .args .at) 2 (tells (c .before .cut .ensures) (c .if1 .left)))
@@ -54,28 +56,46 @@ enum-told : tie.Need-enum-told
 enum-told c = search needs
 
 add-read-variable : tie.Need-add-read-variable
-add-read-variable c = omega (arith, there (c .before .before .before .before .before .before .before .before .before .args .bytes .now) (c .before .before .before .before .before .before .before .before .before .args .at) 2 (tells (c .before .before .before .before .before .before .cut .ensures) (c .before .before .before .before .before .if1 .left)))
+add-read-variable c =
+    let args = c .before .before .before .before .before .before .before .before .before .args in
+    omega (arith, there (args .bytes .now) (args .at) 2 (tells (c .before .before .before .before .before .before .cut .ensures) (c .before .before .before .before .before .if1 .left)))
 
 read-variable-requires : tie.Need-read-variable-requires
-read-variable-requires c κs = (c .before .before .before .before .before .before .before .before .before .pre .0, there (c .before .before .before .before .before .before .before .before .before .args .bytes .now) (c .before .before .before .before .before .before .before .before .before .args .at) 2 (tells (c .before .before .before .before .before .before .cut .ensures) (c .before .before .before .before .before .if1 .left)))
+read-variable-requires c κs =
+    let args = c .before .before .before .before .before .before .before .before .before .args in (
+      c .before .before .before .before .before .before .before .before .before .pre .0,
+      there (args .bytes .now) (args .at) 2 (tells (c .before .before .before .before .before .before .cut .ensures) (c .before .before .before .before .before .if1 .left)),
+    )
 
 enum-told-2 : tie.Need-enum-told-2
 enum-told-2 c = search needs
 
 add-read-prior : tie.Need-add-read-prior
-add-read-prior c = omega (arith, there (c .before .before .before .before .before .before .before .before .before .args .bytes .now) (c .before .before .before .before .before .before .before .before .before .args .at) 2 (tells (c .before .before .before .before .before .before .cut .ensures) (c .before .before .before .before .before .if1 .left)))
+add-read-prior c =
+    let args = c .before .before .before .before .before .before .before .before .before .args in
+    omega (arith, there (args .bytes .now) (args .at) 2 (tells (c .before .before .before .before .before .before .cut .ensures) (c .before .before .before .before .before .if1 .left)))
 
 read-prior-requires : tie.Need-read-prior-requires
-read-prior-requires c κs = (c .before .before .before .before .before .before .before .before .before .before .pre .0, there (c .before .before .before .before .before .before .before .before .before .before .args .bytes .now) (c .before .before .before .before .before .before .before .before .before .before .args .at) 2 (tells (c .before .before .before .before .before .before .before .cut .ensures) (c .before .before .before .before .before .before .if1 .left)))
+read-prior-requires c κs =
+    let args = c .before .before .before .before .before .before .before .before .before .before .args in (
+      c .before .before .before .before .before .before .before .before .before .before .pre .0,
+      there (args .bytes .now) (args .at) 2 (tells (c .before .before .before .before .before .before .before .cut .ensures) (c .before .before .before .before .before .before .if1 .left)),
+    )
 
 enum-told-3 : tie.Need-enum-told-3
 enum-told-3 c = search needs
 
 add-read-observation : tie.Need-add-read-observation
-add-read-observation c = omega (arith, there (c .before .before .before .before .before .before .before .before .before .args .bytes .now) (c .before .before .before .before .before .before .before .before .before .args .at) 2 (tells (c .before .before .before .before .before .before .cut .ensures) (c .before .before .before .before .before .if1 .left)))
+add-read-observation c =
+    let args = c .before .before .before .before .before .before .before .before .before .args in
+    omega (arith, there (args .bytes .now) (args .at) 2 (tells (c .before .before .before .before .before .before .cut .ensures) (c .before .before .before .before .before .if1 .left)))
 
 read-observation-requires : tie.Need-read-observation-requires
-read-observation-requires c κs = (c .before .before .before .before .before .before .before .before .before .before .pre .0, there (c .before .before .before .before .before .before .before .before .before .before .args .bytes .now) (c .before .before .before .before .before .before .before .before .before .before .args .at) 2 (tells (c .before .before .before .before .before .before .before .cut .ensures) (c .before .before .before .before .before .before .if1 .left)))
+read-observation-requires c κs =
+    let args = c .before .before .before .before .before .before .before .before .before .before .args in (
+      c .before .before .before .before .before .before .before .before .before .before .pre .0,
+      there (args .bytes .now) (args .at) 2 (tells (c .before .before .before .before .before .before .before .cut .ensures) (c .before .before .before .before .before .before .if1 .left)),
+    )
 
 enum-told-4 : tie.Need-enum-told-4
 enum-told-4 c = search needs
@@ -84,22 +104,34 @@ stop-requires-2 : tie.Need-stop-requires-2
 stop-requires-2 c κs = search needs
 
 returns-2 : tie.Need-returns-2
-returns-2 c = met (c .before .before .before .before .before .before .before .before .before .before .args .g) (c .before .before .before .before .before .before .before .before .before .before .args .store .now) _ _ _ _ (of-mark (c .before .before .before .before .before .before .before .before .before .before .args .g) (c .before .before .before .before .before .before .before .before .before .before .args .store .now) (c .before .before .before .before .before .before .before .before .before .before .args .bytes .now) (c .before .before .before .before .before .before .before .before .before .before .args .at) (tells (c .before .before .before .before .before .before .before .cut .ensures) (c .before .before .before .before .before .before .if1 .left)) mark.Variable (marks (c .before .before .before .before .before .before .before .before .before .before .args .bytes .now) (c .before .before .before .before .before .before .before .before .before .before .args .at) (c .before .before .before .before .before .byte .result) (c .before .before .before .before .byte2 .result) (c .before .before .before .mark-of .result) _ (c .before .before .before .before .before .byte .ensures .0) (c .before .before .before .before .byte2 .ensures .0) (c .before .before .before .mark-of .ensures) (c .before .enum-told .given .1))) (c .read-variable .ensures, as-it-was (c .before .before .before .before .before .before .before .before .before .before .args .g) (c .before .before .before .before .before .before .before .before .before .before .args .store .now) (c .before .before .before .before .before .before .before .before .before .before .args .bytes .now) (c .before .before .before .before .before .before .before .before .before .before .args .at + 2))
+returns-2 c =
+    let args = c .before .before .before .before .before .before .before .before .before .before .args in
+    met (args .g) (args .store .now) _ _ _ _ (of-mark (args .g) (args .store .now) (args .bytes .now) (args .at) (tells (c .before .before .before .before .before .before .before .cut .ensures) (c .before .before .before .before .before .before .if1 .left)) mark.Variable (marks (args .bytes .now) (args .at) (c .before .before .before .before .before .byte .result) (c .before .before .before .before .byte2 .result) (c .before .before .before .mark-of .result) _ (c .before .before .before .before .before .byte .ensures .0) (c .before .before .before .before .byte2 .ensures .0) (c .before .before .before .mark-of .ensures) (c .before .enum-told .given .1))) (c .read-variable .ensures, as-it-was (args .g) (args .store .now) (args .bytes .now) (args .at + 2))
 
 same-length : tie.Need-same-length
 same-length c = search needs
 
 returns-3 : tie.Need-returns-3
-returns-3 c = met (c .before .before .before .before .before .before .before .before .before .before .before .before .before .args .g) (c .before .before .before .before .before .before .before .before .before .before .before .before .before .args .store .now) _ _ _ _ (of-mark (c .before .before .before .before .before .before .before .before .before .before .before .before .before .args .g) (c .before .before .before .before .before .before .before .before .before .before .before .before .before .args .store .now) (c .before .before .before .before .before .before .before .before .before .before .before .before .before .args .bytes .now) (c .before .before .before .before .before .before .before .before .before .before .before .before .before .args .at) (tells (c .before .before .before .before .before .before .before .before .before .before .cut .ensures) (c .before .before .before .before .before .before .before .before .before .if1 .left)) mark.Prior (marks (c .before .before .before .before .before .before .before .before .before .before .before .before .before .args .bytes .now) (c .before .before .before .before .before .before .before .before .before .before .before .before .before .args .at) (c .before .before .before .before .before .before .before .before .byte .result) (c .before .before .before .before .before .before .before .byte2 .result) (c .before .before .before .before .before .before .mark-of .result) _ (c .before .before .before .before .before .before .before .before .byte .ensures .0) (c .before .before .before .before .before .before .before .byte2 .ensures .0) (c .before .before .before .before .before .before .mark-of .ensures) (c .before .before .before .before .enum-told2 .given .1))) (c .before .before .read-prior .ensures)
+returns-3 c =
+    let args = c .before .before .before .before .before .before .before .before .before .before .before .before .before .args in
+    let byte = c .before .before .before .before .before .before .before .before .byte in
+    let byte2 = c .before .before .before .before .before .before .before .byte2 in
+    met (args .g) (args .store .now) _ _ _ _ (of-mark (args .g) (args .store .now) (args .bytes .now) (args .at) (tells (c .before .before .before .before .before .before .before .before .before .before .cut .ensures) (c .before .before .before .before .before .before .before .before .before .if1 .left)) mark.Prior (marks (args .bytes .now) (args .at) (byte .result) (byte2 .result) (c .before .before .before .before .before .before .mark-of .result) _ (byte .ensures .0) (byte2 .ensures .0) (c .before .before .before .before .before .before .mark-of .ensures) (c .before .before .before .before .enum-told2 .given .1))) (c .before .before .read-prior .ensures)
 
 same-length-2 : tie.Need-same-length-2
 same-length-2 c = search needs
 
 returns-4 : tie.Need-returns-4
-returns-4 c = met (c .before .before .before .before .before .before .before .before .before .before .before .before .before .args .g) (c .before .before .before .before .before .before .before .before .before .before .before .before .before .args .store .now) _ _ _ _ (of-mark (c .before .before .before .before .before .before .before .before .before .before .before .before .before .args .g) (c .before .before .before .before .before .before .before .before .before .before .before .before .before .args .store .now) (c .before .before .before .before .before .before .before .before .before .before .before .before .before .args .bytes .now) (c .before .before .before .before .before .before .before .before .before .before .before .before .before .args .at) (tells (c .before .before .before .before .before .before .before .before .before .before .cut .ensures) (c .before .before .before .before .before .before .before .before .before .if1 .left)) mark.Observation (marks (c .before .before .before .before .before .before .before .before .before .before .before .before .before .args .bytes .now) (c .before .before .before .before .before .before .before .before .before .before .before .before .before .args .at) (c .before .before .before .before .before .before .before .before .byte .result) (c .before .before .before .before .before .before .before .byte2 .result) (c .before .before .before .before .before .before .mark-of .result) _ (c .before .before .before .before .before .before .before .before .byte .ensures .0) (c .before .before .before .before .before .before .before .byte2 .ensures .0) (c .before .before .before .before .before .before .mark-of .ensures) (c .before .before .before .before .enum-told3 .given .1))) (c .before .before .read-observation .ensures)
+returns-4 c =
+    let args = c .before .before .before .before .before .before .before .before .before .before .before .before .before .args in
+    let byte = c .before .before .before .before .before .before .before .before .byte in
+    let byte2 = c .before .before .before .before .before .before .before .byte2 in
+    met (args .g) (args .store .now) _ _ _ _ (of-mark (args .g) (args .store .now) (args .bytes .now) (args .at) (tells (c .before .before .before .before .before .before .before .before .before .before .cut .ensures) (c .before .before .before .before .before .before .before .before .before .if1 .left)) mark.Observation (marks (args .bytes .now) (args .at) (byte .result) (byte2 .result) (c .before .before .before .before .before .before .mark-of .result) _ (byte .ensures .0) (byte2 .ensures .0) (c .before .before .before .before .before .before .mark-of .ensures) (c .before .before .before .before .enum-told3 .given .1))) (c .before .before .read-observation .ensures)
 
 returns-5 : tie.Need-returns-5
-returns-5 c = turned (c .before .before .before .before .before .before .before .before .before .before .args .g) (c .before .before .before .before .before .before .before .before .before .before .args .store .now) _ _ BadRecord _ (of-mark (c .before .before .before .before .before .before .before .before .before .before .args .g) (c .before .before .before .before .before .before .before .before .before .before .args .store .now) (c .before .before .before .before .before .before .before .before .before .before .args .bytes .now) (c .before .before .before .before .before .before .before .before .before .before .args .at) (tells (c .before .before .before .before .before .before .before .cut .ensures) (c .before .before .before .before .before .before .if1 .left)) mark.Unmarked (marks (c .before .before .before .before .before .before .before .before .before .before .args .bytes .now) (c .before .before .before .before .before .before .before .before .before .before .args .at) (c .before .before .before .before .before .byte .result) (c .before .before .before .before .byte2 .result) (c .before .before .before .mark-of .result) _ (c .before .before .before .before .before .byte .ensures .0) (c .before .before .before .before .byte2 .ensures .0) (c .before .before .before .mark-of .ensures) (c .before .enum-told4 .given .1))) (c .stop2 .ensures) refl
+returns-5 c =
+    let args = c .before .before .before .before .before .before .before .before .before .before .args in
+    turned (args .g) (args .store .now) _ _ BadRecord _ (of-mark (args .g) (args .store .now) (args .bytes .now) (args .at) (tells (c .before .before .before .before .before .before .before .cut .ensures) (c .before .before .before .before .before .before .if1 .left)) mark.Unmarked (marks (args .bytes .now) (args .at) (c .before .before .before .before .before .byte .result) (c .before .before .before .before .byte2 .result) (c .before .before .before .mark-of .result) _ (c .before .before .before .before .before .byte .ensures .0) (c .before .before .before .before .byte2 .ensures .0) (c .before .before .before .mark-of .ensures) (c .before .enum-told4 .given .1))) (c .stop2 .ensures) refl
 
 pub read-record-spec : {M : Type 1} → statement M
 read-record-spec =

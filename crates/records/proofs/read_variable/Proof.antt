@@ -34,7 +34,9 @@ stop-requires : tie.Need-stop-requires
 stop-requires c κs = search needs
 
 returns : tie.Need-returns
-returns c = turned-back (c .before .before .before .before .args .g) (c .before .before .before .before .args .bytes .now) (c .before .before .before .before .args .at) _ (tells (c .before .before .cut .ensures) (c .before .if1 .taken)) (c .stop .ensures)
+returns c =
+    let args = c .before .before .before .before .args in
+    turned-back (args .g) (args .bytes .now) (args .at) _ (tells (c .before .before .cut .ensures) (c .before .if1 .taken)) (c .stop .ensures)
 
 word-requires : tie.Need-word-requires
 word-requires c κs = omega (arith, there (c .before .before .before .args .bytes .now) (c .before .before .before .args .at) 9 (tells (c .before .cut .ensures) (c .if1 .left)))
@@ -55,13 +57,17 @@ enter-variable-requires : tie.Need-enter-variable-requires
 enter-variable-requires c κs = search needs
 
 add-went : tie.Need-add-went
-add-went c = omega (arith, there (c .before .before .before .before .before .before .before .args .bytes .now) (c .before .before .before .before .before .before .before .args .at) 9 (tells (c .before .before .before .before .before .cut .ensures) (c .before .before .before .before .if1 .left)))
+add-went c =
+    let args = c .before .before .before .before .before .before .before .args in
+    omega (arith, there (args .bytes .now) (args .at) 9 (tells (c .before .before .before .before .before .cut .ensures) (c .before .before .before .before .if1 .left)))
 
 went-requires : tie.Need-went-requires
 went-requires c κs = search needs
 
 returns-2 : tie.Need-returns-2
-returns-2 c = taken (c .before .before .before .before .before .before .before .before .args .g) (c .before .before .before .before .before .before .before .before .args .bytes .now) (c .before .before .before .before .before .before .before .before .args .at) _ (tells (c .before .before .before .before .before .before .cut .ensures) (c .before .before .before .before .before .if1 .left)) (c .before .before .before .before .word .result) (c .before .before .before .word2 .result) (c .before .before .byte .result) (c .before .enter-variable .result) (c .before .before .before .before .word .ensures .0) (c .before .before .before .word2 .ensures .0) (c .before .before .byte .ensures .0) (c .before .enter-variable .ensures) (c .went .ensures)
+returns-2 c =
+    let args = c .before .before .before .before .before .before .before .before .args in
+    taken (args .g) (args .bytes .now) (args .at) _ (tells (c .before .before .before .before .before .before .cut .ensures) (c .before .before .before .before .before .if1 .left)) (c .before .before .before .before .word .result) (c .before .before .before .word2 .result) (c .before .before .byte .result) (c .before .enter-variable .result) (c .before .before .before .before .word .ensures .0) (c .before .before .before .word2 .ensures .0) (c .before .before .byte .ensures .0) (c .before .enter-variable .ensures) (c .went .ensures)
 
 pub read-variable-spec : {M : Type 1} → statement M
 read-variable-spec =

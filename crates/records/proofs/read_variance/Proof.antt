@@ -43,7 +43,11 @@ mul-numbers : tie.Need-mul-numbers
 mul-numbers c = omega (arith, mul-le-mul (c .before .before .before .before .before .pre .1 .1) (c .before .before .before .before .before .pre .1 .1))
 
 numbers-requires : tie.Need-numbers-requires
-numbers-requires c κs = (has-room (c .before .before .before .before .before .args .flag) (c .before .before .before .before .before .args .rows) (c .before .before .before .before .before .args .at) _ (c .before .enum-told2 .given .1) (c .before .before .before .before .before .pre .0 .0), c .before .before .before .before .before .pre .1 .2)
+numbers-requires c κs =
+    let args = c .before .before .before .before .before .args in (
+      has-room (args .flag) (args .rows) (args .at) _ (c .before .enum-told2 .given .1) (c .before .before .before .before .before .pre .0 .0),
+      c .before .before .before .before .before .pre .1 .2,
+    )
 
 enum-told-3 : tie.Need-enum-told-3
 enum-told-3 c = search needs
@@ -52,16 +56,22 @@ same-length : tie.Need-same-length
 same-length c = search needs
 
 returns : tie.Need-returns
-returns c = of-identity (c .before .before .before .before .before .before .before .before .args .flag) (c .before .before .before .before .before .before .before .before .args .bytes .now) (c .before .before .before .before .before .before .before .before .args .at) (c .before .before .before .before .before .before .before .before .args .rows) (c .before .before .before .before .before .before .before .before .args .out .now) _ (c .before .before .before .before .enum-told .given .1) (c .before .before .identity .ensures)
+returns c =
+    let args = c .before .before .before .before .before .before .before .before .args in
+    of-identity (args .flag) (args .bytes .now) (args .at) (args .rows) (args .out .now) _ (c .before .before .before .before .enum-told .given .1) (c .before .before .identity .ensures)
 
 same-length-2 : tie.Need-same-length-2
 same-length-2 c = search needs
 
 returns-2 : tie.Need-returns-2
-returns-2 c = of-given (c .before .before .before .before .before .before .before .before .args .flag) (c .before .before .before .before .before .before .before .before .args .bytes .now) (c .before .before .before .before .before .before .before .before .args .at) (c .before .before .before .before .before .before .before .before .args .rows) (c .before .before .before .before .before .before .before .before .args .out .now) _ (c .before .before .before .before .enum-told2 .given .1) (c .before .before .numbers .ensures)
+returns-2 c =
+    let args = c .before .before .before .before .before .before .before .before .args in
+    of-given (args .flag) (args .bytes .now) (args .at) (args .rows) (args .out .now) _ (c .before .before .before .before .enum-told2 .given .1) (c .before .before .numbers .ensures)
 
 returns-3 : tie.Need-returns-3
-returns-3 c = of-none (c .before .before .before .before .args .flag) (c .before .before .before .before .args .bytes .now) (c .before .before .before .before .args .at) (c .before .before .before .before .args .rows) (c .before .before .before .before .args .out .now) _ (c .enum-told3 .given .1) (c .before .before .before .before .pre .0 .1)
+returns-3 c =
+    let args = c .before .before .before .before .args in
+    of-none (args .flag) (args .bytes .now) (args .at) (args .rows) (args .out .now) _ (c .enum-told3 .given .1) (c .before .before .before .before .pre .0 .1)
 
 pub read-variance-spec : {M : Type 1} → statement M
 read-variance-spec =

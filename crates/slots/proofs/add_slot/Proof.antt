@@ -25,28 +25,48 @@ part-ks-end : tie.Need-part-ks-end
 part-ks-end c = search needs
 
 mul-n : tie.Need-mul-n
-mul-n c = let b = offsets (c .before .before .before .before .before .before .before .before .pre .1 .fitted) in omega (arith, c .before .before .before .before .before .before .before .before .pre .1 .fitted .rows)
+mul-n c =
+    let pre = c .before .before .before .before .before .before .before .before .pre in
+    let b = offsets (pre .1 .fitted) in
+    omega (arith, pre .1 .fitted .rows)
 
 add-n : tie.Need-add-n
-add-n c = let b = offsets (c .before .before .before .before .before .before .before .before .before .pre .1 .fitted) in omega (arith, c .before .before .before .before .before .before .before .before .before .pre .1 .fitted .rows)
+add-n c =
+    let pre = c .before .before .before .before .before .before .before .before .before .pre in
+    let b = offsets (pre .1 .fitted) in
+    omega (arith, pre .1 .fitted .rows)
 
 mul-n-2 : tie.Need-mul-n-2
-mul-n-2 c = let b = offsets (c .before .before .before .before .before .before .before .before .before .before .pre .1 .fitted) in omega (arith, c .before .before .before .before .before .before .before .before .before .before .pre .1 .fitted .rows)
+mul-n-2 c =
+    let pre = c .before .before .before .before .before .before .before .before .before .before .pre in
+    let b = offsets (pre .1 .fitted) in
+    omega (arith, pre .1 .fitted .rows)
 
 add-n-2 : tie.Need-add-n-2
-add-n-2 c = let b = offsets (c .before .before .before .before .before .before .before .before .before .before .pre .1 .fitted) in omega (arith, c .before .before .before .before .before .before .before .before .before .before .pre .1 .fitted .rows)
+add-n-2 c =
+    let pre = c .before .before .before .before .before .before .before .before .before .before .pre in
+    let b = offsets (pre .1 .fitted) in
+    omega (arith, pre .1 .fitted .rows)
 
 numbers-requires : tie.Need-numbers-requires
 numbers-requires c κs = c .before .before .before .before .before .before .before .before .before .before .pre .1 .stored
 
 add-view-requires : tie.Need-add-view-requires
-add-view-requires c κs = (c .before .before .before .before .before .before .before .before .before .before .before .before .before .pre .0, refit (storeOf (c .before .before .before .before .before .before .before .before .before .before .before .before .before .args .h .slot) (c .before .before .before .before .before .before .before .before .before .before .before .before .before .args .factors .now) (c .before .before .before .before .before .before .before .before .before .before .before .before .before .args .messages .now)) _ (c .before .before .before .before .before .before .before .before .before .before .before .before .before .args .h .at) (c .before .before .numbers .ensures) (c .before .before .before .before .before .before .before .before .before .before .before .before .before .pre .1 .stored) (c .before .before .before .before .before .before .before .before .before .before .before .before .before .pre .1 .fitted))
+add-view-requires c κs =
+    let args = c .before .before .before .before .before .before .before .before .before .before .before .before .before .args in
+    let pre = c .before .before .before .before .before .before .before .before .before .before .before .before .before .pre in (
+      pre .0,
+      refit (storeOf (args .h .slot) (args .factors .now) (args .messages .now)) _ (args .h .at) (c .before .before .numbers .ensures) (pre .1 .stored) (pre .1 .fitted),
+    )
 
 rows-of-requires : tie.Need-rows-of-requires
 rows-of-requires c κs = prior-key (c .before .before .before .before .before .before .before .before .before .before .before .before .before .before .before .before .before .before .pre .1)
 
 add-result : tie.Need-add-result
-add-result c = omega (arith, c .before .before .before .before .before .before .before .before .before .before .before .before .before .before .before .before .before .before .before .pre .1 .low, c .rows-of .ensures, rows-bound (c .before .before .before .before .before .before .before .before .before .before .before .before .before .before .before .before .before .before .before .args .layout) (c .before .before .before .before .before .before .before .before .before .before .before .before .before .before .before .before .before .before .before .args .keys .now) (c .before .before .before .before .before .before .before .before .before .before .before .before .before .before .before .before .before .before .before .args .h) (c .before .before .before .before .before .before .before .before .before .before .before .before .before .before .before .before .before .before .before .pre .1 .fitted .rows))
+add-result c =
+    let args = c .before .before .before .before .before .before .before .before .before .before .before .before .before .before .before .before .before .before .before .args in
+    let pre = c .before .before .before .before .before .before .before .before .before .before .before .before .before .before .before .before .before .before .before .pre in
+    omega (arith, pre .1 .low, c .rows-of .ensures, rows-bound (args .layout) (args .keys .now) (args .h) (pre .1 .fitted .rows))
 
 same-length : tie.Need-same-length
 same-length c = search needs
@@ -55,7 +75,11 @@ same-length-2 : tie.Need-same-length-2
 same-length-2 c = search needs
 
 returns : tie.Need-returns
-returns c = (ap (λ (k : ℕ). c .before .before .before .before .before .before .before .before .before .before .before .before .before .before .before .before .before .before .before .args .row + k) (c .rows-of .ensures ∙ rows-is (c .before .before .before .before .before .before .before .before .before .before .before .before .before .before .before .before .before .before .before .pre .1)), view-read (c .before .before .before .before .before .before .before .before .before .before .before .before .before .before .before .before .before .before .before .args .z) (c .before .before .before .before .before .before .before .before .before .before .before .before .before .before .before .before .before .before .before .args .f) (c .before .before .before .before .before .before .before .before .before .before .before .before .before .before .before .before .before .before .before .args .layout) (c .before .before .before .before .before .before .before .before .before .before .before .before .before .before .before .before .before .before .before .args .row) (c .before .before .before .before .before .before .before .before .before .before .before .before .before .before .before .before .before .before .before .args .h .prior) (keysAt (c .before .before .before .before .before .before .before .before .before .before .before .before .before .before .before .before .before .before .before .args .keys .now) (c .before .before .before .before .before .before .before .before .before .before .before .before .before .before .before .before .before .before .before .args .h)) (c .before .before .before .before .before .before .before .before .before .before .before .before .before .before .before .before .before .before .before .args .h .rows) (c .before .before .before .before .before .before .before .before .before .before .before .before .before .before .before .before .before .before .before .args .h .width) _ _ _ _ (c .before .before .before .before .before .before .before .before .numbers .ensures) (c .before .before .before .before .before .add-view .ensures))
+returns c =
+    let args = c .before .before .before .before .before .before .before .before .before .before .before .before .before .before .before .before .before .before .before .args in (
+      ap (λ (k : ℕ). args .row + k) (c .rows-of .ensures ∙ rows-is (c .before .before .before .before .before .before .before .before .before .before .before .before .before .before .before .before .before .before .before .pre .1)),
+      view-read (args .z) (args .f) (args .layout) (args .row) (args .h .prior) (keysAt (args .keys .now) (args .h)) (args .h .rows) (args .h .width) _ _ _ _ (c .before .before .before .before .before .before .before .before .numbers .ensures) (c .before .before .before .before .before .add-view .ensures),
+    )
 
 pub add-slot-spec : {M : Type 1} → statement M
 add-slot-spec =

@@ -35,7 +35,12 @@ head-at-requires : tie.Need-head-at-requires Inv-loop μ-loop
 head-at-requires c κs = c .before .before .before .before .before .before .before .before .before .before .pre .1 .0 .headed (c .before .before .loop .i) (omega (arith, c .before .loop-test .taken, c .before .before .loop .inv .1))
 
 add-slot-requires : tie.Need-add-slot-requires Inv-loop μ-loop
-add-slot-requires c κs = (relaid (c .before .before .before .before .before .before .before .before .before .before .before .before .before .args .f) (c .before .before .before .before .before .loop .inv .2) (c .before .before .before .before .before .before .before .before .before .before .before .before .before .pre .0), re-ready (c .before .before .before .before .before .loop .inv .4) (c .before .before .before .before .before .loop .inv .3) (c .before .before .head-at .ensures) (c .before .before .before .before .before .before .before .before .before .before .before .before .before .pre .1 .1 (c .before .before .before .before .before .loop .i) (omega (arith, c .before .before .before .before .loop-test .taken, c .before .before .before .before .before .loop .inv .1))))
+add-slot-requires c κs =
+    let pre = c .before .before .before .before .before .before .before .before .before .before .before .before .before .pre in
+    let loop = c .before .before .before .before .before .loop in (
+      relaid (c .before .before .before .before .before .before .before .before .before .before .before .before .before .args .f) (loop .inv .2) (pre .0),
+      re-ready (loop .inv .4) (loop .inv .3) (c .before .before .head-at .ensures) (pre .1 .1 (loop .i) (omega (arith, c .before .before .before .before .loop-test .taken, loop .inv .1))),
+    )
 
 add-i : tie.Need-add-i Inv-loop μ-loop
 add-i c = omega (arith, c .before .before .before .before .before .before .before .before .before .loop-test .taken, c .before .before .before .before .before .before .before .before .before .before .loop .inv .1, c .before .before .before .before .before .before .before .before .before .before .before .before .before .before .before .before .before .before .pre .1 .0 .few)
@@ -44,7 +49,18 @@ loop-less : tie.Need-loop-less Inv-loop μ-loop
 loop-less c = omega arith
 
 loop-again : tie.Need-loop-again Inv-loop μ-loop
-loop-again c = (omega (arith, c .before .before .before .before .before .before .before .before .before .loop-test .taken), omega (arith, c .before .before .before .before .before .before .before .before .before .before .loop .inv .1), c .before .before .before .before .add-slot .kept .0 ∙ c .before .before .before .before .before .before .before .before .before .before .loop .inv .2, c .before .before .before .before .add-slot .kept .1 .0 ∙ c .before .before .before .before .before .before .before .before .before .before .loop .inv .3, rows-more (c .before .before .before .before .before .before .before .before .before .before .before .before .before .before .before .before .before .before .args .layout) (c .before .before .before .before .before .before .before .before .before .before .before .before .before .before .before .before .before .before .args .factors .now) (c .before .before .before .before .before .before .before .before .before .before .before .before .before .before .before .before .before .before .args .messages .now) (c .before .before .before .before .before .before .before .before .before .before .before .before .before .before .before .before .before .before .args .keys .now) (c .before .before .before .before .before .before .before .before .before .before .before .before .before .before .before .before .before .before .args .heads .now) (c .before .before .before .before .before .before .before .before .before .before .before .before .before .before .before .before .before .before .args .slots .now) (c .before .before .before .before .before .before .before .before .before .before .loop .i) _ _ (c .before .before .before .before .before .before .before .head-at .ensures) (c .before .before .before .before .before .before .before .before .before .before .loop .inv .4) _ (c .before .before .before .before .add-slot .ensures .0), views-more (c .before .before .before .before .before .before .before .before .before .before .before .before .before .before .before .before .before .before .args .layout) (c .before .before .before .before .before .before .before .before .before .before .before .before .before .before .before .before .before .before .args .factors .now) (c .before .before .before .before .before .before .before .before .before .before .before .before .before .before .before .before .before .before .args .messages .now) (c .before .before .before .before .before .before .before .before .before .before .before .before .before .before .before .before .before .before .args .keys .now) (c .before .before .before .before .before .before .before .before .before .before .before .before .before .before .before .before .before .before .args .heads .now) (c .before .before .before .before .before .before .before .before .before .before .before .before .before .before .before .before .before .before .args .slots .now) (c .before .before .before .before .before .before .before .before .before .before .loop .i) _ _ (c .before .before .before .before .before .before .before .head-at .ensures) (c .before .before .before .before .before .before .before .before .before .before .loop .inv .4) (c .before .before .before .before .before .before .before .before .before .before .before .before .before .before .before .before .before .before .args .z) (c .before .before .before .before .before .before .before .before .before .before .before .before .before .before .before .before .before .before .args .f) _ _ _ (c .before .before .before .before .before .before .before .before .before .before .loop .inv .5) (c .before .before .before .before .add-slot .ensures .1))
+loop-again c =
+    let args = c .before .before .before .before .before .before .before .before .before .before .before .before .before .before .before .before .before .before .args in
+    let loop = c .before .before .before .before .before .before .before .before .before .before .loop in
+    let head-at = c .before .before .before .before .before .before .before .head-at in
+    let add-slot = c .before .before .before .before .add-slot in (
+      omega (arith, c .before .before .before .before .before .before .before .before .before .loop-test .taken),
+      omega (arith, loop .inv .1),
+      add-slot .kept .0 ∙ loop .inv .2,
+      add-slot .kept .1 .0 ∙ loop .inv .3,
+      rows-more (args .layout) (args .factors .now) (args .messages .now) (args .keys .now) (args .heads .now) (args .slots .now) (loop .i) _ _ (head-at .ensures) (loop .inv .4) _ (add-slot .ensures .0),
+      views-more (args .layout) (args .factors .now) (args .messages .now) (args .keys .now) (args .heads .now) (args .slots .now) (loop .i) _ _ (head-at .ensures) (loop .inv .4) (args .z) (args .f) _ _ _ (loop .inv .5) (add-slot .ensures .1),
+    )
 
 same-length : tie.Need-same-length Inv-loop μ-loop
 same-length c = search needs
@@ -53,7 +69,9 @@ same-length-2 : tie.Need-same-length-2 Inv-loop μ-loop
 same-length-2 c = search needs
 
 returns : tie.Need-returns Inv-loop μ-loop
-returns c = let e : c .before .loop .i ≡ length (c .before .before .before .before .before .before .before .before .before .args .slots .now) = omega (arith, c .before .loop .inv .1) in rw (← e) (c .before .loop .inv .5)
+returns c =
+    let e : c .before .loop .i ≡ length (c .before .before .before .before .before .before .before .before .before .args .slots .now) = omega (arith, c .before .loop .inv .1) in
+    rw (← e) (c .before .loop .inv .5)
 
 pub add-slots-spec : {M : Type 1} → statement M
 add-slots-spec =

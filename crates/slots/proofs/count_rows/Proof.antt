@@ -31,7 +31,11 @@ rows-of-requires : tie.Need-rows-of-requires Inv-loop μ-loop
 rows-of-requires c κs = rw (c .head-at .ensures) (c .before .before .before .before .before .before .before .pre .counted (c .before .before .before .loop .i) (omega (arith, c .before .before .loop-test .taken, c .before .before .before .loop .inv .1)) .of-prior)
 
 add-rows : tie.Need-add-rows Inv-loop μ-loop
-add-rows c = omega (arith, c .before .before .before .loop-test .taken, c .before .before .before .before .loop .inv .1, c .before .before .before .before .loop .inv .3, c .before .before .before .before .before .before .before .before .pre .few, c .rows-of .ensures, rows-bound (c .before .before .before .before .before .before .before .before .args .layout) (c .before .before .before .before .before .before .before .before .args .keys .now) (c .before .head-at .result) (rw (c .before .head-at .ensures) (c .before .before .before .before .before .before .before .before .pre .counted (c .before .before .before .before .loop .i) (omega (arith, c .before .before .before .loop-test .taken, c .before .before .before .before .loop .inv .1)) .rows)))
+add-rows c =
+    let args = c .before .before .before .before .before .before .before .before .args in
+    let pre = c .before .before .before .before .before .before .before .before .pre in
+    let loop = c .before .before .before .before .loop in
+    omega (arith, c .before .before .before .loop-test .taken, loop .inv .1, loop .inv .3, pre .few, c .rows-of .ensures, rows-bound (args .layout) (args .keys .now) (c .before .head-at .result) (rw (c .before .head-at .ensures) (pre .counted (loop .i) (omega (arith, c .before .before .before .loop-test .taken, loop .inv .1)) .rows)))
 
 add-i : tie.Need-add-i Inv-loop μ-loop
 add-i c = omega (arith, c .before .before .before .loop-test .taken, c .before .before .before .before .loop .inv .1, c .before .before .before .before .before .before .before .before .pre .few)
@@ -40,10 +44,19 @@ loop-less : tie.Need-loop-less Inv-loop μ-loop
 loop-less c = omega arith
 
 loop-again : tie.Need-loop-again Inv-loop μ-loop
-loop-again c = (omega (arith, c .before .before .before .loop-test .taken), omega (arith, c .before .before .before .before .loop .inv .1), count-more (c .before .before .before .before .before .before .before .before .args .layout) (c .before .before .before .before .before .before .before .before .args .keys .now) (c .before .before .before .before .before .before .before .before .args .heads .now) (c .before .before .before .before .before .before .before .before .args .slots .now) (c .before .before .before .before .loop .i) _ _ _ (c .before .before .before .before .loop .inv .2) (c .before .head-at .ensures) (c .rows-of .ensures), omega (arith, c .before .before .before .before .loop .inv .3, c .rows-of .ensures, rows-bound (c .before .before .before .before .before .before .before .before .args .layout) (c .before .before .before .before .before .before .before .before .args .keys .now) (c .before .head-at .result) (rw (c .before .head-at .ensures) (c .before .before .before .before .before .before .before .before .pre .counted (c .before .before .before .before .loop .i) (omega (arith, c .before .before .before .loop-test .taken, c .before .before .before .before .loop .inv .1)) .rows))))
+loop-again c =
+    let args = c .before .before .before .before .before .before .before .before .args in
+    let loop = c .before .before .before .before .loop in (
+      omega (arith, c .before .before .before .loop-test .taken),
+      omega (arith, loop .inv .1),
+      count-more (args .layout) (args .keys .now) (args .heads .now) (args .slots .now) (loop .i) _ _ _ (loop .inv .2) (c .before .head-at .ensures) (c .rows-of .ensures),
+      omega (arith, loop .inv .3, c .rows-of .ensures, rows-bound (args .layout) (args .keys .now) (c .before .head-at .result) (rw (c .before .head-at .ensures) (c .before .before .before .before .before .before .before .before .pre .counted (loop .i) (omega (arith, c .before .before .before .loop-test .taken, loop .inv .1)) .rows))),
+    )
 
 returns : tie.Need-returns Inv-loop μ-loop
-returns c = let e : c .before .loop .i ≡ length (c .before .before .before .before .before .args .slots .now) = omega (arith, c .before .loop .inv .1) in rw (← e) (c .before .loop .inv .2)
+returns c =
+    let e : c .before .loop .i ≡ length (c .before .before .before .before .before .args .slots .now) = omega (arith, c .before .loop .inv .1) in
+    rw (← e) (c .before .loop .inv .2)
 
 pub count-rows-spec : {M : Type 1} → statement M
 count-rows-spec =

@@ -40,7 +40,10 @@ loop-less : tie.Need-loop-less Inv-loop μ-loop
 loop-less c = omega arith
 
 loop-again : tie.Need-loop-again Inv-loop μ-loop
-loop-again c = (omega arith, filled _ _ _ _ _ (c .before .before .loop-test .taken) (c .before .before .before .loop .inv .1) refl (c .touched-by .ensures .0) (c .touched-by .ensures .1))
+loop-again c = (
+  omega arith,
+  filled _ _ _ _ _ (c .before .before .loop-test .taken) (c .before .before .before .loop .inv .1) refl (c .touched-by .ensures .0) (c .touched-by .ensures .1),
+)
 
 returns : tie.Need-returns Inv-loop μ-loop
 returns c =

@@ -12,7 +12,7 @@ deciding-requires : tie.Need-deciding-requires
 deciding-requires c κs = search needs
 
 expect-requires : tie.Need-expect-requires
-expect-requires c κs = le-leb (c .deciding .result) 32768 (omega (arith, c .deciding .ensures .0))
+expect-requires c κs = le-leb (c .deciding .result) _ (omega (arith, c .deciding .ensures .0))
 
 slice-aggregate-read-full : tie.Need-slice-aggregate-read-full
 slice-aggregate-read-full c = search needs

@@ -28,13 +28,23 @@ element-copy-out-f : tie.Need-element-copy-out-f Inv-loop μ-loop
 element-copy-out-f c = omega (arith, valid-count (c .before .before .before .before .before .args .t1) (c .before .before .before .before .before .pre .0))
 
 put-original-requires : tie.Need-put-original-requires Inv-loop μ-loop
-put-original-requires c κs = ((omega (arith, c .before .before .before .before .loop .inv .1, valid-count (c .before .before .before .before .before .before .before .before .args .t1) (c .before .before .before .before .before .before .before .before .pre .0)), valid-touched (c .before .before .before .before .before .before .before .before .args .t1) (c .before .before .before .before .before .before .before .before .pre .0) (c .before .before .before .before .loop .number) (omega (arith, c .before .before .before .before .loop .inv .1))), (omega (arith, c .before .before .before .before .loop .inv .5, c .before .before .before .before .before .before .before .before .pre .1 .0), omega (arith, c .before .before .before .before .loop .inv .6, c .before .before .before .before .before .before .before .before .pre .1 .1)))
+put-original-requires c κs =
+    let args = c .before .before .before .before .before .before .before .before .args in
+    let pre = c .before .before .before .before .before .before .before .before .pre in
+    let loop = c .before .before .before .before .loop in (
+      (omega (arith, loop .inv .1, valid-count (args .t1) (pre .0)), valid-touched (args .t1) (pre .0) (loop .number) (omega (arith, loop .inv .1))),
+      (omega (arith, loop .inv .5, pre .1 .0), omega (arith, loop .inv .6, pre .1 .1)),
+    )
 
 numbers-requires : tie.Need-numbers-requires Inv-loop μ-loop
-numbers-requires c κs = valid-touched (c .before .before .before .before .before .before .before .before .before .before .before .before .before .args .t1) (c .before .before .before .before .before .before .before .before .before .before .before .before .before .pre .0) (c .before .before .before .before .before .before .before .before .before .loop .number) (omega (arith, c .before .before .before .before .before .before .before .before .before .loop .inv .1))
+numbers-requires c κs =
+    let loop = c .before .before .before .before .before .before .before .before .before .loop in
+    valid-touched (c .before .before .before .before .before .before .before .before .before .before .before .before .before .args .t1) (c .before .before .before .before .before .before .before .before .before .before .before .before .before .pre .0) (loop .number) (omega (arith, loop .inv .1))
 
 add-at : tie.Need-add-at Inv-loop μ-loop
-add-at c = omega (arith, c .numbers .ensures .1, c .before .before .before .before .before .before .before .before .before .before .loop .inv .3, c .before .before .before .before .before .before .before .before .before .before .loop .inv .1, valid-count (c .before .before .before .before .before .before .before .before .before .before .before .before .before .before .args .t1) (c .before .before .before .before .before .before .before .before .before .before .before .before .before .before .pre .0))
+add-at c =
+    let loop = c .before .before .before .before .before .before .before .before .before .before .loop in
+    omega (arith, c .numbers .ensures .1, loop .inv .3, loop .inv .1, valid-count (c .before .before .before .before .before .before .before .before .before .before .before .before .before .before .args .t1) (c .before .before .before .before .before .before .before .before .before .before .before .before .before .before .pre .0))
 
 add-number : tie.Need-add-number Inv-loop μ-loop
 add-number c = search needs
@@ -43,7 +53,20 @@ loop-less : tie.Need-loop-less Inv-loop μ-loop
 loop-less c = search needs
 
 loop-again : tie.Need-loop-again Inv-loop μ-loop
-loop-again c = (omega arith, c .before .before .before .before .before .before .before .before .before .before .loop .inv .1, c .before .before .before .before .before .before .before .before .before .before .loop .inv .2, omega (arith, c .numbers .ensures .1, c .before .before .before .before .before .before .before .before .before .before .loop .inv .3), next-offset (c .before .before .before .before .before .before .before .before .before .before .before .before .before .before .args .t1) (c .before .before .before .before .before .before .before .before .before .before .loop .number) (c .before .before .before .before .before .before .before .before .before .before .loop .at) _ (factorAt (c .before .before .before .before .before .before .before .before .before .before .before .before .before .before .args .t1) (c .before .before .before .before .before .before .before .before .before .before .loop .number)) refl (c .before .before .before .before .before .before .before .before .before .before .loop .inv .4) (c .numbers .ensures .0), c .before .before .before .before .before .put-original .kept .1 .1 .1 .1 .0 ∙ c .before .before .before .before .before .before .before .before .before .before .loop .inv .5, c .before .before .before .before .before .put-original .kept .1 .1 .1 .1 .1 .0 ∙ c .before .before .before .before .before .before .before .before .before .before .loop .inv .6, entered-more (c .before .before .before .before .before .before .before .before .before .before .before .before .before .before .args .t1) (c .before .before .before .before .before .before .before .before .before .before .before .before .before .before .pre .0) (c .before .before .before .before .before .before .before .before .before .before .loop .keys) (c .before .before .before .before .before .before .before .before .before .before .loop .heads) (omega (arith, c .before .before .before .before .before .before .before .before .before .before .loop .inv .5, c .before .before .before .before .before .before .before .before .before .before .before .before .before .before .pre .1 .0)) (omega (arith, c .before .before .before .before .before .before .before .before .before .before .loop .inv .6, c .before .before .before .before .before .before .before .before .before .before .before .before .before .before .pre .1 .1)) (c .before .before .before .before .before .before .before .before .before .before .loop .number) (c .before .before .before .before .before .before .before .before .before .before .loop .at) (factorAt (c .before .before .before .before .before .before .before .before .before .before .before .before .before .before .args .t1) (c .before .before .before .before .before .before .before .before .before .before .loop .number)) _ _ (omega (arith, c .before .before .before .before .before .before .before .before .before .before .loop .inv .1)) (c .before .before .before .before .before .before .before .before .before .before .loop .inv .4) refl (c .before .before .before .before .before .put-original .ensures .0) (c .before .before .before .before .before .put-original .ensures .1) (c .before .before .before .before .before .before .before .before .before .before .loop .inv .7))
+loop-again c =
+    let args = c .before .before .before .before .before .before .before .before .before .before .before .before .before .before .args in
+    let pre = c .before .before .before .before .before .before .before .before .before .before .before .before .before .before .pre in
+    let loop = c .before .before .before .before .before .before .before .before .before .before .loop in
+    let put-original = c .before .before .before .before .before .put-original in (
+      omega arith,
+      loop .inv .1,
+      loop .inv .2,
+      omega (arith, c .numbers .ensures .1, loop .inv .3),
+      next-offset (args .t1) (loop .number) (loop .at) _ (factorAt (args .t1) (loop .number)) refl (loop .inv .4) (c .numbers .ensures .0),
+      put-original .kept .1 .1 .1 .1 .0 ∙ loop .inv .5,
+      put-original .kept .1 .1 .1 .1 .1 .0 ∙ loop .inv .6,
+      entered-more (args .t1) (pre .0) (loop .keys) (loop .heads) (omega (arith, loop .inv .5, pre .1 .0)) (omega (arith, loop .inv .6, pre .1 .1)) (loop .number) (loop .at) (factorAt (args .t1) (loop .number)) _ _ (omega (arith, loop .inv .1)) (loop .inv .4) refl (put-original .ensures .0) (put-original .ensures .1) (loop .inv .7),
+    )
 
 same-length : tie.Need-same-length Inv-loop μ-loop
 same-length c = c .before .loop .inv .5

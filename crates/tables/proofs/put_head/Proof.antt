@@ -71,7 +71,9 @@ same-length c = search needs
 
 returns : tie.Need-returns
 unfolding withHead
-returns c = rw (← c .mark .ensures) (six-laid (c .before .before .args .heads .now) (head-numbers * c .before .before .args .number) _ (c .before .before .args .at) (c .before .before .args .rows) (c .before .before .args .width) (c .before .before .args .first) (c .before .before .args .count) (omega arith))
+returns c =
+    let args = c .before .before .args in
+    rw (← c .mark .ensures) (six-laid (args .heads .now) (head-numbers * args .number) _ (args .at) (args .rows) (args .width) (args .first) (args .count) (omega arith))
 
 pub put-head-spec : {M : Type 1} → statement M
 put-head-spec =

@@ -41,13 +41,24 @@ loop-less : tie.Need-loop-less Inv-loop μ-loop
 loop-less c = search needs
 
 loop-again : tie.Need-loop-again Inv-loop μ-loop
-loop-again c = (omega arith, copy-more (c .before .before .before .before .before .args .keys .now) (c .before .before .before .loop .keys) (c .before .before .before .before .before .args .first) (c .before .before .before .before .before .args .t3 .keys) (c .before .before .before .loop .place) _ (c .before .before .before .loop .inv .1) (c .wide .ensures) (omega arith) (omega arith), simp length-set (c .before .before .before .loop .inv .2), c .before .before .before .loop .inv .3)
+loop-again c =
+    let args = c .before .before .before .before .before .args in
+    let loop = c .before .before .before .loop in (
+      omega arith,
+      copy-more (args .keys .now) (loop .keys) (args .first) (args .t3 .keys) (loop .place) _ (loop .inv .1) (c .wide .ensures) (omega arith) (omega arith),
+      simp length-set (loop .inv .2),
+      loop .inv .3,
+    )
 
 same-length : tie.Need-same-length Inv-loop μ-loop
 same-length c = c .before .loop .inv .2
 
 returns : tie.Need-returns Inv-loop μ-loop
-returns c = (copy-done (c .before .before .before .args .keys .now) (c .before .loop .keys) (c .before .before .before .args .first) (c .before .before .before .args .t3 .keys) (c .before .loop .place) (c .before .loop .inv .1) (omega arith), c .before .loop .inv .3)
+returns c =
+    let args = c .before .before .before .args in (
+      copy-done (args .keys .now) (c .before .loop .keys) (args .first) (args .t3 .keys) (c .before .loop .place) (c .before .loop .inv .1) (omega arith),
+      c .before .loop .inv .3,
+    )
 
 pub put-keys-spec : {M : Type 1} → statement M
 put-keys-spec =

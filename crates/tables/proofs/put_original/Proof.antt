@@ -28,7 +28,10 @@ same-length-2 : tie.Need-same-length-2
 same-length-2 c = search needs
 
 returns : tie.Need-returns
-returns c = (c .before .before .before .before .before .before .before .before .before .put-keys .ensures, rw (← c .before .before .before .before .width-of .ensures, ← c .before .before .before .before .before .wide .ensures, ← c .before .before .before .wide2 .ensures) (c .before .before .put-head .ensures))
+returns c = (
+  c .before .before .before .before .before .before .before .before .before .put-keys .ensures,
+  rw (← c .before .before .before .before .width-of .ensures, ← c .before .before .before .before .before .wide .ensures, ← c .before .before .before .wide2 .ensures) (c .before .before .put-head .ensures),
+)
 
 pub put-original-spec : {M : Type 1} → statement M
 put-original-spec =

@@ -10,19 +10,33 @@ mul-numbers : tie.Need-mul-numbers
 mul-numbers c = omega (arith, mul-le-mul (c .before .before .before .before .before .pre .0 .1) (c .before .before .before .before .before .pre .0 .1))
 
 numbers-requires : tie.Need-numbers-requires
-numbers-requires c κs = (omega arith, omega (arith, mul-le-mul (c .before .before .before .before .before .pre .0 .1) (c .before .before .before .before .before .pre .0 .1), c .before .before .before .before .before .pre .1 .0, c .before .before .before .before .before .pre .1 .1, c .before .before .before .before .before .pre .1 .2), omega (arith, mul-le-mul (c .before .before .before .before .before .pre .0 .1) (c .before .before .before .before .before .pre .0 .1), c .before .before .before .before .before .pre .1 .0, c .before .before .before .before .before .pre .1 .1, c .before .before .before .before .before .pre .1 .2))
+numbers-requires c κs =
+    let pre = c .before .before .before .before .before .pre in (
+      omega arith,
+      omega (arith, mul-le-mul (pre .0 .1) (pre .0 .1), pre .1 .0, pre .1 .1, pre .1 .2),
+      omega (arith, mul-le-mul (pre .0 .1) (pre .0 .1), pre .1 .0, pre .1 .1, pre .1 .2),
+    )
 
 mul-numbers-2 : tie.Need-mul-numbers-2
-mul-numbers-2 c = omega (arith, mul-le-mul (c .before .before .before .before .before .before .before .before .pre .0 .1) (c .before .before .before .before .before .before .before .before .pre .0 .1))
+mul-numbers-2 c =
+    let pre = c .before .before .before .before .before .before .before .before .pre in
+    omega (arith, mul-le-mul (pre .0 .1) (pre .0 .1))
 
 add-numbers : tie.Need-add-numbers
-add-numbers c = omega (arith, mul-le-mul (c .before .before .before .before .before .before .before .before .pre .0 .1) (c .before .before .before .before .before .before .before .before .pre .0 .1))
+add-numbers c = let pre = c .before .before .before .before .before .before .before .before .pre in omega (arith, mul-le-mul (pre .0 .1) (pre .0 .1))
 
 numbers-requires-2 : tie.Need-numbers-requires-2
-numbers-requires-2 c κs = (omega (arith, mul-le-mul (c .before .before .before .before .before .before .before .before .before .pre .0 .1) (c .before .before .before .before .before .before .before .before .before .pre .0 .1), c .before .before .before .before .before .before .before .before .before .pre .1 .0, c .before .before .before .before .before .before .before .before .before .pre .1 .1, c .before .before .before .before .before .before .before .before .before .pre .1 .2), omega arith, omega (arith, mul-le-mul (c .before .before .before .before .before .before .before .before .before .pre .0 .1) (c .before .before .before .before .before .before .before .before .before .pre .0 .1), c .before .before .before .before .before .before .before .before .before .pre .1 .0, c .before .before .before .before .before .before .before .before .before .pre .1 .1, c .before .before .before .before .before .before .before .before .before .pre .1 .2))
+numbers-requires-2 c κs =
+    let pre = c .before .before .before .before .before .before .before .before .before .pre in (
+      omega (arith, mul-le-mul (pre .0 .1) (pre .0 .1), pre .1 .0, pre .1 .1, pre .1 .2),
+      omega arith,
+      omega (arith, mul-le-mul (pre .0 .1) (pre .0 .1), pre .1 .0, pre .1 .1, pre .1 .2),
+    )
 
 cholesky-requires : tie.Need-cholesky-requires
-cholesky-requires c κs = dense _ _ _ (omega (arith, c .before .before .before .before .before .before .before .numbers .kept .1 .1 .0, mul-le-mul (c .before .before .before .before .before .before .before .before .before .before .before .before .before .pre .0 .1) (c .before .before .before .before .before .before .before .before .before .before .before .before .before .pre .0 .1), c .before .before .before .before .before .before .before .before .before .before .before .before .before .pre .1 .0, c .before .before .before .before .before .before .before .before .before .before .before .before .before .pre .1 .1, c .before .before .before .before .before .before .before .before .before .before .before .before .before .pre .1 .2))
+cholesky-requires c κs =
+    let pre = c .before .before .before .before .before .before .before .before .before .before .before .before .before .pre in
+    dense _ _ _ (omega (arith, c .before .before .before .before .before .before .before .numbers .kept .1 .1 .0, mul-le-mul (pre .0 .1) (pre .0 .1), pre .1 .0, pre .1 .1, pre .1 .2))
 
 enum-told : tie.Need-enum-told
 enum-told c = search needs
@@ -43,25 +57,43 @@ write-all-requires-2 : tie.Need-write-all-requires-2
 write-all-requires-2 c κs = search needs
 
 solve-requires : tie.Need-solve-requires
-solve-requires c κs = (dense _ _ _ (omega (arith, c .before .before .before .before .before .before .before .before .cholesky .kept .0, c .before .before .before .before .before .before .before .before .before .before .before .before .before .before .before .before .numbers .kept .1 .1 .0, mul-le-mul (c .before .before .before .before .before .before .before .before .before .before .before .before .before .before .before .before .before .before .before .before .before .before .pre .0 .1) (c .before .before .before .before .before .before .before .before .before .before .before .before .before .before .before .before .before .before .before .before .before .before .pre .0 .1), c .before .before .before .before .before .before .before .before .before .before .before .before .before .before .before .before .before .before .before .before .before .before .pre .1 .0, c .before .before .before .before .before .before .before .before .before .before .before .before .before .before .before .before .before .before .before .before .before .before .pre .1 .1, c .before .before .before .before .before .before .before .before .before .before .before .before .before .before .before .before .before .before .before .before .before .before .pre .1 .2)), λ i h. omega (arith, c .before .before .before .before .before .before .before .before .before .before .before .before .numbers2 .kept .1 .1 .0, mul-le-mul (c .before .before .before .before .before .before .before .before .before .before .before .before .before .before .before .before .before .before .before .before .before .before .pre .0 .1) (c .before .before .before .before .before .before .before .before .before .before .before .before .before .before .before .before .before .before .before .before .before .before .pre .0 .1), c .before .before .before .before .before .before .before .before .before .before .before .before .before .before .before .before .before .before .before .before .before .before .pre .1 .0, c .before .before .before .before .before .before .before .before .before .before .before .before .before .before .before .before .before .before .before .before .before .before .pre .1 .1, c .before .before .before .before .before .before .before .before .before .before .before .before .before .before .before .before .before .before .before .before .before .before .pre .1 .2))
+solve-requires c κs =
+    let pre = c .before .before .before .before .before .before .before .before .before .before .before .before .before .before .before .before .before .before .before .before .before .before .pre in (
+      dense _ _ _ (omega (arith, c .before .before .before .before .before .before .before .before .cholesky .kept .0, c .before .before .before .before .before .before .before .before .before .before .before .before .before .before .before .before .numbers .kept .1 .1 .0, mul-le-mul (pre .0 .1) (pre .0 .1), pre .1 .0, pre .1 .1, pre .1 .2)),
+      λ i h. omega (arith, c .before .before .before .before .before .before .before .before .before .before .before .before .numbers2 .kept .1 .1 .0, mul-le-mul (pre .0 .1) (pre .0 .1), pre .1 .0, pre .1 .1, pre .1 .2),
+    )
 
 inverse-requires : tie.Need-inverse-requires
-inverse-requires c κs = (dense _ _ _ (omega (arith, c .before .before .before .before .before .before .before .before .before .before .before .before .before .cholesky .kept .0, c .before .before .before .before .before .before .before .before .before .before .before .before .before .before .before .before .before .before .before .before .before .numbers .kept .1 .1 .0, mul-le-mul (c .before .before .before .before .before .before .before .before .before .before .before .before .before .before .before .before .before .before .before .before .before .before .before .before .before .before .before .pre .0 .1) (c .before .before .before .before .before .before .before .before .before .before .before .before .before .before .before .before .before .before .before .before .before .before .before .before .before .before .before .pre .0 .1), c .before .before .before .before .before .before .before .before .before .before .before .before .before .before .before .before .before .before .before .before .before .before .before .before .before .before .before .pre .1 .0, c .before .before .before .before .before .before .before .before .before .before .before .before .before .before .before .before .before .before .before .before .before .before .before .before .before .before .before .pre .1 .1, c .before .before .before .before .before .before .before .before .before .before .before .before .before .before .before .before .before .before .before .before .before .before .before .before .before .before .before .pre .1 .2)), dense _ _ _ (omega (arith, mul-le-mul (c .before .before .before .before .before .before .before .before .before .before .before .before .before .before .before .before .before .before .before .before .before .before .before .before .before .before .before .pre .0 .1) (c .before .before .before .before .before .before .before .before .before .before .before .before .before .before .before .before .before .before .before .before .before .before .before .before .before .before .before .pre .0 .1), c .before .before .before .before .before .before .before .before .before .before .before .before .before .before .before .before .before .before .before .before .before .before .before .before .before .before .before .pre .1 .0, c .before .before .before .before .before .before .before .before .before .before .before .before .before .before .before .before .before .before .before .before .before .before .before .before .before .before .before .pre .1 .1, c .before .before .before .before .before .before .before .before .before .before .before .before .before .before .before .before .before .before .before .before .before .before .before .before .before .before .before .pre .1 .2)))
+inverse-requires c κs =
+    let pre = c .before .before .before .before .before .before .before .before .before .before .before .before .before .before .before .before .before .before .before .before .before .before .before .before .before .before .before .pre in (
+      dense _ _ _ (omega (arith, c .before .before .before .before .before .before .before .before .before .before .before .before .before .cholesky .kept .0, c .before .before .before .before .before .before .before .before .before .before .before .before .before .before .before .before .before .before .before .before .before .numbers .kept .1 .1 .0, mul-le-mul (pre .0 .1) (pre .0 .1), pre .1 .0, pre .1 .1, pre .1 .2)),
+      dense _ _ _ (omega (arith, mul-le-mul (pre .0 .1) (pre .0 .1), pre .1 .0, pre .1 .1, pre .1 .2)),
+    )
 
 mul-print-all : tie.Need-mul-print-all
-mul-print-all c = omega (arith, mul-le-mul (c .before .before .before .before .before .before .before .before .before .before .before .before .before .before .before .before .before .before .before .before .before .before .before .before .before .before .before .before .before .before .before .pre .0 .1) (c .before .before .before .before .before .before .before .before .before .before .before .before .before .before .before .before .before .before .before .before .before .before .before .before .before .before .before .before .before .before .before .pre .0 .1))
+mul-print-all c =
+    let pre = c .before .before .before .before .before .before .before .before .before .before .before .before .before .before .before .before .before .before .before .before .before .before .before .before .before .before .before .before .before .before .before .pre in
+    omega (arith, mul-le-mul (pre .0 .1) (pre .0 .1))
 
 print-all-requires : tie.Need-print-all-requires
-print-all-requires c κs = omega (arith, c .before .before .before .before .before .before .before .before .before .before .before .before .before .before .before .before .before .cholesky .kept .0, c .before .before .before .before .before .before .before .before .before .before .before .before .before .before .before .before .before .before .before .before .before .before .before .before .before .numbers .kept .1 .1 .0, mul-le-mul (c .before .before .before .before .before .before .before .before .before .before .before .before .before .before .before .before .before .before .before .before .before .before .before .before .before .before .before .before .before .before .before .pre .0 .1) (c .before .before .before .before .before .before .before .before .before .before .before .before .before .before .before .before .before .before .before .before .before .before .before .before .before .before .before .before .before .before .before .pre .0 .1), c .before .before .before .before .before .before .before .before .before .before .before .before .before .before .before .before .before .before .before .before .before .before .before .before .before .before .before .before .before .before .before .pre .1 .0, c .before .before .before .before .before .before .before .before .before .before .before .before .before .before .before .before .before .before .before .before .before .before .before .before .before .before .before .before .before .before .before .pre .1 .1, c .before .before .before .before .before .before .before .before .before .before .before .before .before .before .before .before .before .before .before .before .before .before .before .before .before .before .before .before .before .before .before .pre .1 .2)
+print-all-requires c κs =
+    let pre = c .before .before .before .before .before .before .before .before .before .before .before .before .before .before .before .before .before .before .before .before .before .before .before .before .before .before .before .before .before .before .before .pre in
+    omega (arith, c .before .before .before .before .before .before .before .before .before .before .before .before .before .before .before .before .before .cholesky .kept .0, c .before .before .before .before .before .before .before .before .before .before .before .before .before .before .before .before .before .before .before .before .before .before .before .before .before .numbers .kept .1 .1 .0, mul-le-mul (pre .0 .1) (pre .0 .1), pre .1 .0, pre .1 .1, pre .1 .2)
 
 print-all-requires-2 : tie.Need-print-all-requires-2
-print-all-requires-2 c κs = omega (arith, c .before .before .before .before .before .before .before .before .before .before .before .before .before .before .before .before .before .before .before .before .before .before .before .before .before .before .before .before .before .before .before .before .before .pre .0 .1, c .before .before .before .before .before .before .before .before .before .before .solve .kept .1 .1 .1 .0, c .before .before .before .before .before .before .before .before .before .before .before .before .before .before .before .before .before .before .before .before .before .before .before .numbers2 .kept .1 .1 .0, mul-le-mul (c .before .before .before .before .before .before .before .before .before .before .before .before .before .before .before .before .before .before .before .before .before .before .before .before .before .before .before .before .before .before .before .before .before .pre .0 .1) (c .before .before .before .before .before .before .before .before .before .before .before .before .before .before .before .before .before .before .before .before .before .before .before .before .before .before .before .before .before .before .before .before .before .pre .0 .1), c .before .before .before .before .before .before .before .before .before .before .before .before .before .before .before .before .before .before .before .before .before .before .before .before .before .before .before .before .before .before .before .before .before .pre .1 .0, c .before .before .before .before .before .before .before .before .before .before .before .before .before .before .before .before .before .before .before .before .before .before .before .before .before .before .before .before .before .before .before .before .before .pre .1 .1, c .before .before .before .before .before .before .before .before .before .before .before .before .before .before .before .before .before .before .before .before .before .before .before .before .before .before .before .before .before .before .before .before .before .pre .1 .2)
+print-all-requires-2 c κs =
+    let pre = c .before .before .before .before .before .before .before .before .before .before .before .before .before .before .before .before .before .before .before .before .before .before .before .before .before .before .before .before .before .before .before .before .before .pre in
+    omega (arith, pre .0 .1, c .before .before .before .before .before .before .before .before .before .before .solve .kept .1 .1 .1 .0, c .before .before .before .before .before .before .before .before .before .before .before .before .before .before .before .before .before .before .before .before .before .before .before .numbers2 .kept .1 .1 .0, mul-le-mul (pre .0 .1) (pre .0 .1), pre .1 .0, pre .1 .1, pre .1 .2)
 
 mul-print-all-2 : tie.Need-mul-print-all-2
-mul-print-all-2 c = omega (arith, mul-le-mul (c .before .before .before .before .before .before .before .before .before .before .before .before .before .before .before .before .before .before .before .before .before .before .before .before .before .before .before .before .before .before .before .before .before .before .before .pre .0 .1) (c .before .before .before .before .before .before .before .before .before .before .before .before .before .before .before .before .before .before .before .before .before .before .before .before .before .before .before .before .before .before .before .before .before .before .before .pre .0 .1))
+mul-print-all-2 c =
+    let pre = c .before .before .before .before .before .before .before .before .before .before .before .before .before .before .before .before .before .before .before .before .before .before .before .before .before .before .before .before .before .before .before .before .before .before .before .pre in
+    omega (arith, mul-le-mul (pre .0 .1) (pre .0 .1))
 
 print-all-requires-3 : tie.Need-print-all-requires-3
-print-all-requires-3 c κs = omega (arith, c .before .before .before .before .before .before .before .inverse .kept .1 .1 .1 .0, mul-le-mul (c .before .before .before .before .before .before .before .before .before .before .before .before .before .before .before .before .before .before .before .before .before .before .before .before .before .before .before .before .before .before .before .before .before .before .before .pre .0 .1) (c .before .before .before .before .before .before .before .before .before .before .before .before .before .before .before .before .before .before .before .before .before .before .before .before .before .before .before .before .before .before .before .before .before .before .before .pre .0 .1), c .before .before .before .before .before .before .before .before .before .before .before .before .before .before .before .before .before .before .before .before .before .before .before .before .before .before .before .before .before .before .before .before .before .before .before .pre .1 .0, c .before .before .before .before .before .before .before .before .before .before .before .before .before .before .before .before .before .before .before .before .before .before .before .before .before .before .before .before .before .before .before .before .before .before .before .pre .1 .1, c .before .before .before .before .before .before .before .before .before .before .before .before .before .before .before .before .before .before .before .before .before .before .before .before .before .before .before .before .before .before .before .before .before .before .before .pre .1 .2)
+print-all-requires-3 c κs =
+    let pre = c .before .before .before .before .before .before .before .before .before .before .before .before .before .before .before .before .before .before .before .before .before .before .before .before .before .before .before .before .before .before .before .before .before .before .before .pre in
+    omega (arith, c .before .before .before .before .before .before .before .inverse .kept .1 .1 .1 .0, mul-le-mul (pre .0 .1) (pre .0 .1), pre .1 .0, pre .1 .1, pre .1 .2)
 
 same-length : tie.Need-same-length
 same-length c = search needs

@@ -37,22 +37,28 @@ factorisation-requires : tie.Need-factorisation-requires Inv-loop μ-loop
 factorisation-requires c κs = ((omega arith, c .before .before .before .least .ensures), (omega arith, omega arith, omega arith))
 
 mul-at : tie.Need-mul-at Inv-loop μ-loop
-mul-at c = omega (arith, mul-le-mul (c .before .before .before .before .before .before .before .least .ensures) (c .before .before .before .before .before .before .before .least .ensures))
+mul-at c = let least = c .before .before .before .before .before .before .before .least in omega (arith, mul-le-mul (least .ensures) (least .ensures))
 
 add-at : tie.Need-add-at Inv-loop μ-loop
-add-at c = omega (arith, mul-le-mul (c .before .before .before .before .before .before .before .least .ensures) (c .before .before .before .before .before .before .before .least .ensures))
+add-at c = let least = c .before .before .before .before .before .before .before .least in omega (arith, mul-le-mul (least .ensures) (least .ensures))
 
 add-at-2 : tie.Need-add-at-2 Inv-loop μ-loop
-add-at-2 c = omega (arith, mul-le-mul (c .before .before .before .before .before .before .before .least .ensures) (c .before .before .before .before .before .before .before .least .ensures))
+add-at-2 c =
+    let least = c .before .before .before .before .before .before .before .least in
+    omega (arith, mul-le-mul (least .ensures) (least .ensures))
 
 add-at-3 : tie.Need-add-at-3 Inv-loop μ-loop
-add-at-3 c = omega (arith, mul-le-mul (c .before .before .before .before .before .before .before .least .ensures) (c .before .before .before .before .before .before .before .least .ensures))
+add-at-3 c =
+    let least = c .before .before .before .before .before .before .before .least in
+    omega (arith, mul-le-mul (least .ensures) (least .ensures))
 
 loop-less : tie.Need-loop-less Inv-loop μ-loop
 loop-less c = omega arith
 
 loop-again : tie.Need-loop-again Inv-loop μ-loop
-loop-again c = omega (arith, mul-le-mul (c .before .before .before .before .before .before .before .least .ensures) (c .before .before .before .before .before .before .before .least .ensures))
+loop-again c =
+    let least = c .before .before .before .before .before .before .before .least in
+    omega (arith, mul-le-mul (least .ensures) (least .ensures))
 
 returns : tie.Need-returns Inv-loop μ-loop
 returns c = search needs

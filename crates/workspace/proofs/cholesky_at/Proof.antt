@@ -28,7 +28,10 @@ same-length : tie.Need-same-length
 same-length c = search needs
 
 returns : tie.Need-returns
-returns c = (c .before .before .cholesky .ensures .0, at-part (c .before .before .before .before .before .args .f) (c .before .before .before .before .before .args .work .now) _ S _ _ _ (c .before .before .before .before .before .pre) refl refl (c .before .before .cholesky .kept .0) (c .before .before .cholesky .ensures .1))
+returns c = (
+  c .before .before .cholesky .ensures .0,
+  at-part (c .before .before .before .before .before .args .f) (c .before .before .before .before .before .args .work .now) _ S _ _ _ (c .before .before .before .before .before .pre) refl refl (c .before .before .cholesky .kept .0) (c .before .before .cholesky .ensures .1),
+)
 
 pub cholesky-at-spec : {M : Type 1} → statement M
 cholesky-at-spec =

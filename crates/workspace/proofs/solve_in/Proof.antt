@@ -22,7 +22,10 @@ unfolding solvedIn sweep
 loop-holds c = (omega arith, refl, refl)
 
 solve-lower-in-requires : tie.Need-solve-lower-in-requires Inv-loop μ-loop
-solve-lower-in-requires c κs = (λ i k hi hk. within (c .before .before .loop .inv .1) (c .before .before .before .before .pre .0 i k hi hk), λ i h. within (c .before .before .loop .inv .1) (c .before .before .before .before .pre .1 i _ h (c .before .loop-test .taken)))
+solve-lower-in-requires c κs = (
+  λ i k hi hk. within (c .before .before .loop .inv .1) (c .before .before .before .before .pre .0 i k hi hk),
+  λ i h. within (c .before .before .loop .inv .1) (c .before .before .before .before .pre .1 i _ h (c .before .loop-test .taken)),
+)
 
 add-j : tie.Need-add-j Inv-loop μ-loop
 add-j c = omega arith

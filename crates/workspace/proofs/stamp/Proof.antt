@@ -22,7 +22,10 @@ unfolding stamp block sweep
 loop-holds c = (omega arith, refl, refl)
 
 stamp-column-requires : tie.Need-stamp-column-requires Inv-loop μ-loop
-stamp-column-requires c κs = (λ i h. within (c .before .before .loop .inv .1) (c .before .before .before .before .before .pre .0 i _ h (c .before .loop-test .taken)), λ i h. c .before .before .before .before .before .pre .1 i _ h (c .before .loop-test .taken))
+stamp-column-requires c κs = (
+  λ i h. within (c .before .before .loop .inv .1) (c .before .before .before .before .before .pre .0 i _ h (c .before .loop-test .taken)),
+  λ i h. c .before .before .before .before .before .pre .1 i _ h (c .before .loop-test .taken),
+)
 
 add-j : tie.Need-add-j Inv-loop μ-loop
 add-j c = omega arith

@@ -22,7 +22,10 @@ unfolding subtractedColumnIn steps
 loop-holds c = (omega arith, refl, refl)
 
 dot-requires : tie.Need-dot-requires Inv-loop μ-loop
-dot-requires c κs = (λ k h. within (c .before .before .loop .inv .1) (c .before .before .before .before .pre .1 .0 _ k (c .before .loop-test .taken) h), λ k h. within (c .before .before .loop .inv .1) (c .before .before .before .before .pre .1 .1 k h))
+dot-requires c κs = (
+  λ k h. within (c .before .before .loop .inv .1) (c .before .before .before .before .pre .1 .0 _ k (c .before .loop-test .taken) h),
+  λ k h. within (c .before .before .loop .inv .1) (c .before .before .before .before .pre .1 .1 k h),
+)
 
 get-requires : tie.Need-get-requires Inv-loop μ-loop
 get-requires c κs = within (c .before .before .before .before .loop .inv .1) (c .before .before .before .before .before .before .pre .0 _ (c .before .before .before .loop-test .taken))

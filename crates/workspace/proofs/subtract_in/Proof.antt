@@ -22,7 +22,11 @@ unfolding subtractedIn sweep
 loop-holds c = (omega arith, refl, refl)
 
 subtract-column-in-requires : tie.Need-subtract-column-in-requires Inv-loop μ-loop
-subtract-column-in-requires c κs = (λ i h. within (c .before .before .loop .inv .1) (c .before .before .before .before .pre .0 i _ h (c .before .loop-test .taken)), (λ i k hi hk. within (c .before .before .loop .inv .1) (c .before .before .before .before .pre .1 .0 i k hi hk), λ k h. within (c .before .before .loop .inv .1) (c .before .before .before .before .pre .1 .1 k _ h (c .before .loop-test .taken))))
+subtract-column-in-requires c κs =
+    let pre = c .before .before .before .before .pre in (
+      λ i h. within (c .before .before .loop .inv .1) (pre .0 i _ h (c .before .loop-test .taken)),
+      (λ i k hi hk. within (c .before .before .loop .inv .1) (pre .1 .0 i k hi hk), λ k h. within (c .before .before .loop .inv .1) (pre .1 .1 k _ h (c .before .loop-test .taken))),
+    )
 
 add-j : tie.Need-add-j Inv-loop μ-loop
 add-j c = omega arith

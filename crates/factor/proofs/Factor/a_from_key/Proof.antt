@@ -56,16 +56,24 @@ wide-requires : tie.Need-wide-requires
 wide-requires c κs = search needs
 
 mul-start : tie.Need-mul-start
-mul-start c = omega (arith, end-fits (c .before .before .before .before .before .before .args .sizes) (c .before .before .before .before .before .before .args .self) (c .before .before .before .before .before .before .args .key) _ _ (c .wide .result) (length (c .before .before .before .before .before .before .args .a .now)) (c .before .before .before .before .find .result) (c .before .before .before .before .find .ensures) (c .before .before .first .given .1) (c .wide .ensures) (c .before .before .before .before .before .before .pre .1))
+mul-start c =
+    let args = c .before .before .before .before .before .before .args in
+    omega (arith, end-fits (args .sizes) (args .self) (args .key) _ _ (c .wide .result) (length (args .a .now)) (c .before .before .before .before .find .result) (c .before .before .before .before .find .ensures) (c .before .before .first .given .1) (c .wide .ensures) (c .before .before .before .before .before .before .pre .1))
 
 mul-end : tie.Need-mul-end
-mul-end c = omega (arith, end-fits (c .before .before .before .before .before .before .args .sizes) (c .before .before .before .before .before .before .args .self) (c .before .before .before .before .before .before .args .key) _ _ (c .wide .result) (length (c .before .before .before .before .before .before .args .a .now)) (c .before .before .before .before .find .result) (c .before .before .before .before .find .ensures) (c .before .before .first .given .1) (c .wide .ensures) (c .before .before .before .before .before .before .pre .1))
+mul-end c =
+    let args = c .before .before .before .before .before .before .args in
+    omega (arith, end-fits (args .sizes) (args .self) (args .key) _ _ (c .wide .result) (length (args .a .now)) (c .before .before .before .before .find .result) (c .before .before .before .before .find .ensures) (c .before .before .first .given .1) (c .wide .ensures) (c .before .before .before .before .before .before .pre .1))
 
 add-end : tie.Need-add-end
-add-end c = omega (arith, end-fits (c .before .before .before .before .before .before .args .sizes) (c .before .before .before .before .before .before .args .self) (c .before .before .before .before .before .before .args .key) _ _ (c .wide .result) (length (c .before .before .before .before .before .before .args .a .now)) (c .before .before .before .before .find .result) (c .before .before .before .before .find .ensures) (c .before .before .first .given .1) (c .wide .ensures) (c .before .before .before .before .before .before .pre .1))
+add-end c =
+    let args = c .before .before .before .before .before .before .args in
+    omega (arith, end-fits (args .sizes) (args .self) (args .key) _ _ (c .wide .result) (length (args .a .now)) (c .before .before .before .before .find .result) (c .before .before .before .before .find .ensures) (c .before .before .first .given .1) (c .wide .ensures) (c .before .before .before .before .before .before .pre .1))
 
 mul-result : tie.Need-mul-result
-mul-result c = omega (arith, end-fits (c .before .before .before .before .before .before .args .sizes) (c .before .before .before .before .before .before .args .self) (c .before .before .before .before .before .before .args .key) _ _ (c .wide .result) (length (c .before .before .before .before .before .before .args .a .now)) (c .before .before .before .before .find .result) (c .before .before .before .before .find .ensures) (c .before .before .first .given .1) (c .wide .ensures) (c .before .before .before .before .before .before .pre .1))
+mul-result c =
+    let args = c .before .before .before .before .before .before .args in
+    omega (arith, end-fits (args .sizes) (args .self) (args .key) _ _ (c .wide .result) (length (args .a .now)) (c .before .before .before .before .find .result) (c .before .before .before .before .find .ensures) (c .before .before .first .given .1) (c .wide .ensures) (c .before .before .before .before .before .before .pre .1))
 
 sub-result-2 : tie.Need-sub-result-2
 sub-result-2 c = search needs
@@ -74,7 +82,9 @@ part-result-start-2 : tie.Need-part-result-start-2
 part-result-start-2 c = search needs
 
 part-result-end-2 : tie.Need-part-result-end-2
-part-result-end-2 c = omega (arith, end-fits (c .before .before .before .before .before .before .args .sizes) (c .before .before .before .before .before .before .args .self) (c .before .before .before .before .before .before .args .key) _ _ (c .wide .result) (length (c .before .before .before .before .before .before .args .a .now)) (c .before .before .before .before .find .result) (c .before .before .before .before .find .ensures) (c .before .before .first .given .1) (c .wide .ensures) (c .before .before .before .before .before .before .pre .1))
+part-result-end-2 c =
+    let args = c .before .before .before .before .before .before .args in
+    omega (arith, end-fits (args .sizes) (args .self) (args .key) _ _ (c .wide .result) (length (args .a .now)) (c .before .before .before .before .find .result) (c .before .before .before .before .find .ensures) (c .before .before .first .given .1) (c .wide .ensures) (c .before .before .before .before .before .before .pre .1))
 
 returns-2 : tie.Need-returns-2
 returns-2 c = present _ (c .before .before .before .before .before .find .result) _ (c .before .before .before .before .before .find .ensures) _ _ _ _ (c .before .before .before .first .given .1) (c .before .wide .ensures)

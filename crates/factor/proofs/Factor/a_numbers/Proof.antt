@@ -42,7 +42,9 @@ width-requires : tie.Need-width-requires
 width-requires c κs = search needs
 
 mul-result : tie.Need-mul-result
-mul-result c = let b : c .before .before .before .args .self .rows < 256 = small (search needs) in omega (arith, within (c .before .wide .result) (c .width .result) (omega (arith, c .before .wide .ensures)) (c .width .ensures .1))
+mul-result c =
+    let b : c .before .before .before .args .self .rows < 256 = small (search needs) in
+    omega (arith, within (c .before .wide .result) (c .width .result) (omega (arith, c .before .wide .ensures)) (c .width .ensures .1))
 
 returns-2 : tie.Need-returns-2
 returns-2 c =

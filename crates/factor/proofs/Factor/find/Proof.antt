@@ -18,7 +18,13 @@ wide-requires : tie.Need-wide-requires Inv-loop μ-loop
 wide-requires c κs = search needs
 
 loop-holds : tie.Need-loop-holds Inv-loop μ-loop
-loop-holds c = (search needs, c .wide .ensures, search needs, sym (first-none _ _), find-begun (c .before .args .sizes) (c .before .args .t1 .keys) (c .before .args .key) (c .before .args .t1 .touched))
+loop-holds c = (
+  search needs,
+  c .wide .ensures,
+  search needs,
+  sym (first-none _ _),
+  find-begun (c .before .args .sizes) (c .before .args .t1 .keys) (c .before .args .key) (c .before .args .t1 .touched),
+)
 
 element-copy-out-wide : tie.Need-element-copy-out-wide Inv-loop μ-loop
 element-copy-out-wide c = omega (arith, c .before .loop .inv .1, c .before .before .before .pre)
@@ -30,7 +36,10 @@ size-of-requires : tie.Need-size-of-requires Inv-loop μ-loop
 size-of-requires c κs = search needs
 
 returns : tie.Need-returns Inv-loop μ-loop
-returns c = find-here (c .before .before .before .before .before .before .before .args .sizes) (c .before .before .before .before .before .before .before .args .t1 .keys) (c .before .before .before .before .before .before .before .args .key) (c .before .before .before .before .before .loop .place) (c .before .before .before .before .before .before .before .args .t1 .touched) (c .before .before .before .before .before .loop .first) (c .before .before .wide2 .result) (c .before .size-of .result) _ (omega (arith, c .before .before .before .before .before .loop .inv .1)) (c .before .before .wide2 .ensures) (c .before .size-of .ensures .0) (c .before .before .before .before .before .loop .inv .3) (c .if1 .taken) (c .before .before .before .before .before .loop .inv .4)
+returns c =
+    let args = c .before .before .before .before .before .before .before .args in
+    let loop = c .before .before .before .before .before .loop in
+    find-here (args .sizes) (args .t1 .keys) (args .key) (loop .place) (args .t1 .touched) (loop .first) (c .before .before .wide2 .result) (c .before .size-of .result) _ (omega (arith, loop .inv .1)) (c .before .before .wide2 .ensures) (c .before .size-of .ensures .0) (loop .inv .3) (c .if1 .taken) (loop .inv .4)
 
 add-first : tie.Need-add-first Inv-loop μ-loop
 add-first c = omega (arith, c .before .size-of .ensures .1, c .before .before .before .before .before .loop .inv .2, c .before .before .before .before .before .loop .inv .1, c .before .before .before .before .before .before .before .pre)
@@ -51,7 +60,9 @@ loop-again c = (
 )
 
 returns-2 : tie.Need-returns-2 Inv-loop μ-loop
-returns-2 c = find-none (c .before .before .before .args .sizes) (c .before .before .before .args .t1 .keys) (c .before .before .before .args .key) (c .before .loop .place) (c .before .before .before .args .t1 .touched) _ (omega (arith, c .before .loop .inv .1)) (c .before .loop .inv .4)
+returns-2 c =
+    let args = c .before .before .before .args in
+    find-none (args .sizes) (args .t1 .keys) (args .key) (c .before .loop .place) (args .t1 .touched) _ (omega (arith, c .before .loop .inv .1)) (c .before .loop .inv .4)
 
 pub find-spec : {M : Type 1} → statement M
 find-spec =

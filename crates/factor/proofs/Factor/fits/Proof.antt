@@ -44,13 +44,20 @@ wide-requires : tie.Need-wide-requires Inv-loop μ-loop
 wide-requires c κs = search needs
 
 returns : tie.Need-returns Inv-loop μ-loop
-returns c = (too-many (c .before .before .args .sizes) (c .before .before .args .variables) (c .before .before .args .self) (rw (c .before .wide .ensures) at (c .if1 .taken)), search needs)
+returns c = (
+  too-many (c .before .before .args .sizes) (c .before .before .args .variables) (c .before .before .args .self) (rw (c .before .wide .ensures) at (c .if1 .taken)),
+  search needs,
+)
 
 rows-fit-requires : tie.Need-rows-fit-requires Inv-loop μ-loop
 rows-fit-requires c κs = search needs
 
 returns-2 : tie.Need-returns-2 Inv-loop μ-loop
-returns-2 c = (bad-rows (c .before .before .before .before .args .sizes) (c .before .before .before .before .args .variables) (c .before .before .before .before .args .self) (rw (c .before .before .before .wide .ensures) at (c .before .before .if1 .left)) (tells (c .before .rows-fit .ensures) (not-true _ (c .if2 .taken))), search needs)
+returns-2 c =
+    let args = c .before .before .before .before .args in (
+      bad-rows (args .sizes) (args .variables) (args .self) (rw (c .before .before .before .wide .ensures) at (c .before .before .if1 .left)) (tells (c .before .rows-fit .ensures) (not-true _ (c .if2 .taken))),
+      search needs,
+    )
 
 loop-holds : tie.Need-loop-holds Inv-loop μ-loop
 loop-holds c = (search needs, all-none _)
@@ -59,7 +66,11 @@ key-fits-requires : tie.Need-key-fits-requires Inv-loop μ-loop
 key-fits-requires c κs = search needs
 
 returns-3 : tie.Need-returns-3 Inv-loop μ-loop
-returns-3 c = (bad-key (c .before .before .before .before .before .before .before .before .args .sizes) (c .before .before .before .before .before .before .before .before .args .variables) (c .before .before .before .before .before .before .before .before .args .self) (rw (c .before .before .before .before .before .before .before .wide .ensures) at (c .before .before .before .before .before .before .if1 .left)) (tells (c .before .before .before .before .before .rows-fit .ensures) (not-false _ (c .before .before .before .before .if2 .left))) (c .before .before .before .loop .place) (search needs) (tells (c .before .key-fits .ensures) (not-true _ (c .if3 .taken))), search needs)
+returns-3 c =
+    let args = c .before .before .before .before .before .before .before .before .args in (
+      bad-key (args .sizes) (args .variables) (args .self) (rw (c .before .before .before .before .before .before .before .wide .ensures) at (c .before .before .before .before .before .before .if1 .left)) (tells (c .before .before .before .before .before .rows-fit .ensures) (not-false _ (c .before .before .before .before .if2 .left))) (c .before .before .before .loop .place) (search needs) (tells (c .before .key-fits .ensures) (not-true _ (c .if3 .taken))),
+      search needs,
+    )
 
 add-place : tie.Need-add-place Inv-loop μ-loop
 add-place c = search needs
@@ -71,7 +82,11 @@ loop-again : tie.Need-loop-again Inv-loop μ-loop
 loop-again c = (search needs, all-more _ _ (c .before .before .before .loop .inv .1) (tells (c .before .key-fits .ensures) (not-false _ (c .if3 .left))))
 
 returns-4 : tie.Need-returns-4 Inv-loop μ-loop
-returns-4 c = (all-fit (c .before .before .before .before .before .before .args .sizes) (c .before .before .before .before .before .before .args .variables) (c .before .before .before .before .before .before .args .self) (rw (c .before .before .before .before .before .wide .ensures) at (c .before .before .before .before .if1 .left)) (tells (c .before .before .before .rows-fit .ensures) (not-false _ (c .before .before .if2 .left))) (c .before .loop .place) (omega arith) (c .before .loop .inv .1), search needs)
+returns-4 c =
+    let args = c .before .before .before .before .before .before .args in (
+      all-fit (args .sizes) (args .variables) (args .self) (rw (c .before .before .before .before .before .wide .ensures) at (c .before .before .before .before .if1 .left)) (tells (c .before .before .before .rows-fit .ensures) (not-false _ (c .before .before .if2 .left))) (c .before .loop .place) (omega arith) (c .before .loop .inv .1),
+      search needs,
+    )
 
 pub fits-spec : {M : Type 1} → statement M
 fits-spec =

@@ -39,7 +39,10 @@ element-copy-out-if4 c = search needs
 
 returns-4 : tie.Need-returns-4 Inv-loop μ-loop
 unfolding isClear every
-returns-4 c = (simp (c .before .before .before .before .before .before .if1 .left, eq-eqb _ _ (c .before .before .before .before .before .if2 .left), eq-eqb _ _ (c .before .before .before .before .if3 .left), all-fail (λ j. eqb (keyAt (c .before .before .before .before .before .before .before .args .t1) j) 0) max-keys (c .before .before .before .loop .place) (search needs) (ne-eqb _ _ (c .if4 .taken))), search needs)
+returns-4 c = (
+  simp (c .before .before .before .before .before .before .if1 .left, eq-eqb _ _ (c .before .before .before .before .before .if2 .left), eq-eqb _ _ (c .before .before .before .before .if3 .left), all-fail (λ j. eqb (keyAt (c .before .before .before .before .before .before .before .args .t1) j) 0) max-keys (c .before .before .before .loop .place) (search needs) (ne-eqb _ _ (c .if4 .taken))),
+  search needs,
+)
 
 add-place : tie.Need-add-place Inv-loop μ-loop
 add-place c = search needs

@@ -48,16 +48,24 @@ a-numbers-requires : tie.Need-a-numbers-requires
 a-numbers-requires c κs = search needs
 
 returns : tie.Need-returns
-returns c = not-a (c .before .before .before .args .sizes) (c .before .before .before .args .self) (c .before .before .before .args .a) (c .before .before .before .args .mean) (c .before .before .before .args .variance) (c .before .before .wide .result) (c .before .a-numbers .result) (c .before .before .wide .ensures) (c .before .a-numbers .ensures .0) (c .if1 .taken)
+returns c =
+    let args = c .before .before .before .args in
+    not-a (args .sizes) (args .self) (args .a) (args .mean) (args .variance) (c .before .before .wide .result) (c .before .a-numbers .result) (c .before .before .wide .ensures) (c .before .a-numbers .ensures .0) (c .if1 .taken)
 
 mul-result : tie.Need-mul-result
-mul-result c = let b : c .before .before .before .before .args .self .rows < 256 = small (search needs) in omega (arith, square (c .before .before .before .wide .result) (omega (arith, c .before .before .before .wide .ensures)))
+mul-result c =
+    let b : c .before .before .before .before .args .self .rows < 256 = small (search needs) in
+    omega (arith, square (c .before .before .before .wide .result) (omega (arith, c .before .before .before .wide .ensures)))
 
 returns-2 : tie.Need-returns-2
-returns-2 c = mean-fits (c .before .before .before .before .args .sizes) (c .before .before .before .before .args .self) (c .before .before .before .before .args .a) (c .before .before .before .before .args .mean) (c .before .before .before .before .args .variance) (c .before .before .before .wide .result) (c .before .before .a-numbers .result) (c .before .before .before .wide .ensures) (c .before .before .a-numbers .ensures .0) (c .before .if1 .left) (c .if2 .taken)
+returns-2 c =
+    let args = c .before .before .before .before .args in
+    mean-fits (args .sizes) (args .self) (args .a) (args .mean) (args .variance) (c .before .before .before .wide .result) (c .before .before .a-numbers .result) (c .before .before .before .wide .ensures) (c .before .before .a-numbers .ensures .0) (c .before .if1 .left) (c .if2 .taken)
 
 returns-3 : tie.Need-returns-3
-returns-3 c = not-mean (c .before .before .before .before .args .sizes) (c .before .before .before .before .args .self) (c .before .before .before .before .args .a) (c .before .before .before .before .args .mean) (c .before .before .before .before .args .variance) (c .before .before .before .wide .result) (c .before .before .a-numbers .result) (c .before .before .before .wide .ensures) (c .before .before .a-numbers .ensures .0) (c .before .if1 .left) (c .if2 .left)
+returns-3 c =
+    let args = c .before .before .before .before .args in
+    not-mean (args .sizes) (args .self) (args .a) (args .mean) (args .variance) (c .before .before .before .wide .result) (c .before .before .a-numbers .result) (c .before .before .before .wide .ensures) (c .before .before .a-numbers .ensures .0) (c .before .if1 .left) (c .if2 .left)
 
 pub lengths-fit-spec : {M : Type 1} → statement M
 lengths-fit-spec =

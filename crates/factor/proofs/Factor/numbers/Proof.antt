@@ -30,13 +30,19 @@ a-numbers-requires : tie.Need-a-numbers-requires
 a-numbers-requires c κs = search needs
 
 add-result : tie.Need-add-result
-add-result c = let b : c .before .before .args .self .rows < 256 = small (search needs) in omega (arith, c .before .wide .ensures, c .a-numbers .ensures .1, square (c .before .before .args .self .rows) b)
+add-result c =
+    let b : c .before .before .args .self .rows < 256 = small (search needs) in
+    omega (arith, c .before .wide .ensures, c .a-numbers .ensures .1, square (c .before .before .args .self .rows) b)
 
 mul-result : tie.Need-mul-result
-mul-result c = let b : c .before .before .args .self .rows < 256 = small (search needs) in omega (arith, square (c .before .wide .result) (omega (arith, c .before .wide .ensures)))
+mul-result c =
+    let b : c .before .before .args .self .rows < 256 = small (search needs) in
+    omega (arith, square (c .before .wide .result) (omega (arith, c .before .wide .ensures)))
 
 add-result-2 : tie.Need-add-result-2
-add-result-2 c = let b : c .before .before .args .self .rows < 256 = small (search needs) in omega (arith, c .a-numbers .ensures .1, square (c .before .wide .result) (omega (arith, c .before .wide .ensures)))
+add-result-2 c =
+    let b : c .before .before .args .self .rows < 256 = small (search needs) in
+    omega (arith, c .a-numbers .ensures .1, square (c .before .wide .result) (omega (arith, c .before .wide .ensures)))
 
 returns : tie.Need-returns
 returns c =

@@ -35,13 +35,19 @@ wide-requires : tie.Need-wide-requires
 wide-requires c κs = search needs
 
 returns : tie.Need-returns
-returns c = some-rows (c .before .before .before .args .sizes) (c .before .before .before .args .t1) (c .before .before .wide .result) (c .before .before .wide .ensures) (not-true (c .before .before .before .args .t1 .prior) (c .before .if1 .taken)) (c .if2 .taken)
+returns c =
+    let args = c .before .before .before .args in
+    some-rows (args .sizes) (args .t1) (c .before .before .wide .result) (c .before .before .wide .ensures) (not-true (args .t1 .prior) (c .before .if1 .taken)) (c .if2 .taken)
 
 returns-2 : tie.Need-returns-2
-returns-2 c = no-rows (c .before .before .before .args .sizes) (c .before .before .before .args .t1) (c .before .before .wide .result) (c .before .before .wide .ensures) (not-true (c .before .before .before .args .t1 .prior) (c .before .if1 .taken)) (c .if2 .left)
+returns-2 c =
+    let args = c .before .before .before .args in
+    no-rows (args .sizes) (args .t1) (c .before .before .wide .result) (c .before .before .wide .ensures) (not-true (args .t1 .prior) (c .before .if1 .taken)) (c .if2 .left)
 
 returns-3 : tie.Need-returns-3
-returns-3 c = not-one (c .before .before .before .args .sizes) (c .before .before .before .args .t1) (c .before .before .wide .result) (c .before .before .wide .ensures) (not-false (c .before .before .before .args .t1 .prior) (c .before .if1 .left)) (c .if3 .taken)
+returns-3 c =
+    let args = c .before .before .before .args in
+    not-one (args .sizes) (args .t1) (c .before .before .wide .result) (c .before .before .wide .ensures) (not-false (args .t1 .prior) (c .before .if1 .left)) (c .if3 .taken)
 
 element-copy-out-wide : tie.Need-element-copy-out-wide
 element-copy-out-wide c = search needs
@@ -53,7 +59,9 @@ size-of-requires : tie.Need-size-of-requires
 size-of-requires c κs = search needs
 
 returns-4 : tie.Need-returns-4
-returns-4 c = prior-rows (c .before .before .before .before .before .before .args .sizes) (c .before .before .before .before .before .before .args .t1) (c .before .before .before .before .before .wide .result) (c .before .before .before .before .before .wide .ensures) (not-false (c .before .before .before .before .before .before .args .t1 .prior) (c .before .before .before .before .if1 .left)) (c .before .before .before .if3 .left) (c .size-of .result) (c .before .wide2 .result) (c .before .wide2 .ensures) (c .size-of .ensures .0)
+returns-4 c =
+    let args = c .before .before .before .before .before .before .args in
+    prior-rows (args .sizes) (args .t1) (c .before .before .before .before .before .wide .result) (c .before .before .before .before .before .wide .ensures) (not-false (args .t1 .prior) (c .before .before .before .before .if1 .left)) (c .before .before .before .if3 .left) (c .size-of .result) (c .before .wide2 .result) (c .before .wide2 .ensures) (c .size-of .ensures .0)
 
 pub rows-fit-spec : {M : Type 1} → statement M
 rows-fit-spec =

@@ -39,7 +39,13 @@ loop-less : tie.Need-loop-less Inv-loop μ-loop
 loop-less c = search needs
 
 loop-again : tie.Need-loop-again Inv-loop μ-loop
-loop-again c = (omega arith, c .before .before .before .before .loop .inv .1, omega (arith, c .size-of .ensures .1, c .before .before .before .before .loop .inv .2), ap (λ (x : ℕ). x + c .size-of .result) (c .before .before .before .before .loop .inv .3) ∙ sym (first-more (c .before .before .before .before .before .before .args .sizes) (c .before .before .before .before .before .before .args .t1 .keys) (c .before .before .before .before .loop .place) (c .before .wide2 .result) (c .size-of .result) (c .before .wide2 .ensures) (c .size-of .ensures .0)))
+loop-again c =
+    let loop = c .before .before .before .before .loop in (
+      omega arith,
+      loop .inv .1,
+      omega (arith, c .size-of .ensures .1, loop .inv .2),
+      ap (λ (x : ℕ). x + c .size-of .result) (loop .inv .3) ∙ sym (first-more (c .before .before .before .before .before .before .args .sizes) (c .before .before .before .before .before .before .args .t1 .keys) (loop .place) (c .before .wide2 .result) (c .size-of .result) (c .before .wide2 .ensures) (c .size-of .ensures .0)),
+    )
 
 returns : tie.Need-returns Inv-loop μ-loop
 returns c =

@@ -11,13 +11,28 @@ use Rattle.gaussian.proofs.marginal.moments.Statement.{statement}
 use Rattle.gaussian.proofs.marginal.moments.Tie as tie
 
 gemv-tr-requires : tie.Need-gemv-tr-requires
-gemv-tr-requires c κs = (λ i j hi hj. dense (c .before .before .before .before .before .before .before .before .args .s) 1 _ (omega (arith, ap length (c .before .before .before .before .before .before .before .before .pre .1 .0), length-replicate (c .before .before .before .before .before .before .before .before .args .s) plus-zero)) i j hi hj, (λ i j hi hj. dense (c .before .before .before .before .before .before .before .before .args .y) (c .before .before .before .before .before .before .before .before .args .s) _ (c .before .before .before .before .before .before .before .before .pre .0 .0) i j hi hj, λ i j hi hj. dense (c .before .before .before .before .before .before .before .before .args .y) 1 _ (omega (arith, c .before .before .before .before .before .before .before .before .pre .0 .1)) i j hi hj))
+gemv-tr-requires c κs =
+    let args = c .before .before .before .before .before .before .before .before .args in
+    let pre = c .before .before .before .before .before .before .before .before .pre in (
+      λ i j hi hj. dense (args .s) 1 _ (omega (arith, ap length (pre .1 .0), length-replicate (args .s) plus-zero)) i j hi hj,
+      (λ i j hi hj. dense (args .y) (args .s) _ (pre .0 .0) i j hi hj, λ i j hi hj. dense (args .y) 1 _ (omega (arith, pre .0 .1)) i j hi hj),
+    )
 
 quadform-requires : tie.Need-quadform-requires
-quadform-requires c κs = (λ i j hi hj. dense (c .before .before .before .before .before .before .before .before .before .before .before .before .before .args .s) (c .before .before .before .before .before .before .before .before .before .before .before .before .before .args .s) _ (omega (arith, ap length (c .before .before .before .before .before .before .before .before .before .before .before .before .before .pre .1 .1), length-replicate (c .before .before .before .before .before .before .before .before .before .before .before .before .before .args .s * c .before .before .before .before .before .before .before .before .before .before .before .before .before .args .s) plus-zero)) i j hi hj, (λ i j hi hj. dense (c .before .before .before .before .before .before .before .before .before .before .before .before .before .args .y) (c .before .before .before .before .before .before .before .before .before .before .before .before .before .args .y) _ (c .before .before .before .before .before .before .before .before .before .before .before .before .before .pre .0 .2) i j hi hj, (λ i j hi hj. dense (c .before .before .before .before .before .before .before .before .before .before .before .before .before .args .y) (c .before .before .before .before .before .before .before .before .before .before .before .before .before .args .s) _ (c .before .before .before .before .before .before .before .before .before .before .before .before .before .pre .0 .0) i j hi hj, c .before .before .before .before .before .before .before .before .before .before .before .before .before .pre .0 .3)))
+quadform-requires c κs =
+    let args = c .before .before .before .before .before .before .before .before .before .before .before .before .before .args in
+    let pre = c .before .before .before .before .before .before .before .before .before .before .before .before .before .pre in (
+      λ i j hi hj. dense (args .s) (args .s) _ (omega (arith, ap length (pre .1 .1), length-replicate (args .s * args .s) plus-zero)) i j hi hj,
+      (λ i j hi hj. dense (args .y) (args .y) _ (pre .0 .2) i j hi hj, (λ i j hi hj. dense (args .y) (args .s) _ (pre .0 .0) i j hi hj, pre .0 .3)),
+    )
 
 solve-moments-requires : tie.Need-solve-moments-requires
-solve-moments-requires c κs = (record { of-xi = c .before .before .before .before .before .before .before .before .before .before .before .before .gemv-tr .kept .0 ∙ ap length (c .before .before .before .before .before .before .before .before .before .before .before .before .before .before .before .before .before .before .before .before .before .pre .1 .0) ∙ length-replicate (c .before .before .before .before .before .before .before .before .before .before .before .before .before .before .before .before .before .before .before .before .before .args .s) plus-zero; of-w = c .before .before .before .before .before .before .before .quadform .kept .0 ∙ ap length (c .before .before .before .before .before .before .before .before .before .before .before .before .before .before .before .before .before .before .before .before .before .pre .1 .1) ∙ length-replicate (c .before .before .before .before .before .before .before .before .before .before .before .before .before .before .before .before .before .before .before .before .before .args .s * c .before .before .before .before .before .before .before .before .before .before .before .before .before .before .before .before .before .before .before .before .before .args .s) plus-zero }, c .before .before .before .before .before .before .before .before .before .before .before .before .before .before .before .before .before .before .before .before .before .pre .1 .2)
+solve-moments-requires c κs =
+    let args = c .before .before .before .before .before .before .before .before .before .before .before .before .before .before .before .before .before .before .before .before .before .args in
+    let pre = c .before .before .before .before .before .before .before .before .before .before .before .before .before .before .before .before .before .before .before .before .before .pre in (
+      record { of-xi = c .before .before .before .before .before .before .before .before .before .before .before .before .gemv-tr .kept .0 ∙ ap length (pre .1 .0) ∙ length-replicate (args .s) plus-zero; of-w = c .before .before .before .before .before .before .before .quadform .kept .0 ∙ ap length (pre .1 .1) ∙ length-replicate (args .s * args .s) plus-zero },
+      pre .1 .2,
+    )
 
 same-length : tie.Need-same-length
 same-length c = search needs
@@ -33,7 +48,9 @@ same-length-4 c = search needs
 
 returns : tie.Need-returns
 unfolding momentsOf
-returns c = rw (← c .before .before .before .before .before .before .before .before .before .before .before .before .before .before .before .before .before .before .before .before .before .before .before .before .before .before .before .before .pre .1 .0, ← c .before .before .before .before .before .before .before .before .before .before .before .before .before .before .before .before .before .before .before .before .before .before .before .before .before .before .before .before .pre .1 .1, ← c .before .before .before .before .before .before .before .before .before .before .before .before .before .before .before .before .before .before .before .gemv-tr .ensures, ← c .before .before .before .before .before .before .before .before .before .before .before .before .before .before .quadform .ensures) (c .before .before .before .before .before .before .solve-moments .ensures)
+returns c =
+    let pre = c .before .before .before .before .before .before .before .before .before .before .before .before .before .before .before .before .before .before .before .before .before .before .before .before .before .before .before .before .pre in
+    rw (← pre .1 .0, ← pre .1 .1, ← c .before .before .before .before .before .before .before .before .before .before .before .before .before .before .before .before .before .before .before .gemv-tr .ensures, ← c .before .before .before .before .before .before .before .before .before .before .before .before .before .before .quadform .ensures) (c .before .before .before .before .before .before .solve-moments .ensures)
 
 pub moments-spec : {M : Type 1} → statement M
 moments-spec =

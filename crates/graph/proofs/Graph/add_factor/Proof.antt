@@ -10,25 +10,33 @@ use Rattle.graph.proofs.Graph.add_factor.Statement.{statement}
 use Rattle.graph.proofs.Graph.add_factor.Tie as tie
 
 lengths-fit-requires : tie.Need-lengths-fit-requires
-lengths-fit-requires c κs = fits-touched (c .before .before .before .before .before .args .t1 .sizes) (c .before .before .before .before .before .args .t1 .variables) (c .before .before .before .before .before .args .f) (c .before .before .before .before .before .pre .1)
+lengths-fit-requires c κs =
+    let args = c .before .before .before .before .before .args in
+    fits-touched (args .t1 .sizes) (args .t1 .variables) (args .f) (c .before .before .before .before .before .pre .1)
 
 refused-requires : tie.Need-refused-requires
 refused-requires c κs = search needs
 
 returns : tie.Need-returns
-returns c = turned-back (c .before .before .before .before .before .before .before .before .args .t1) (c .before .before .before .before .before .before .before .before .args .f) (c .before .before .before .before .before .before .before .before .args .store .now) _ _ _ _ (unlike (c .before .before .before .before .before .before .before .before .args .t1) (c .before .before .before .before .before .before .before .before .args .f) (c .before .before .before .before .before .before .before .before .args .a .now) (c .before .before .before .before .before .before .before .before .args .mean .now) (c .before .before .before .before .before .before .before .before .args .variance .now) (c .before .before .before .before .before .before .before .before .args .store .now) (tells (c .before .before .lengths-fit .ensures) (not-true _ (c .before .if1 .taken)))) (c .refused .ensures) refl
+returns c =
+    let args = c .before .before .before .before .before .before .before .before .args in
+    turned-back (args .t1) (args .f) (args .store .now) _ _ _ _ (unlike (args .t1) (args .f) (args .a .now) (args .mean .now) (args .variance .now) (args .store .now) (tells (c .before .before .lengths-fit .ensures) (not-true _ (c .before .if1 .taken)))) (c .refused .ensures) refl
 
 refused-requires-2 : tie.Need-refused-requires-2
 refused-requires-2 c κs = search needs
 
 returns-2 : tie.Need-returns-2
-returns-2 c = turned-back (c .before .before .before .before .before .before .before .before .before .args .t1) (c .before .before .before .before .before .before .before .before .before .args .f) (c .before .before .before .before .before .before .before .before .before .args .store .now) _ _ _ _ (full (c .before .before .before .before .before .before .before .before .before .args .t1) (c .before .before .before .before .before .before .before .before .before .args .f) (c .before .before .before .before .before .before .before .before .before .args .a .now) (c .before .before .before .before .before .before .before .before .before .args .mean .now) (c .before .before .before .before .before .before .before .before .before .args .variance .now) (c .before .before .before .before .before .before .before .before .before .args .store .now) (tells (c .before .before .before .lengths-fit .ensures) (not-false _ (c .before .before .if1 .left))) (c .before .if2 .taken)) (c .refused2 .ensures) refl
+returns-2 c =
+    let args = c .before .before .before .before .before .before .before .before .before .args in
+    turned-back (args .t1) (args .f) (args .store .now) _ _ _ _ (full (args .t1) (args .f) (args .a .now) (args .mean .now) (args .variance .now) (args .store .now) (tells (c .before .before .before .lengths-fit .ensures) (not-false _ (c .before .before .if1 .left))) (c .before .if2 .taken)) (c .refused2 .ensures) refl
 
 offset-requires : tie.Need-offset-requires
 offset-requires c κs = search needs
 
 numbers-requires : tie.Need-numbers-requires
-numbers-requires c κs = fits-touched (c .before .before .before .before .before .before .before .before .before .args .t1 .sizes) (c .before .before .before .before .before .before .before .before .before .args .t1 .variables) (c .before .before .before .before .before .before .before .before .before .args .f) (c .before .before .before .before .before .before .before .before .before .pre .1)
+numbers-requires c κs =
+    let args = c .before .before .before .before .before .before .before .before .before .args in
+    fits-touched (args .t1 .sizes) (args .t1 .variables) (args .f) (c .before .before .before .before .before .before .before .before .before .pre .1)
 
 add-if3 : tie.Need-add-if3
 add-if3 c = search needs
@@ -37,7 +45,9 @@ refused-requires-3 : tie.Need-refused-requires-3
 refused-requires-3 c κs = search needs
 
 returns-3 : tie.Need-returns-3
-returns-3 c = turned-back (c .before .before .before .before .before .before .before .before .before .before .before .before .args .t1) (c .before .before .before .before .before .before .before .before .before .before .before .before .args .f) (c .before .before .before .before .before .before .before .before .before .before .before .before .args .store .now) _ _ _ _ (short (c .before .before .before .before .before .before .before .before .before .before .before .before .args .t1) (c .before .before .before .before .before .before .before .before .before .before .before .before .args .f) (c .before .before .before .before .before .before .before .before .before .before .before .before .args .a .now) (c .before .before .before .before .before .before .before .before .before .before .before .before .args .mean .now) (c .before .before .before .before .before .before .before .before .before .before .before .before .args .variance .now) (c .before .before .before .before .before .before .before .before .before .before .before .before .args .store .now) (tells (c .before .before .before .before .before .before .lengths-fit .ensures) (not-false _ (c .before .before .before .before .before .if1 .left))) (c .before .before .before .before .if2 .left) (c .before .before .before .offset .result) (c .before .before .numbers .result) (c .before .before .before .offset .ensures .0) (c .before .before .numbers .ensures .0) (c .before .if3 .taken)) (c .refused3 .ensures) refl
+returns-3 c =
+    let args = c .before .before .before .before .before .before .before .before .before .before .before .before .args in
+    turned-back (args .t1) (args .f) (args .store .now) _ _ _ _ (short (args .t1) (args .f) (args .a .now) (args .mean .now) (args .variance .now) (args .store .now) (tells (c .before .before .before .before .before .before .lengths-fit .ensures) (not-false _ (c .before .before .before .before .before .if1 .left))) (c .before .before .before .before .if2 .left) (c .before .before .before .offset .result) (c .before .before .numbers .result) (c .before .before .before .offset .ensures .0) (c .before .before .numbers .ensures .0) (c .before .if3 .taken)) (c .refused3 .ensures) refl
 
 given-finite-requires : tie.Need-given-finite-requires
 given-finite-requires c κs = search needs
@@ -46,10 +56,15 @@ refused-requires-4 : tie.Need-refused-requires-4
 refused-requires-4 c κs = search needs
 
 returns-4 : tie.Need-returns-4
-returns-4 c = turned-back (c .before .before .before .before .before .before .before .before .before .before .before .before .before .before .args .t1) (c .before .before .before .before .before .before .before .before .before .before .before .before .before .before .args .f) (c .before .before .before .before .before .before .before .before .before .before .before .before .before .before .args .store .now) _ _ _ _ (not-given (c .before .before .before .before .before .before .before .before .before .before .before .before .before .before .args .t1) (c .before .before .before .before .before .before .before .before .before .before .before .before .before .before .args .f) (c .before .before .before .before .before .before .before .before .before .before .before .before .before .before .args .a .now) (c .before .before .before .before .before .before .before .before .before .before .before .before .before .before .args .mean .now) (c .before .before .before .before .before .before .before .before .before .before .before .before .before .before .args .variance .now) (c .before .before .before .before .before .before .before .before .before .before .before .before .before .before .args .store .now) (tells (c .before .before .before .before .before .before .before .before .lengths-fit .ensures) (not-false _ (c .before .before .before .before .before .before .before .if1 .left))) (c .before .before .before .before .before .before .if2 .left) (c .before .before .before .before .before .offset .result) (c .before .before .before .before .numbers .result) (c .before .before .before .before .before .offset .ensures .0) (c .before .before .before .before .numbers .ensures .0) (c .before .before .before .if3 .left) (tells (c .before .before .given-finite .ensures) (not-true _ (c .before .if4 .taken)))) (c .refused4 .ensures) refl
+returns-4 c =
+    let args = c .before .before .before .before .before .before .before .before .before .before .before .before .before .before .args in
+    turned-back (args .t1) (args .f) (args .store .now) _ _ _ _ (not-given (args .t1) (args .f) (args .a .now) (args .mean .now) (args .variance .now) (args .store .now) (tells (c .before .before .before .before .before .before .before .before .lengths-fit .ensures) (not-false _ (c .before .before .before .before .before .before .before .if1 .left))) (c .before .before .before .before .before .before .if2 .left) (c .before .before .before .before .before .offset .result) (c .before .before .before .before .numbers .result) (c .before .before .before .before .before .offset .ensures .0) (c .before .before .before .before .numbers .ensures .0) (c .before .before .before .if3 .left) (tells (c .before .before .given-finite .ensures) (not-true _ (c .before .if4 .taken)))) (c .refused4 .ensures) refl
 
 store-factor-requires : tie.Need-store-factor-requires
-store-factor-requires c κs = room-for (c .before .before .before .before .before .before .before .before .before .before .before .before .before .before .args .t1) (c .before .before .before .before .before .before .before .before .before .before .before .before .before .before .args .f) (c .before .before .before .before .before .before .before .before .before .before .before .before .before .before .args .a .now) (c .before .before .before .before .before .before .before .before .before .before .before .before .before .before .args .mean .now) (c .before .before .before .before .before .before .before .before .before .before .before .before .before .before .args .variance .now) (c .before .before .before .before .before .before .before .before .before .before .before .before .before .before .args .store .now) (tells (c .before .before .before .before .before .before .before .before .lengths-fit .ensures) (not-false _ (c .before .before .before .before .before .before .before .if1 .left))) (c .before .before .before .before .before .before .if2 .left) (c .before .before .before .before .before .offset .result) (c .before .before .before .before .numbers .result) (c .before .before .before .before .before .offset .ensures .0) (c .before .before .before .before .numbers .ensures .0) (c .before .before .before .if3 .left) (rows-most (c .before .before .before .before .before .before .before .before .before .before .before .before .before .before .args .t1) (c .before .before .before .before .before .before .before .before .before .before .before .before .before .before .pre .0) (c .before .before .before .before .before .before .before .before .before .before .before .before .before .before .args .f) (c .before .before .before .before .before .before .before .before .before .before .before .before .before .before .pre .1))
+store-factor-requires c κs =
+    let args = c .before .before .before .before .before .before .before .before .before .before .before .before .before .before .args in
+    let pre = c .before .before .before .before .before .before .before .before .before .before .before .before .before .before .pre in
+    room-for (args .t1) (args .f) (args .a .now) (args .mean .now) (args .variance .now) (args .store .now) (tells (c .before .before .before .before .before .before .before .before .lengths-fit .ensures) (not-false _ (c .before .before .before .before .before .before .before .if1 .left))) (c .before .before .before .before .before .before .if2 .left) (c .before .before .before .before .before .offset .result) (c .before .before .before .before .numbers .result) (c .before .before .before .before .before .offset .ensures .0) (c .before .before .before .before .numbers .ensures .0) (c .before .before .before .if3 .left) (rows-most (args .t1) (pre .0) (args .f) (pre .1))
 
 enum-told : tie.Need-enum-told
 enum-told c = search needs
@@ -64,7 +79,13 @@ same-length : tie.Need-same-length
 same-length c = search needs
 
 returns-5 : tie.Need-returns-5
-returns-5 c = let p = at-pivot (c .before .before .before .before .before .before .before .before .before .before .before .before .before .before .before .before .before .before .before .before .args .t1) (c .before .before .before .before .before .before .before .before .before .before .before .before .before .before .before .before .before .before .before .before .args .f) (c .before .before .before .before .before .before .before .before .before .before .before .before .before .before .before .before .before .before .before .before .args .a .now) (c .before .before .before .before .before .before .before .before .before .before .before .before .before .before .before .before .before .before .before .before .args .mean .now) (c .before .before .before .before .before .before .before .before .before .before .before .before .before .before .before .before .before .before .before .before .args .variance .now) (c .before .before .before .before .before .before .before .before .before .before .before .before .before .before .before .before .before .before .before .before .args .store .now) (tells (c .before .before .before .before .before .before .before .before .before .before .before .before .before .before .lengths-fit .ensures) (not-false _ (c .before .before .before .before .before .before .before .before .before .before .before .before .before .if1 .left))) (c .before .before .before .before .before .before .before .before .before .before .before .before .if2 .left) (c .before .before .before .before .before .before .before .before .before .before .before .offset .result) (c .before .before .before .before .before .before .before .before .before .before .numbers .result) (c .before .before .before .before .before .before .before .before .before .before .before .offset .ensures .0) (c .before .before .before .before .before .before .before .before .before .before .numbers .ensures .0) (c .before .before .before .before .before .before .before .before .before .if3 .left) (tells (c .before .before .before .before .before .before .before .before .given-finite .ensures) (not-false _ (c .before .before .before .before .before .before .before .if4 .left))) (c .before .before .before .before .before .store-factor .last .0) (c .before .before .before .before .before .store-factor .ensures .1) (sym (c .before .enum-told2 .given .1) ∙ c .before .before .before .before .before .store-factor .ensures .0) in turned-back (c .before .before .before .before .before .before .before .before .before .before .before .before .before .before .before .before .before .before .before .before .args .t1) (c .before .before .before .before .before .before .before .before .before .before .before .before .before .before .before .before .before .before .before .before .args .f) (c .before .before .before .before .before .before .before .before .before .before .before .before .before .before .before .before .before .before .before .before .args .store .now) _ _ _ _ (p .0) (c .refused5 .ensures) (p .1)
+returns-5 c =
+    let args = c .before .before .before .before .before .before .before .before .before .before .before .before .before .before .before .before .before .before .before .before .args in
+    let offset = c .before .before .before .before .before .before .before .before .before .before .before .offset in
+    let numbers = c .before .before .before .before .before .before .before .before .before .before .numbers in
+    let store-factor = c .before .before .before .before .before .store-factor in
+    let p = at-pivot (args .t1) (args .f) (args .a .now) (args .mean .now) (args .variance .now) (args .store .now) (tells (c .before .before .before .before .before .before .before .before .before .before .before .before .before .before .lengths-fit .ensures) (not-false _ (c .before .before .before .before .before .before .before .before .before .before .before .before .before .if1 .left))) (c .before .before .before .before .before .before .before .before .before .before .before .before .if2 .left) (offset .result) (numbers .result) (offset .ensures .0) (numbers .ensures .0) (c .before .before .before .before .before .before .before .before .before .if3 .left) (tells (c .before .before .before .before .before .before .before .before .given-finite .ensures) (not-false _ (c .before .before .before .before .before .before .before .if4 .left))) (store-factor .last .0) (store-factor .ensures .1) (sym (c .before .enum-told2 .given .1) ∙ store-factor .ensures .0) in
+    turned-back (args .t1) (args .f) (args .store .now) _ _ _ _ (p .0) (c .refused5 .ensures) (p .1)
 
 enum-told-3 : tie.Need-enum-told-3
 enum-told-3 c = search needs
@@ -76,7 +97,13 @@ same-length-2 : tie.Need-same-length-2
 same-length-2 c = search needs
 
 returns-6 : tie.Need-returns-6
-returns-6 c = let p = at-overflow (c .before .before .before .before .before .before .before .before .before .before .before .before .before .before .before .before .before .before .before .before .args .t1) (c .before .before .before .before .before .before .before .before .before .before .before .before .before .before .before .before .before .before .before .before .args .f) (c .before .before .before .before .before .before .before .before .before .before .before .before .before .before .before .before .before .before .before .before .args .a .now) (c .before .before .before .before .before .before .before .before .before .before .before .before .before .before .before .before .before .before .before .before .args .mean .now) (c .before .before .before .before .before .before .before .before .before .before .before .before .before .before .before .before .before .before .before .before .args .variance .now) (c .before .before .before .before .before .before .before .before .before .before .before .before .before .before .before .before .before .before .before .before .args .store .now) (tells (c .before .before .before .before .before .before .before .before .before .before .before .before .before .before .lengths-fit .ensures) (not-false _ (c .before .before .before .before .before .before .before .before .before .before .before .before .before .if1 .left))) (c .before .before .before .before .before .before .before .before .before .before .before .before .if2 .left) (c .before .before .before .before .before .before .before .before .before .before .before .offset .result) (c .before .before .before .before .before .before .before .before .before .before .numbers .result) (c .before .before .before .before .before .before .before .before .before .before .before .offset .ensures .0) (c .before .before .before .before .before .before .before .before .before .before .numbers .ensures .0) (c .before .before .before .before .before .before .before .before .before .if3 .left) (tells (c .before .before .before .before .before .before .before .before .given-finite .ensures) (not-false _ (c .before .before .before .before .before .before .before .if4 .left))) (c .before .before .before .before .before .store-factor .last .0) (c .before .before .before .before .before .store-factor .ensures .1) (sym (c .before .enum-told3 .given .1) ∙ c .before .before .before .before .before .store-factor .ensures .0) in turned-back (c .before .before .before .before .before .before .before .before .before .before .before .before .before .before .before .before .before .before .before .before .args .t1) (c .before .before .before .before .before .before .before .before .before .before .before .before .before .before .before .before .before .before .before .before .args .f) (c .before .before .before .before .before .before .before .before .before .before .before .before .before .before .before .before .before .before .before .before .args .store .now) _ _ _ _ (p .0) (c .refused6 .ensures) (p .1)
+returns-6 c =
+    let args = c .before .before .before .before .before .before .before .before .before .before .before .before .before .before .before .before .before .before .before .before .args in
+    let offset = c .before .before .before .before .before .before .before .before .before .before .before .offset in
+    let numbers = c .before .before .before .before .before .before .before .before .before .before .numbers in
+    let store-factor = c .before .before .before .before .before .store-factor in
+    let p = at-overflow (args .t1) (args .f) (args .a .now) (args .mean .now) (args .variance .now) (args .store .now) (tells (c .before .before .before .before .before .before .before .before .before .before .before .before .before .before .lengths-fit .ensures) (not-false _ (c .before .before .before .before .before .before .before .before .before .before .before .before .before .if1 .left))) (c .before .before .before .before .before .before .before .before .before .before .before .before .if2 .left) (offset .result) (numbers .result) (offset .ensures .0) (numbers .ensures .0) (c .before .before .before .before .before .before .before .before .before .if3 .left) (tells (c .before .before .before .before .before .before .before .before .given-finite .ensures) (not-false _ (c .before .before .before .before .before .before .before .if4 .left))) (store-factor .last .0) (store-factor .ensures .1) (sym (c .before .enum-told3 .given .1) ∙ store-factor .ensures .0) in
+    turned-back (args .t1) (args .f) (args .store .now) _ _ _ _ (p .0) (c .refused6 .ensures) (p .1)
 
 mul-f : tie.Need-mul-f
 mul-f c = search needs
@@ -91,7 +118,12 @@ same-length-3 : tie.Need-same-length-3
 same-length-3 c = search needs
 
 returns-7 : tie.Need-returns-7
-returns-7 c = taken (c .before .before .before .before .before .before .before .before .before .before .before .before .before .before .before .before .before .before .before .args .t1) (c .before .before .before .before .before .before .before .before .before .before .before .before .before .before .before .before .before .before .before .args .f) (c .before .before .before .before .before .before .before .before .before .before .before .before .before .before .before .before .before .before .before .args .a .now) (c .before .before .before .before .before .before .before .before .before .before .before .before .before .before .before .before .before .before .before .args .mean .now) (c .before .before .before .before .before .before .before .before .before .before .before .before .before .before .before .before .before .before .before .args .variance .now) (c .before .before .before .before .before .before .before .before .before .before .before .before .before .before .before .before .before .before .before .args .store .now) (tells (c .before .before .before .before .before .before .before .before .before .before .before .before .before .lengths-fit .ensures) (not-false _ (c .before .before .before .before .before .before .before .before .before .before .before .before .if1 .left))) (c .before .before .before .before .before .before .before .before .before .before .before .if2 .left) (c .before .before .before .before .before .before .before .before .before .before .offset .result) (c .before .before .before .before .before .before .before .before .before .numbers .result) (c .before .before .before .before .before .before .before .before .before .before .offset .ensures .0) (c .before .before .before .before .before .before .before .before .before .numbers .ensures .0) (c .before .before .before .before .before .before .before .before .if3 .left) (tells (c .before .before .before .before .before .before .before .given-finite .ensures) (not-false _ (c .before .before .before .before .before .before .if4 .left))) (c .before .before .before .before .store-factor .last .0) (c .before .before .before .before .store-factor .ensures .1) (sym (c .enum-told .given .1) ∙ c .before .before .before .before .store-factor .ensures .0)
+returns-7 c =
+    let args = c .before .before .before .before .before .before .before .before .before .before .before .before .before .before .before .before .before .before .before .args in
+    let offset = c .before .before .before .before .before .before .before .before .before .before .offset in
+    let numbers = c .before .before .before .before .before .before .before .before .before .numbers in
+    let store-factor = c .before .before .before .before .store-factor in
+    taken (args .t1) (args .f) (args .a .now) (args .mean .now) (args .variance .now) (args .store .now) (tells (c .before .before .before .before .before .before .before .before .before .before .before .before .before .lengths-fit .ensures) (not-false _ (c .before .before .before .before .before .before .before .before .before .before .before .before .if1 .left))) (c .before .before .before .before .before .before .before .before .before .before .before .if2 .left) (offset .result) (numbers .result) (offset .ensures .0) (numbers .ensures .0) (c .before .before .before .before .before .before .before .before .if3 .left) (tells (c .before .before .before .before .before .before .before .given-finite .ensures) (not-false _ (c .before .before .before .before .before .before .if4 .left))) (store-factor .last .0) (store-factor .ensures .1) (sym (c .enum-told .given .1) ∙ store-factor .ensures .0)
 
 pub add-factor-spec : {M : Type 1} → statement M
 add-factor-spec =

@@ -29,7 +29,9 @@ refused-requires c κs = search needs
 
 returns : tie.Need-returns
 unfolding addObservation observationStore
-returns c = turned-back (c .before .before .before .before .before .before .before .before .args .self) _ (c .before .before .before .before .before .before .before .before .args .store .now) _ _ _ _ (no-graph (c .before .before .before .before .before .before .before .before .args .self) (c .before .before .before .before .before .before .before .before .args .keys .now) (c .before .before .before .before .before .before .before .before .args .rows) (c .before .before .before .before .before .before .before .before .args .a .now) (c .before .before .before .before .before .before .before .before .args .mean .now) (c .before .before .before .before .before .before .before .before .args .variance .now) (c .before .before .before .before .before .before .before .before .args .store .now) (tells (c .before .before .valid .ensures .0) (not-true _ (c .before .if1 .taken)))) (c .refused .ensures) refl
+returns c =
+    let args = c .before .before .before .before .before .before .before .before .args in
+    turned-back (args .self) _ (args .store .now) _ _ _ _ (no-graph (args .self) (args .keys .now) (args .rows) (args .a .now) (args .mean .now) (args .variance .now) (args .store .now) (tells (c .before .before .valid .ensures .0) (not-true _ (c .before .if1 .taken)))) (c .refused .ensures) refl
 
 enter-observation-requires : tie.Need-enter-observation-requires
 enter-observation-requires c κs = tells (c .before .before .valid .ensures .0) (not-false _ (c .before .if1 .left))

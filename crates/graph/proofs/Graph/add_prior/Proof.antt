@@ -29,7 +29,9 @@ refused-requires c κs = search needs
 
 returns : tie.Need-returns
 unfolding addPrior priorStore
-returns c = turned-back (c .before .before .before .before .before .before .args .self) _ (c .before .before .before .before .before .before .args .store .now) _ _ _ _ (no-graph (c .before .before .before .before .before .before .args .self) (c .before .before .before .before .before .before .args .key) (c .before .before .before .before .before .before .args .mean .now) (c .before .before .before .before .before .before .args .variance .now) (c .before .before .before .before .before .before .args .store .now) (tells (c .before .before .valid .ensures .0) (not-true _ (c .before .if1 .taken)))) (c .refused .ensures) refl
+returns c =
+    let args = c .before .before .before .before .before .before .args in
+    turned-back (args .self) _ (args .store .now) _ _ _ _ (no-graph (args .self) (args .key) (args .mean .now) (args .variance .now) (args .store .now) (tells (c .before .before .valid .ensures .0) (not-true _ (c .before .if1 .taken)))) (c .refused .ensures) refl
 
 enter-prior-requires : tie.Need-enter-prior-requires
 enter-prior-requires c κs = tells (c .before .before .valid .ensures .0) (not-false _ (c .before .if1 .left))

@@ -26,7 +26,9 @@ refused-requires : tie.Need-refused-requires
 refused-requires c κs = search needs
 
 returns : tie.Need-returns
-returns c = c .refused .ensures ∙ no-graph (c .before .before .before .args .self) (c .before .before .before .args .name) (c .before .before .before .args .size) (tells (c .before .before .valid .ensures .0) (not-true _ (c .before .if1 .taken)))
+returns c =
+    let args = c .before .before .before .args in
+    c .refused .ensures ∙ no-graph (args .self) (args .name) (args .size) (tells (c .before .before .valid .ensures .0) (not-true _ (c .before .if1 .taken)))
 
 enter-variable-requires : tie.Need-enter-variable-requires
 enter-variable-requires c κs = tells (c .before .valid .ensures .0) (not-false _ (c .if1 .left))

@@ -86,7 +86,9 @@ refused-requires c κs = search needs
 
 returns : tie.Need-returns
 unfolding addObservation observationStore
-returns c = turned-back (c .before .before .before .before .before .before .before .before .args .self) _ (c .before .before .before .before .before .before .before .before .args .store .now) _ _ _ _ (outside (c .before .before .before .before .before .before .before .before .args .self) (c .before .before .before .before .before .before .before .before .args .keys .now) (c .before .before .before .before .before .before .before .before .args .rows) (c .before .before .before .before .before .before .before .before .args .a .now) (c .before .before .before .before .before .before .before .before .args .mean .now) (c .before .before .before .before .before .before .before .before .args .variance .now) (c .before .before .before .before .before .before .before .before .args .store .now) (c .before .before .before .before .before .before .before .before .pre) (tells (c .before .before .counts-fit .ensures) (not-true _ (c .before .if1 .taken)))) (c .refused .ensures) refl
+returns c =
+    let args = c .before .before .before .before .before .before .before .before .args in
+    turned-back (args .self) _ (args .store .now) _ _ _ _ (outside (args .self) (args .keys .now) (args .rows) (args .a .now) (args .mean .now) (args .variance .now) (args .store .now) (c .before .before .before .before .before .before .before .before .pre) (tells (c .before .before .counts-fit .ensures) (not-true _ (c .before .if1 .taken)))) (c .refused .ensures) refl
 
 rising-requires : tie.Need-rising-requires
 rising-requires c κs = search needs
@@ -96,7 +98,9 @@ refused-requires-2 c κs = search needs
 
 returns-2 : tie.Need-returns-2
 unfolding addObservation observationStore
-returns-2 c = turned-back (c .before .before .before .before .before .before .before .before .before .before .args .self) _ (c .before .before .before .before .before .before .before .before .before .before .args .store .now) _ _ _ _ (not-rising (c .before .before .before .before .before .before .before .before .before .before .args .self) (c .before .before .before .before .before .before .before .before .before .before .args .keys .now) (c .before .before .before .before .before .before .before .before .before .before .args .rows) (c .before .before .before .before .before .before .before .before .before .before .args .a .now) (c .before .before .before .before .before .before .before .before .before .before .args .mean .now) (c .before .before .before .before .before .before .before .before .before .before .args .variance .now) (c .before .before .before .before .before .before .before .before .before .before .args .store .now) (c .before .before .before .before .before .before .before .before .before .before .pre) (tells (c .before .before .before .before .counts-fit .ensures) (not-false _ (c .before .before .before .if1 .left))) (tells (c .before .before .rising .ensures) (not-true _ (c .before .if2 .taken)))) (c .refused2 .ensures) refl
+returns-2 c =
+    let args = c .before .before .before .before .before .before .before .before .before .before .args in
+    turned-back (args .self) _ (args .store .now) _ _ _ _ (not-rising (args .self) (args .keys .now) (args .rows) (args .a .now) (args .mean .now) (args .variance .now) (args .store .now) (c .before .before .before .before .before .before .before .before .before .before .pre) (tells (c .before .before .before .before .counts-fit .ensures) (not-false _ (c .before .before .before .if1 .left))) (tells (c .before .before .rising .ensures) (not-true _ (c .before .if2 .taken)))) (c .refused2 .ensures) refl
 
 known-requires : tie.Need-known-requires
 known-requires c κs = search needs
@@ -106,19 +110,36 @@ refused-requires-3 c κs = search needs
 
 returns-3 : tie.Need-returns-3
 unfolding addObservation observationStore
-returns-3 c = turned-back (c .before .before .before .before .before .before .before .before .before .before .before .before .args .self) _ (c .before .before .before .before .before .before .before .before .before .before .before .before .args .store .now) _ _ _ _ (no-key (c .before .before .before .before .before .before .before .before .before .before .before .before .args .self) (c .before .before .before .before .before .before .before .before .before .before .before .before .args .keys .now) (c .before .before .before .before .before .before .before .before .before .before .before .before .args .rows) (c .before .before .before .before .before .before .before .before .before .before .before .before .args .a .now) (c .before .before .before .before .before .before .before .before .before .before .before .before .args .mean .now) (c .before .before .before .before .before .before .before .before .before .before .before .before .args .variance .now) (c .before .before .before .before .before .before .before .before .before .before .before .before .args .store .now) (c .before .before .before .before .before .before .before .before .before .before .before .before .pre) (tells (c .before .before .before .before .before .before .counts-fit .ensures) (not-false _ (c .before .before .before .before .before .if1 .left))) (tells (c .before .before .before .before .rising .ensures) (not-false _ (c .before .before .before .if2 .left))) (tells (c .before .before .known .ensures) (not-true _ (c .before .if3 .taken)))) (c .refused3 .ensures) refl
+returns-3 c =
+    let args = c .before .before .before .before .before .before .before .before .before .before .before .before .args in
+    turned-back (args .self) _ (args .store .now) _ _ _ _ (no-key (args .self) (args .keys .now) (args .rows) (args .a .now) (args .mean .now) (args .variance .now) (args .store .now) (c .before .before .before .before .before .before .before .before .before .before .before .before .pre) (tells (c .before .before .before .before .before .before .counts-fit .ensures) (not-false _ (c .before .before .before .before .before .if1 .left))) (tells (c .before .before .before .before .rising .ensures) (not-false _ (c .before .before .before .if2 .left))) (tells (c .before .before .known .ensures) (not-true _ (c .before .if3 .taken)))) (c .refused3 .ensures) refl
 
 observation-of-requires : tie.Need-observation-of-requires
-observation-of-requires c κs = (few (c .before .before .before .before .before .before .before .before .before .before .before .args .self) (c .before .before .before .before .before .before .before .before .before .before .before .args .keys .now) (c .before .before .before .before .before .before .before .before .before .before .before .args .rows) (c .before .before .before .before .before .before .before .before .before .before .before .args .a .now) (c .before .before .before .before .before .before .before .before .before .before .before .args .mean .now) (c .before .before .before .before .before .before .before .before .before .before .before .args .variance .now) (c .before .before .before .before .before .before .before .before .before .before .before .args .store .now) (c .before .before .before .before .before .before .before .before .before .before .before .pre) (tells (c .before .before .before .before .before .counts-fit .ensures) (not-false _ (c .before .before .before .before .if1 .left))), omega (arith, most (c .before .before .before .before .before .before .before .before .before .before .before .args .self) (c .before .before .before .before .before .before .before .before .before .before .before .args .keys .now) (c .before .before .before .before .before .before .before .before .before .before .before .args .rows) (c .before .before .before .before .before .before .before .before .before .before .before .args .a .now) (c .before .before .before .before .before .before .before .before .before .before .before .args .mean .now) (c .before .before .before .before .before .before .before .before .before .before .before .args .variance .now) (c .before .before .before .before .before .before .before .before .before .before .before .args .store .now) (c .before .before .before .before .before .before .before .before .before .before .before .pre) (tells (c .before .before .before .before .before .counts-fit .ensures) (not-false _ (c .before .before .before .before .if1 .left)))), all-known (c .before .before .before .before .before .before .before .before .before .before .before .args .self) (c .before .before .before .before .before .before .before .before .before .before .before .args .keys .now) (c .before .before .before .before .before .before .before .before .before .before .before .args .rows) (c .before .before .before .before .before .before .before .before .before .before .before .args .a .now) (c .before .before .before .before .before .before .before .before .before .before .before .args .mean .now) (c .before .before .before .before .before .before .before .before .before .before .before .args .variance .now) (c .before .before .before .before .before .before .before .before .before .before .before .args .store .now) (c .before .before .before .before .before .before .before .before .before .before .before .pre) (tells (c .before .before .before .before .before .counts-fit .ensures) (not-false _ (c .before .before .before .before .if1 .left))) (tells (c .before .before .before .rising .ensures) (not-false _ (c .before .before .if2 .left))) (tells (c .before .known .ensures) (not-false _ (c .if3 .left))))
+observation-of-requires c κs =
+    let args = c .before .before .before .before .before .before .before .before .before .before .before .args in
+    let pre = c .before .before .before .before .before .before .before .before .before .before .before .pre in
+    let counts-fit = c .before .before .before .before .before .counts-fit in
+    let if1 = c .before .before .before .before .if1 in (
+      few (args .self) (args .keys .now) (args .rows) (args .a .now) (args .mean .now) (args .variance .now) (args .store .now) (pre) (tells (counts-fit .ensures) (not-false _ (if1 .left))),
+      omega (arith, most (args .self) (args .keys .now) (args .rows) (args .a .now) (args .mean .now) (args .variance .now) (args .store .now) (pre) (tells (counts-fit .ensures) (not-false _ (if1 .left)))),
+      all-known (args .self) (args .keys .now) (args .rows) (args .a .now) (args .mean .now) (args .variance .now) (args .store .now) (pre) (tells (counts-fit .ensures) (not-false _ (if1 .left))) (tells (c .before .before .before .rising .ensures) (not-false _ (c .before .before .if2 .left))) (tells (c .before .known .ensures) (not-false _ (c .if3 .left))),
+    )
 
 add-factor-requires : tie.Need-add-factor-requires
-add-factor-requires c κs = (c .before .before .before .before .before .before .before .before .before .before .before .before .before .pre, fitting (c .before .before .before .before .before .before .before .before .before .before .before .before .before .args .self) (c .before .before .before .before .before .before .before .before .before .before .before .before .before .args .keys .now) (c .before .before .before .before .before .before .before .before .before .before .before .before .before .args .rows) (c .before .before .before .before .before .before .before .before .before .before .before .before .before .args .a .now) (c .before .before .before .before .before .before .before .before .before .before .before .before .before .args .mean .now) (c .before .before .before .before .before .before .before .before .before .before .before .before .before .args .variance .now) (c .before .before .before .before .before .before .before .before .before .before .before .before .before .args .store .now) (c .before .before .before .before .before .before .before .before .before .before .before .before .before .pre) (tells (c .before .before .before .before .before .before .before .counts-fit .ensures) (not-false _ (c .before .before .before .before .before .before .if1 .left))) (tells (c .before .before .before .before .before .rising .ensures) (not-false _ (c .before .before .before .before .if2 .left))) (tells (c .before .before .before .known .ensures) (not-false _ (c .before .before .if3 .left))) (c .before .observation-of .result) (c .before .observation-of .ensures))
+add-factor-requires c κs =
+    let args = c .before .before .before .before .before .before .before .before .before .before .before .before .before .args in
+    let pre = c .before .before .before .before .before .before .before .before .before .before .before .before .before .pre in (
+      pre,
+      fitting (args .self) (args .keys .now) (args .rows) (args .a .now) (args .mean .now) (args .variance .now) (args .store .now) (pre) (tells (c .before .before .before .before .before .before .before .counts-fit .ensures) (not-false _ (c .before .before .before .before .before .before .if1 .left))) (tells (c .before .before .before .before .before .rising .ensures) (not-false _ (c .before .before .before .before .if2 .left))) (tells (c .before .before .before .known .ensures) (not-false _ (c .before .before .if3 .left))) (c .before .observation-of .result) (c .before .observation-of .ensures),
+    )
 
 same-length : tie.Need-same-length
 same-length c = search needs
 
 returns-4 : tie.Need-returns-4
-returns-4 c = taken (c .before .before .before .before .before .before .before .before .before .before .before .before .before .before .before .before .args .self) (c .before .before .before .before .before .before .before .before .before .before .before .before .before .before .before .before .args .keys .now) (c .before .before .before .before .before .before .before .before .before .before .before .before .before .before .before .before .args .rows) (c .before .before .before .before .before .before .before .before .before .before .before .before .before .before .before .before .args .a .now) (c .before .before .before .before .before .before .before .before .before .before .before .before .before .before .before .before .args .mean .now) (c .before .before .before .before .before .before .before .before .before .before .before .before .before .before .before .before .args .variance .now) (c .before .before .before .before .before .before .before .before .before .before .before .before .before .before .before .before .args .store .now) (c .before .before .before .before .before .before .before .before .before .before .before .before .before .before .before .before .pre) (tells (c .before .before .before .before .before .before .before .before .before .before .counts-fit .ensures) (not-false _ (c .before .before .before .before .before .before .before .before .before .if1 .left))) (tells (c .before .before .before .before .before .before .before .before .rising .ensures) (not-false _ (c .before .before .before .before .before .before .before .if2 .left))) (tells (c .before .before .before .before .before .before .known .ensures) (not-false _ (c .before .before .before .before .before .if3 .left))) (c .before .before .before .before .observation-of .result) _ _ (c .before .before .before .before .observation-of .ensures) (c .before .before .add-factor .ensures)
+returns-4 c =
+    let args = c .before .before .before .before .before .before .before .before .before .before .before .before .before .before .before .before .args in
+    taken (args .self) (args .keys .now) (args .rows) (args .a .now) (args .mean .now) (args .variance .now) (args .store .now) (c .before .before .before .before .before .before .before .before .before .before .before .before .before .before .before .before .pre) (tells (c .before .before .before .before .before .before .before .before .before .before .counts-fit .ensures) (not-false _ (c .before .before .before .before .before .before .before .before .before .if1 .left))) (tells (c .before .before .before .before .before .before .before .before .rising .ensures) (not-false _ (c .before .before .before .before .before .before .before .if2 .left))) (tells (c .before .before .before .before .before .before .known .ensures) (not-false _ (c .before .before .before .before .before .if3 .left))) (c .before .before .before .before .observation-of .result) _ _ (c .before .before .before .before .observation-of .ensures) (c .before .before .add-factor .ensures)
 
 pub enter-observation-spec : {M : Type 1} → statement M
 enter-observation-spec =

@@ -44,13 +44,18 @@ refused-requires c κs = search needs
 
 returns : tie.Need-returns
 unfolding addPrior priorStore
-returns c = turned-back (c .before .before .before .before .before .before .args .self) _ (c .before .before .before .before .before .before .args .store .now) _ _ _ _ (no-key (c .before .before .before .before .before .before .args .self) (c .before .before .before .before .before .before .args .key) (c .before .before .before .before .before .before .args .mean .now) (c .before .before .before .before .before .before .args .variance .now) (c .before .before .before .before .before .before .args .store .now) (c .before .before .before .before .before .before .pre) (c .before .if1 .taken)) (c .refused .ensures) refl
+returns c =
+    let args = c .before .before .before .before .before .before .args in
+    turned-back (args .self) _ (args .store .now) _ _ _ _ (no-key (args .self) (args .key) (args .mean .now) (args .variance .now) (args .store .now) (c .before .before .before .before .before .before .pre) (c .before .if1 .taken)) (c .refused .ensures) refl
 
 size-of-requires : tie.Need-size-of-requires
 size-of-requires c κs = search needs
 
 prior-of-requires : tie.Need-prior-of-requires
-prior-of-requires c κs = let v : c .before .before .before .before .before .before .before .args .self .variables ≤ max-variables = valid-variables (c .before .before .before .before .before .before .before .args .self) (c .before .before .before .before .before .before .before .pre) in (omega (arith, c .before .before .if1 .left), c .size-of .ensures .1)
+prior-of-requires c κs =
+    let args = c .before .before .before .before .before .before .before .args in
+    let v : args .self .variables ≤ max-variables = valid-variables (args .self) (c .before .before .before .before .before .before .before .pre) in
+    (omega (arith, c .before .before .if1 .left), c .size-of .ensures .1)
 
 sub-add-factor : tie.Need-sub-add-factor
 sub-add-factor c = search needs
@@ -62,13 +67,20 @@ part-add-factor-end : tie.Need-part-add-factor-end
 part-add-factor-end c = search needs
 
 add-factor-requires : tie.Need-add-factor-requires
-add-factor-requires c κs = (c .before .before .before .before .before .before .before .before .before .before .pre, fits-as (c .before .before .before .before .before .before .before .before .before .before .args .self) (c .before .before .before .before .before .before .before .before .before .before .args .key) (c .before .before .before .before .before .before .before .before .before .before .args .mean .now) (c .before .before .before .before .before .before .before .before .before .before .args .variance .now) (c .before .before .before .before .before .before .before .before .before .before .args .store .now) (c .before .before .before .before .before .before .before .before .before .before .pre) (c .before .before .prior-of .result) (c .before .before .before .size-of .result) (c .before .before .before .before .before .if1 .left) (c .before .before .prior-of .ensures) (c .before .before .before .size-of .ensures .0))
+add-factor-requires c κs =
+    let args = c .before .before .before .before .before .before .before .before .before .before .args in
+    let pre = c .before .before .before .before .before .before .before .before .before .before .pre in (
+      pre,
+      fits-as (args .self) (args .key) (args .mean .now) (args .variance .now) (args .store .now) (pre) (c .before .before .prior-of .result) (c .before .before .before .size-of .result) (c .before .before .before .before .before .if1 .left) (c .before .before .prior-of .ensures) (c .before .before .before .size-of .ensures .0),
+    )
 
 same-length : tie.Need-same-length
 same-length c = search needs
 
 returns-2 : tie.Need-returns-2
-returns-2 c = taken (c .before .before .before .before .before .before .before .before .before .before .before .before .before .args .self) (c .before .before .before .before .before .before .before .before .before .before .before .before .before .args .key) (c .before .before .before .before .before .before .before .before .before .before .before .before .before .args .mean .now) (c .before .before .before .before .before .before .before .before .before .before .before .before .before .args .variance .now) (c .before .before .before .before .before .before .before .before .before .before .before .before .before .args .store .now) (c .before .before .before .before .before .before .before .before .before .before .before .before .before .pre) (c .before .before .before .before .before .before .before .before .if1 .left) (c .before .before .before .before .before .prior-of .result) _ _ _ (c .before .before .before .before .before .prior-of .ensures ∙ ap (priorOf (c .before .before .before .before .before .before .before .before .before .before .before .before .before .args .key)) (c .before .before .before .before .before .before .size-of .ensures .0)) refl (c .before .before .add-factor .ensures)
+returns-2 c =
+    let args = c .before .before .before .before .before .before .before .before .before .before .before .before .before .args in
+    taken (args .self) (args .key) (args .mean .now) (args .variance .now) (args .store .now) (c .before .before .before .before .before .before .before .before .before .before .before .before .before .pre) (c .before .before .before .before .before .before .before .before .if1 .left) (c .before .before .before .before .before .prior-of .result) _ _ _ (c .before .before .before .before .before .prior-of .ensures ∙ ap (priorOf (args .key)) (c .before .before .before .before .before .before .size-of .ensures .0)) refl (c .before .before .add-factor .ensures)
 
 pub enter-prior-spec : {M : Type 1} → statement M
 enter-prior-spec =

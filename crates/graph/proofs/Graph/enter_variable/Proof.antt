@@ -55,7 +55,9 @@ refused-requires : tie.Need-refused-requires
 refused-requires c κs = search needs
 
 returns : tie.Need-returns
-returns c = c .refused .ensures ∙ no-letter (c .before .before .before .args .t1) (c .before .before .before .args .name) (c .before .before .before .args .size) (c .before .before .before .pre) (tells (c .before .before .scalar .ensures) (not-true _ (c .before .if1 .taken)))
+returns c =
+    let args = c .before .before .before .args in
+    c .refused .ensures ∙ no-letter (args .t1) (args .name) (args .size) (c .before .before .before .pre) (tells (c .before .before .scalar .ensures) (not-true _ (c .before .if1 .taken)))
 
 size-fits-requires : tie.Need-size-fits-requires
 size-fits-requires c κs = search needs
@@ -64,7 +66,9 @@ refused-requires-2 : tie.Need-refused-requires-2
 refused-requires-2 c κs = search needs
 
 returns-2 : tie.Need-returns-2
-returns-2 c = c .refused2 .ensures ∙ outside (c .before .before .before .before .before .args .t1) (c .before .before .before .before .before .args .name) (c .before .before .before .before .before .args .size) (c .before .before .before .before .before .pre) (tells (c .before .before .before .before .scalar .ensures) (not-false _ (c .before .before .before .if1 .left))) (tells (c .before .before .size-fits .ensures) (not-true _ (c .before .if2 .taken)))
+returns-2 c =
+    let args = c .before .before .before .before .before .args in
+    c .refused2 .ensures ∙ outside (args .t1) (args .name) (args .size) (c .before .before .before .before .before .pre) (tells (c .before .before .before .before .scalar .ensures) (not-false _ (c .before .before .before .if1 .left))) (tells (c .before .before .size-fits .ensures) (not-true _ (c .before .if2 .taken)))
 
 free-requires : tie.Need-free-requires
 free-requires c κs = valid-variables (c .before .before .before .before .args .t1) (c .before .before .before .before .pre)
@@ -73,25 +77,33 @@ refused-requires-3 : tie.Need-refused-requires-3
 refused-requires-3 c κs = search needs
 
 returns-3 : tie.Need-returns-3
-returns-3 c = c .refused3 .ensures ∙ named (c .before .before .before .before .before .before .before .args .t1) (c .before .before .before .before .before .before .before .args .name) (c .before .before .before .before .before .before .before .args .size) (c .before .before .before .before .before .before .before .pre) (tells (c .before .before .before .before .before .before .scalar .ensures) (not-false _ (c .before .before .before .before .before .if1 .left))) (tells (c .before .before .before .before .size-fits .ensures) (not-false _ (c .before .before .before .if2 .left))) (tells (c .before .before .free .ensures) (not-true _ (c .before .if3 .taken)))
+returns-3 c =
+    let args = c .before .before .before .before .before .before .before .args in
+    c .refused3 .ensures ∙ named (args .t1) (args .name) (args .size) (c .before .before .before .before .before .before .before .pre) (tells (c .before .before .before .before .before .before .scalar .ensures) (not-false _ (c .before .before .before .before .before .if1 .left))) (tells (c .before .before .before .before .size-fits .ensures) (not-false _ (c .before .before .before .if2 .left))) (tells (c .before .before .free .ensures) (not-true _ (c .before .if3 .taken)))
 
 refused-requires-4 : tie.Need-refused-requires-4
 refused-requires-4 c κs = search needs
 
 returns-4 : tie.Need-returns-4
-returns-4 c = c .refused4 .ensures ∙ full (c .before .before .before .before .before .before .before .before .args .t1) (c .before .before .before .before .before .before .before .before .args .name) (c .before .before .before .before .before .before .before .before .args .size) (c .before .before .before .before .before .before .before .before .pre) (tells (c .before .before .before .before .before .before .before .scalar .ensures) (not-false _ (c .before .before .before .before .before .before .if1 .left))) (tells (c .before .before .before .before .before .size-fits .ensures) (not-false _ (c .before .before .before .before .if2 .left))) (tells (c .before .before .before .free .ensures) (not-false _ (c .before .before .if3 .left))) (c .before .if4 .taken)
+returns-4 c =
+    let args = c .before .before .before .before .before .before .before .before .args in
+    c .refused4 .ensures ∙ full (args .t1) (args .name) (args .size) (c .before .before .before .before .before .before .before .before .pre) (tells (c .before .before .before .before .before .before .before .scalar .ensures) (not-false _ (c .before .before .before .before .before .before .if1 .left))) (tells (c .before .before .before .before .before .size-fits .ensures) (not-false _ (c .before .before .before .before .if2 .left))) (tells (c .before .before .before .free .ensures) (not-false _ (c .before .before .if3 .left))) (c .before .if4 .taken)
 
 total-requires : tie.Need-total-requires
 total-requires c κs = search needs
 
 add-if5 : tie.Need-add-if5
-add-if5 c = omega (arith, c .total .ensures, valid-total (c .before .before .before .before .before .before .before .before .args .t1) (c .before .before .before .before .before .before .before .before .pre), size-most (c .before .before .before .before .before .before .before .before .args .size) (tells (c .before .before .before .before .before .size-fits .ensures) (not-false _ (c .before .before .before .before .if2 .left))))
+add-if5 c =
+    let args = c .before .before .before .before .before .before .before .before .args in
+    omega (arith, c .total .ensures, valid-total (args .t1) (c .before .before .before .before .before .before .before .before .pre), size-most (args .size) (tells (c .before .before .before .before .before .size-fits .ensures) (not-false _ (c .before .before .before .before .if2 .left))))
 
 refused-requires-5 : tie.Need-refused-requires-5
 refused-requires-5 c κs = search needs
 
 returns-5 : tie.Need-returns-5
-returns-5 c = c .refused5 .ensures ∙ too-large (c .before .before .before .before .before .before .before .before .before .before .args .t1) (c .before .before .before .before .before .before .before .before .before .before .args .name) (c .before .before .before .before .before .before .before .before .before .before .args .size) (c .before .before .before .before .before .before .before .before .before .before .pre) (tells (c .before .before .before .before .before .before .before .before .before .scalar .ensures) (not-false _ (c .before .before .before .before .before .before .before .before .if1 .left))) (tells (c .before .before .before .before .before .before .before .size-fits .ensures) (not-false _ (c .before .before .before .before .before .before .if2 .left))) (tells (c .before .before .before .before .before .free .ensures) (not-false _ (c .before .before .before .before .if3 .left))) (c .before .before .before .if4 .left) (c .before .before .total .result) (c .before .before .total .ensures) (c .before .if5 .taken)
+returns-5 c =
+    let args = c .before .before .before .before .before .before .before .before .before .before .args in
+    c .refused5 .ensures ∙ too-large (args .t1) (args .name) (args .size) (c .before .before .before .before .before .before .before .before .before .before .pre) (tells (c .before .before .before .before .before .before .before .before .before .scalar .ensures) (not-false _ (c .before .before .before .before .before .before .before .before .if1 .left))) (tells (c .before .before .before .before .before .before .before .size-fits .ensures) (not-false _ (c .before .before .before .before .before .before .if2 .left))) (tells (c .before .before .before .before .before .free .ensures) (not-false _ (c .before .before .before .before .if3 .left))) (c .before .before .before .if4 .left) (c .before .before .total .result) (c .before .before .total .ensures) (c .before .if5 .taken)
 
 mul-name : tie.Need-mul-name
 mul-name c = search needs
@@ -109,7 +121,9 @@ add-self : tie.Need-add-self
 add-self c = search needs
 
 returns-6 : tie.Need-returns-6
-returns-6 c = taken (c .before .before .before .before .before .before .before .before .before .args .t1) (c .before .before .before .before .before .before .before .before .before .args .name) (c .before .before .before .before .before .before .before .before .before .args .size) (c .before .before .before .before .before .before .before .before .before .pre) (tells (c .before .before .before .before .before .before .before .before .scalar .ensures) (not-false _ (c .before .before .before .before .before .before .before .if1 .left))) (tells (c .before .before .before .before .before .before .size-fits .ensures) (not-false _ (c .before .before .before .before .before .if2 .left))) (tells (c .before .before .before .before .free .ensures) (not-false _ (c .before .before .before .if3 .left))) (c .before .before .if4 .left) (c .before .total .result) (c .before .total .ensures) (c .if5 .left)
+returns-6 c =
+    let args = c .before .before .before .before .before .before .before .before .before .args in
+    taken (args .t1) (args .name) (args .size) (c .before .before .before .before .before .before .before .before .before .pre) (tells (c .before .before .before .before .before .before .before .before .scalar .ensures) (not-false _ (c .before .before .before .before .before .before .before .if1 .left))) (tells (c .before .before .before .before .before .before .size-fits .ensures) (not-false _ (c .before .before .before .before .before .if2 .left))) (tells (c .before .before .before .before .free .ensures) (not-false _ (c .before .before .before .if3 .left))) (c .before .before .if4 .left) (c .before .total .result) (c .before .total .ensures) (c .if5 .left)
 
 pub enter-variable-spec : {M : Type 1} → statement M
 enter-variable-spec =

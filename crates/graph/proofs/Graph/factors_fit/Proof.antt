@@ -35,7 +35,10 @@ factor-place-requires c κs = search needs
 
 returns : tie.Need-returns Inv-loop μ-loop
 unfolding factorsFit
-returns c = (sym (all-fail (λ i. factorPlace (c .before .before .before .before .before .before .args .t1) i) max-factors (c .before .before .before .before .loop .number) (search needs) (tells (placed-is (c .before .before .before .before .before .before .args .t1) (c .before .before .before .before .loop .number) _ _ _ refl refl (c .before .factor-place .ensures .0)) (not-true _ (c .if1 .taken)))), λ x. absurd (false≢true x))
+returns c = (
+  sym (all-fail (λ i. factorPlace (c .before .before .before .before .before .before .args .t1) i) max-factors (c .before .before .before .before .loop .number) (search needs) (tells (placed-is (c .before .before .before .before .before .before .args .t1) (c .before .before .before .before .loop .number) _ _ _ refl refl (c .before .factor-place .ensures .0)) (not-true _ (c .if1 .taken)))),
+  λ x. absurd (false≢true x),
+)
 
 add-number : tie.Need-add-number Inv-loop μ-loop
 add-number c = search needs
@@ -44,11 +47,18 @@ loop-less : tie.Need-loop-less Inv-loop μ-loop
 loop-less c = search needs
 
 loop-again : tie.Need-loop-again Inv-loop μ-loop
-loop-again c = (search needs, all-more _ _ (c .before .before .before .before .loop .inv .1) (tells (placed-is (c .before .before .before .before .before .before .args .t1) (c .before .before .before .before .loop .number) _ _ _ refl refl (c .before .factor-place .ensures .0)) (not-false _ (c .if1 .left))), below-more _ _ (c .before .before .before .before .loop .inv .2) (c .before .factor-place .ensures .1))
+loop-again c =
+    let loop = c .before .before .before .before .loop in (
+      search needs,
+      all-more _ _ (loop .inv .1) (tells (placed-is (c .before .before .before .before .before .before .args .t1) (loop .number) _ _ _ refl refl (c .before .factor-place .ensures .0)) (not-false _ (c .if1 .left))),
+      below-more _ _ (loop .inv .2) (c .before .factor-place .ensures .1),
+    )
 
 returns-2 : tie.Need-returns-2 Inv-loop μ-loop
 unfolding factorsFit
-returns-2 c = let e : c .before .loop .number ≡ max-factors = omega arith in (sym (rw e at (c .before .loop .inv .1)), λ _ i l. c .before .loop .inv .2 i (omega arith))
+returns-2 c =
+    let e : c .before .loop .number ≡ max-factors = omega arith in
+    (sym (rw e at (c .before .loop .inv .1)), λ _ i l. c .before .loop .inv .2 i (omega arith))
 
 pub factors-fit-spec : {M : Type 1} → statement M
 factors-fit-spec =

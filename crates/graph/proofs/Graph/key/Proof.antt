@@ -63,7 +63,9 @@ same-requires : tie.Need-same-requires Inv-loop μ-loop
 same-requires c κs = search needs
 
 returns-2 : tie.Need-returns-2 Inv-loop μ-loop
-returns-2 c = here (c .before .before .before .before .before .before .before .args .t1) (c .before .before .before .before .before .before .before .args .name) (c .before .before .before .before .before .before .loop .key) max-variables _ (omega arith) (c .before .before .before .before .before .before .loop .inv .1) (tells (c .before .before .before .before .has-key .ensures) (not-false _ (c .before .before .before .if1 .left))) (tells (c .before .same .ensures) (c .if2 .taken))
+returns-2 c =
+    let args = c .before .before .before .before .before .before .before .args in
+    here (args .t1) (args .name) (c .before .before .before .before .before .before .loop .key) max-variables _ (omega arith) (c .before .before .before .before .before .before .loop .inv .1) (tells (c .before .before .before .before .has-key .ensures) (not-false _ (c .before .before .before .if1 .left))) (tells (c .before .same .ensures) (c .if2 .taken))
 
 add-key : tie.Need-add-key Inv-loop μ-loop
 add-key c = search needs
@@ -72,7 +74,11 @@ loop-less : tie.Need-loop-less Inv-loop μ-loop
 loop-less c = search needs
 
 loop-again : tie.Need-loop-again Inv-loop μ-loop
-loop-again c = (search needs, past (c .before .before .before .before .before .before .before .args .t1) (c .before .before .before .before .before .before .before .args .name) (c .before .before .before .before .before .before .loop .key) max-variables _ (omega arith) (c .before .before .before .before .before .before .loop .inv .1) (tells (c .before .before .before .before .has-key .ensures) (not-false _ (c .before .before .before .if1 .left))) (tells (c .before .same .ensures) (c .if2 .left)))
+loop-again c =
+    let args = c .before .before .before .before .before .before .before .args in (
+      search needs,
+      past (args .t1) (args .name) (c .before .before .before .before .before .before .loop .key) max-variables _ (omega arith) (c .before .before .before .before .before .before .loop .inv .1) (tells (c .before .before .before .before .has-key .ensures) (not-false _ (c .before .before .before .if1 .left))) (tells (c .before .same .ensures) (c .if2 .left)),
+    )
 
 returns-3 : tie.Need-returns-3 Inv-loop μ-loop
 returns-3 c = none-left (c .before .before .args .t1) (c .before .before .args .name) (c .before .loop .key) max-variables _ (omega arith) (c .before .loop .inv .1)

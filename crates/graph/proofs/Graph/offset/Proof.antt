@@ -40,11 +40,22 @@ loop-less : tie.Need-loop-less Inv-loop μ-loop
 loop-less c = search needs
 
 loop-again : tie.Need-loop-again Inv-loop μ-loop
-loop-again c = (omega arith, omega (arith, c .numbers .ensures .1, c .before .before .before .loop .inv .1), ap (λ (x : ℕ). c .before .before .before .loop .sum + x) (c .numbers .ensures .0) ∙ ap (λ (x : ℕ). x + numbers (c .before .before .before .before .before .args .t1 .sizes) (factorAt (c .before .before .before .before .before .args .t1) (c .before .before .before .loop .i))) (c .before .before .before .loop .inv .2) ∙ sym (sum-more (λ k. numbers (c .before .before .before .before .before .args .t1 .sizes) (factorAt (c .before .before .before .before .before .args .t1) k)) (c .before .before .before .loop .i)))
+loop-again c =
+    let args = c .before .before .before .before .before .args in
+    let loop = c .before .before .before .loop in (
+      omega arith,
+      omega (arith, c .numbers .ensures .1, loop .inv .1),
+      ap (λ (x : ℕ). loop .sum + x) (c .numbers .ensures .0) ∙ ap (λ (x : ℕ). x + numbers (args .t1 .sizes) (factorAt (args .t1) (loop .i))) (loop .inv .2) ∙ sym (sum-more (λ k. numbers (args .t1 .sizes) (factorAt (args .t1) k)) (loop .i)),
+    )
 
 returns : tie.Need-returns Inv-loop μ-loop
 unfolding offset
-returns c = let e : c .before .loop .i ≡ c .before .before .before .args .number = omega arith in (c .before .loop .inv .2 ∙ ap (counting.sum (λ k. numbers (c .before .before .before .args .t1 .sizes) (factorAt (c .before .before .before .args .t1) k))) e, omega (arith, c .before .loop .inv .1, valid-count (c .before .before .before .args .t1) (c .before .before .before .pre .0)))
+returns c =
+    let args = c .before .before .before .args in
+    let e : c .before .loop .i ≡ args .number = omega arith in (
+      c .before .loop .inv .2 ∙ ap (counting.sum (λ k. numbers (args .t1 .sizes) (factorAt (args .t1) k))) e,
+      omega (arith, c .before .loop .inv .1, valid-count (args .t1) (c .before .before .before .pre .0)),
+    )
 
 pub offset-spec : {M : Type 1} → statement M
 offset-spec =

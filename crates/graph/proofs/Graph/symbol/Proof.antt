@@ -28,10 +28,14 @@ returns : tie.Need-returns
 returns c = without (c .before .before .args .t1) (c .before .before .args .key) (tells (c .before .has-key .ensures) (not-true _ (c .if1 .taken)))
 
 mul-name : tie.Need-mul-name
-mul-name c = let k : c .before .before .args .key < max-variables = ltb-true _ _ (every-at _ 1 (tells (c .before .has-key .ensures) (not-false _ (c .if1 .left)))) in omega arith
+mul-name c =
+    let k : c .before .before .args .key < max-variables = ltb-true _ _ (every-at _ 1 (tells (c .before .has-key .ensures) (not-false _ (c .if1 .left)))) in
+    omega arith
 
 element-copy-out-name : tie.Need-element-copy-out-name
-element-copy-out-name c = let k : c .before .before .args .key < max-variables = ltb-true _ _ (every-at _ 1 (tells (c .before .has-key .ensures) (not-false _ (c .if1 .left)))) in omega arith
+element-copy-out-name c =
+    let k : c .before .before .args .key < max-variables = ltb-true _ _ (every-at _ 1 (tells (c .before .has-key .ensures) (not-false _ (c .if1 .left)))) in
+    omega arith
 
 returns-2 : tie.Need-returns-2
 returns-2 c = with-key (c .before .before .before .args .t1) (c .before .before .before .args .key) (tells (c .before .before .has-key .ensures) (not-false _ (c .before .if1 .left)))

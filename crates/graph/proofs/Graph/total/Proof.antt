@@ -55,7 +55,9 @@ loop-again c =
     (omega arith, omega (arith, b .fits, c .before .before .loop .inv .1), added (c .before .before .before .args .t1) (c .before .before .loop .key) (c .before .before .loop .inv .2))
 
 returns : tie.Need-returns Inv-loop μ-loop
-returns c = let e : c .before .loop .key ≡ max-variables = omega arith in summed (c .before .before .args .t1) (c .before .loop .key) e (c .before .loop .inv .2)
+returns c =
+    let e : c .before .loop .key ≡ max-variables = omega arith in
+    summed (c .before .before .args .t1) (c .before .loop .key) e (c .before .loop .inv .2)
 
 pub total-spec : {M : Type 1} → statement M
 total-spec =

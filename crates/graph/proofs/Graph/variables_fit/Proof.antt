@@ -38,7 +38,10 @@ variable-place-requires c κs = search needs
 
 returns : tie.Need-returns Inv-loop μ-loop
 unfolding variablesFit
-returns c = sym (all-fail (λ i. place (c .before .before .before .before .before .before .before .before .args .t1) i) max-variables (c .before .before .before .before .before .before .before .loop .key) (search needs) (tells (variable-placed (c .before .before .before .before .before .before .before .before .args .t1) (c .before .before .before .before .before .before .before .loop .letters) (c .before .before .before .before .before .before .before .loop .indices) (c .before .before .before .before .before .before .before .loop .key) _ _ (c .before .before .before .before .before .before .before .loop .inv .4) refl (c .before .variable-place .ensures)) (not-true _ (c .if1 .taken))))
+returns c =
+    let args = c .before .before .before .before .before .before .before .before .args in
+    let loop = c .before .before .before .before .before .before .before .loop in
+    sym (all-fail (λ i. place (args .t1) i) max-variables (loop .key) (search needs) (tells (variable-placed (args .t1) (loop .letters) (loop .indices) (loop .key) _ _ (loop .inv .4) refl (c .before .variable-place .ensures)) (not-true _ (c .if1 .taken))))
 
 mul-letters : tie.Need-mul-letters Inv-loop μ-loop
 mul-letters c = search needs

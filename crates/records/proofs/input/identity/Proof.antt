@@ -61,13 +61,21 @@ loop-less : tie.Need-loop-less Inv-loop μ-loop
 loop-less c = search needs
 
 loop-again : tie.Need-loop-again Inv-loop μ-loop
-loop-again c = (c .before .before .loop .inv .0, omega arith, simp length-set (c .before .before .loop .inv .2), fill-more (λ k. unitAt (c .before .before .before .before .args .n) k) (c .before .before .before .before .args .out .now) (c .before .before .loop .out) (c .before .before .loop .i) _ (omega arith) (c .before .before .loop .inv .3) (c .unit .ensures))
+loop-again c =
+    let loop = c .before .before .loop in (
+      loop .inv .0,
+      omega arith,
+      simp length-set (loop .inv .2),
+      fill-more (λ k. unitAt (c .before .before .before .before .args .n) k) (c .before .before .before .before .args .out .now) (loop .out) (loop .i) _ (omega arith) (loop .inv .3) (c .unit .ensures),
+    )
 
 same-length : tie.Need-same-length Inv-loop μ-loop
 same-length c = c .before .loop .inv .2
 
 returns : tie.Need-returns Inv-loop μ-loop
-returns c = rw (← identity-listed (c .before .before .before .args .n)) (fill-done (λ k. unitAt (c .before .before .before .args .n) k) (c .before .before .before .args .out .now) (c .before .loop .out) (c .before .loop .i) (c .before .before .before .args .n * c .before .before .before .args .n) (omega arith) (c .before .loop .inv .3))
+returns c =
+    let args = c .before .before .before .args in
+    rw (← identity-listed (args .n)) (fill-done (λ k. unitAt (args .n) k) (args .out .now) (c .before .loop .out) (c .before .loop .i) (args .n * args .n) (omega arith) (c .before .loop .inv .3))
 
 pub identity-spec : {M : Type 1} → statement M
 identity-spec =

@@ -17,7 +17,11 @@ abbrev μ-loop : tie.MeasureT-loop
 μ-loop bytes at out₀ n i₀ out i = n - i
 
 loop-holds : tie.Need-loop-holds Inv-loop μ-loop
-loop-holds c = (omega arith, refl, fill-none (λ k. byteAt (c .before .before .args .bytes .now) (c .before .before .args .at + k)) (c .before .before .args .out .now))
+loop-holds c = (
+  omega arith,
+  refl,
+  fill-none (λ k. byteAt (c .before .before .args .bytes .now) (c .before .before .args .at + k)) (c .before .before .args .out .now),
+)
 
 add-byte : tie.Need-add-byte Inv-loop μ-loop
 add-byte c = search needs
@@ -38,13 +42,21 @@ loop-less : tie.Need-loop-less Inv-loop μ-loop
 loop-less c = search needs
 
 loop-again : tie.Need-loop-again Inv-loop μ-loop
-loop-again c = (omega arith, simp length-set (c .before .before .loop .inv .1), fill-more (λ k. byteAt (c .before .before .before .before .before .args .bytes .now) (c .before .before .before .before .before .args .at + k)) (c .before .before .before .before .before .args .out .now) (c .before .before .loop .out) (c .before .before .loop .i) _ (omega arith) (c .before .before .loop .inv .2) (c .byte .ensures .0))
+loop-again c =
+    let args = c .before .before .before .before .before .args in
+    let loop = c .before .before .loop in (
+      omega arith,
+      simp length-set (loop .inv .1),
+      fill-more (λ k. byteAt (args .bytes .now) (args .at + k)) (args .out .now) (loop .out) (loop .i) _ (omega arith) (loop .inv .2) (c .byte .ensures .0),
+    )
 
 same-length : tie.Need-same-length Inv-loop μ-loop
 same-length c = c .before .loop .inv .1
 
 returns : tie.Need-returns Inv-loop μ-loop
-returns c = fill-done (λ k. byteAt (c .before .before .before .before .args .bytes .now) (c .before .before .before .before .args .at + k)) (c .before .before .before .before .args .out .now) (c .before .loop .out) (c .before .loop .i) (c .before .before .before .before .args .n) (omega arith) (c .before .loop .inv .2)
+returns c =
+    let args = c .before .before .before .before .args in
+    fill-done (λ k. byteAt (args .bytes .now) (args .at + k)) (args .out .now) (c .before .loop .out) (c .before .loop .i) (args .n) (omega arith) (c .before .loop .inv .2)
 
 pub keys-spec : {M : Type 1} → statement M
 keys-spec =

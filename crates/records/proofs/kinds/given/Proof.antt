@@ -24,7 +24,10 @@ returns : tie.Need-returns
 returns c = search needs
 
 returns-2 : tie.Need-returns-2
-returns-2 c = (ap (λ (f : Flag). given f (c .before .before .args .rows)) (sym (c .enum-told2 .given .1)), mul-le-mul (c .before .before .pre) (c .before .before .pre))
+returns-2 c = (
+  ap (λ (f : Flag). given f (c .before .before .args .rows)) (sym (c .enum-told2 .given .1)),
+  mul-le-mul (c .before .before .pre) (c .before .before .pre),
+)
 
 returns-3 : tie.Need-returns-3
 returns-3 c = search needs

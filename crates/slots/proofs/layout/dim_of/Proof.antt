@@ -32,7 +32,9 @@ wide-requires : tie.Need-wide-requires Inv-loop μ-loop
 wide-requires c κs = search needs
 
 add-sum : tie.Need-add-sum Inv-loop μ-loop
-add-sum c = omega (arith, dim-next (c .before .before .before .before .before .args .list .now) (c .before .before .before .loop .i) (omega (arith, c .before .before .loop-test .taken, c .before .before .before .loop .inv .1)) (c .before .before .before .before .before .args .t2), c .before .before .before .loop .inv .2, c .before .before .before .before .before .pre .total, c .wide .ensures)
+add-sum c =
+    let loop = c .before .before .before .loop in
+    omega (arith, dim-next (c .before .before .before .before .before .args .list .now) (loop .i) (omega (arith, c .before .before .loop-test .taken, loop .inv .1)) (c .before .before .before .before .before .args .t2), loop .inv .2, c .before .before .before .before .before .pre .total, c .wide .ensures)
 
 add-i : tie.Need-add-i Inv-loop μ-loop
 add-i c = omega arith
@@ -41,7 +43,12 @@ loop-less : tie.Need-loop-less Inv-loop μ-loop
 loop-less c = omega arith
 
 loop-again : tie.Need-loop-again Inv-loop μ-loop
-loop-again c = (omega arith, omega arith, omega (arith, dim-next (c .before .before .before .before .before .args .list .now) (c .before .before .before .loop .i) (omega (arith, c .before .before .loop-test .taken, c .before .before .before .loop .inv .1)) (c .before .before .before .before .before .args .t2), c .before .before .before .loop .inv .2, c .wide .ensures))
+loop-again c =
+    let loop = c .before .before .before .loop in (
+      omega arith,
+      omega arith,
+      omega (arith, dim-next (c .before .before .before .before .before .args .list .now) (loop .i) (omega (arith, c .before .before .loop-test .taken, loop .inv .1)) (c .before .before .before .before .before .args .t2), loop .inv .2, c .wide .ensures),
+    )
 
 returns : tie.Need-returns Inv-loop μ-loop
 returns c = omega (arith, ap (λ (l : List ℕ). dimOf (c .before .before .before .args .t2) l) (at-end (c .before .before .before .args .list .now) (c .before .loop .i) (omega (arith, c .before .loop .inv .1))), c .before .loop .inv .2)

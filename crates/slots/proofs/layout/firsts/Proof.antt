@@ -50,13 +50,18 @@ wide-requires : tie.Need-wide-requires Inv-loop μ-loop
 wide-requires c κs = search needs
 
 sub-column : tie.Need-sub-column Inv-loop μ-loop
-sub-column c = omega (arith, c .wide .ensures, c .before .before .before .loop .inv .2, dim-rest (c .before .before .before .before .before .before .args .t2) (c .before .before .before .before .before .before .args .list .now) (c .before .before .before .loop .i - 1), dim-back (c .before .before .before .before .before .before .args .t2) (c .before .before .before .before .before .before .args .list .now) (c .before .before .before .loop .i - 1) (c .before .before .before .loop .i) (omega (arith, c .before .before .loop-test .taken)) (omega (arith, c .before .before .loop-test .taken, c .before .before .before .loop .inv .0)))
+sub-column c =
+    let args = c .before .before .before .before .before .before .args in
+    let loop = c .before .before .before .loop in
+    omega (arith, c .wide .ensures, loop .inv .2, dim-rest (args .t2) (args .list .now) (loop .i - 1), dim-back (args .t2) (args .list .now) (loop .i - 1) (loop .i) (omega (arith, c .before .before .loop-test .taken)) (omega (arith, c .before .before .loop-test .taken, loop .inv .0)))
 
 cast-r-2 : tie.Need-cast-r-2 Inv-loop μ-loop
 cast-r-2 c = omega (arith, c .before .before .before .loop .inv .2, c .before .before .before .before .before .before .pre .total)
 
 array-write-r : tie.Need-array-write-r Inv-loop μ-loop
-array-write-r c = omega (arith, c .before .before .before .loop .inv .1, c .before .before .before .before .before .before .pre .known (c .before .before .before .loop .i - 1) (omega (arith, c .before .before .loop-test .taken, c .before .before .before .loop .inv .0)))
+array-write-r c =
+    let loop = c .before .before .before .loop in
+    omega (arith, loop .inv .1, c .before .before .before .before .before .before .pre .known (loop .i - 1) (omega (arith, c .before .before .loop-test .taken, loop .inv .0)))
 
 loop-less : tie.Need-loop-less Inv-loop μ-loop
 loop-less c = omega (arith, c .before .before .loop-test .taken)

@@ -45,7 +45,11 @@ loop-again c =
     )
 
 returns : tie.Need-returns Inv-loop μ-loop
-returns c = let e : c .before .loop .i ≡ 0 = omega (arith, c .loop-test .left) in (c .before .loop .inv .1, subst (λ (n : ℕ). (key : ℕ) → key < 32 → getD (c .before .loop .r) key false ≡ member key (drop n (c .before .before .args .list .now))) e (c .before .loop .inv .2))
+returns c =
+    let e : c .before .loop .i ≡ 0 = omega (arith, c .loop-test .left) in (
+      c .before .loop .inv .1,
+      subst (λ (n : ℕ). (key : ℕ) → key < 32 → getD (c .before .loop .r) key false ≡ member key (drop n (c .before .before .args .list .now))) e (c .before .loop .inv .2),
+    )
 
 pub marks-spec : {M : Type 1} → statement M
 marks-spec =

@@ -25,7 +25,9 @@ shared-slice-read-if1 : tie.Need-shared-slice-read-if1 Inv-loop μ-loop
 shared-slice-read-if1 c = omega arith
 
 returns : tie.Need-returns Inv-loop μ-loop
-returns c = sym (member-here (c .before .before .before .before .args .list .now) (c .before .before .before .loop .i) (omega (arith, c .before .before .loop-test .taken, c .before .before .before .loop .inv .1)) (c .before .before .before .before .args .key) (c .if1 .taken)) ∙ c .before .before .before .loop .inv .2
+returns c =
+    let loop = c .before .before .before .loop in
+    sym (member-here (c .before .before .before .before .args .list .now) (loop .i) (omega (arith, c .before .before .loop-test .taken, loop .inv .1)) (c .before .before .before .before .args .key) (c .if1 .taken)) ∙ loop .inv .2
 
 add-i : tie.Need-add-i Inv-loop μ-loop
 add-i c = omega arith
@@ -34,7 +36,12 @@ loop-less : tie.Need-loop-less Inv-loop μ-loop
 loop-less c = omega arith
 
 loop-again : tie.Need-loop-again Inv-loop μ-loop
-loop-again c = (omega arith, omega arith, sym (member-next (c .before .before .before .before .args .list .now) (c .before .before .before .loop .i) (omega (arith, c .before .before .loop-test .taken, c .before .before .before .loop .inv .1)) (c .before .before .before .before .args .key) (c .if1 .left)) ∙ c .before .before .before .loop .inv .2)
+loop-again c =
+    let loop = c .before .before .before .loop in (
+      omega arith,
+      omega arith,
+      sym (member-next (c .before .before .before .before .args .list .now) (loop .i) (omega (arith, c .before .before .loop-test .taken, loop .inv .1)) (c .before .before .before .before .args .key) (c .if1 .left)) ∙ loop .inv .2,
+    )
 
 returns-2 : tie.Need-returns-2 Inv-loop μ-loop
 returns-2 c = ap (λ (l : List ℕ). member (c .before .before .args .key) l) (sym (at-end (c .before .before .args .list .now) (c .before .loop .i) (omega (arith, c .before .loop .inv .1)))) ∙ c .before .loop .inv .2

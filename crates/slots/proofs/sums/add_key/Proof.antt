@@ -8,13 +8,24 @@ use Rattle.slots.proofs.sums.add_key.Statement.{statement}
 use Rattle.slots.proofs.sums.add_key.Tie as tie
 
 add-own-requires : tie.Need-add-own-requires
-add-own-requires c κs = ((c .before .before .before .before .before .before .before .before .pre .0), (((c .before .before .before .before .before .before .before .before .pre .1 .0 .0), (c .before .before .before .before .before .before .before .before .pre .1 .0 .1)), (c .before .before .before .before .before .before .before .before .pre .1 .1 .0)))
+add-own-requires c κs =
+    let pre = c .before .before .before .before .before .before .before .before .pre in
+    ((pre .0), (((pre .1 .0 .0), (pre .1 .0 .1)), (pre .1 .1 .0)))
 
 gemm-requires : tie.Need-gemm-requires
-gemm-requires c κs = (λ i j hi hj. dense _ _ _ (c .before .before .before .before .before .before .before .before .before .before .before .before .pre .1 .0 .2) i j hi hj, (dense-flip (c .before .before .before .before .before .before .before .before .before .before .before .before .args .y) (c .before .before .before .before .before .before .before .before .before .before .before .before .args .k .size) _ (c .before .before .before .before .before .before .before .before .before .before .before .before .pre .1 .1 .0 .0), λ i j hi hj. dense _ _ _ (c .before .before .before .before .before .before .before .before .before .before .before .before .pre .1 .1 .0 .2) i j hi hj))
+gemm-requires c κs =
+    let args = c .before .before .before .before .before .before .before .before .before .before .before .before .args in
+    let pre = c .before .before .before .before .before .before .before .before .before .before .before .before .pre in (
+      λ i j hi hj. dense _ _ _ (pre .1 .0 .2) i j hi hj,
+      (dense-flip (args .y) (args .k .size) _ (pre .1 .1 .0 .0), λ i j hi hj. dense _ _ _ (pre .1 .1 .0 .2) i j hi hj),
+    )
 
 add-products-requires : tie.Need-add-products-requires
-add-products-requires c κs = (relaid (c .before .before .before .before .before .before .before .before .before .before .before .before .before .before .before .before .before .args .f) (c .before .before .before .before .before .before .before .before .add-own .kept .0) (c .before .before .before .before .before .before .before .before .before .before .before .before .before .before .before .before .before .pre .0), (((c .before .before .before .before .before .before .before .before .before .before .before .before .before .before .before .before .before .pre .1 .0 .0) .square, (c .before .before .before .before .before .before .before .before .before .before .before .before .before .before .before .before .before .pre .1 .0 .1), omega (arith, c .before .before .before .before .gemm .kept .0, (c .before .before .before .before .before .before .before .before .before .before .before .before .before .before .before .before .before .pre .1 .0 .2))), ((c .before .before .before .before .before .before .before .before .before .before .before .before .before .before .before .before .before .pre .1 .1 .1 .0), (c .before .before .before .before .before .before .before .before .before .before .before .before .before .before .before .before .before .pre .1 .1 .1 .1))))
+add-products-requires c κs =
+    let pre = c .before .before .before .before .before .before .before .before .before .before .before .before .before .before .before .before .before .pre in (
+      relaid (c .before .before .before .before .before .before .before .before .before .before .before .before .before .before .before .before .before .args .f) (c .before .before .before .before .before .before .before .before .add-own .kept .0) (pre .0),
+      (((pre .1 .0 .0) .square, (pre .1 .0 .1), omega (arith, c .before .before .before .before .gemm .kept .0, (pre .1 .0 .2))), ((pre .1 .1 .1 .0), (pre .1 .1 .1 .1))),
+    )
 
 same-length : tie.Need-same-length
 same-length c = search needs
@@ -23,7 +34,9 @@ same-length-2 : tie.Need-same-length-2
 same-length-2 c = search needs
 
 returns : tie.Need-returns
-returns c = key-is (c .before .before .before .before .before .before .before .before .before .before .before .before .before .before .before .before .before .before .before .before .args .z) (c .before .before .before .before .before .before .before .before .before .before .before .before .before .before .before .before .before .before .before .before .args .f) (c .before .before .before .before .before .before .before .before .before .before .before .before .before .before .before .before .before .before .before .before .args .layout) (c .before .before .before .before .before .before .before .before .before .before .before .before .before .before .before .before .before .before .before .before .args .row) (c .before .before .before .before .before .before .before .before .before .before .before .before .before .before .before .before .before .before .before .before .args .keys .now) (c .before .before .before .before .before .before .before .before .before .before .before .before .before .before .before .before .before .before .before .before .args .y) (c .before .before .before .before .before .before .before .before .before .before .before .before .before .before .before .before .before .before .before .before .args .a .now) (c .before .before .before .before .before .before .before .before .before .before .before .before .before .before .before .before .before .before .before .before .args .xi .now) (c .before .before .before .before .before .before .before .before .before .before .before .before .before .before .before .before .before .before .before .before .args .w .now) (c .before .before .before .before .before .before .before .before .before .before .before .before .before .before .before .before .before .before .before .before .args .k) (c .before .before .before .before .before .before .before .before .before .before .before .before .before .before .before .before .before .before .before .before .args .b .now) (c .before .before .before .before .before .before .before .before .before .before .before .before .before .before .before .before .before .before .before .before .args .t .now) _ _ _ _ (c .before .before .before .before .before .before .before .before .before .before .before .before .before .before .before .before .before .before .before .before .pre .1 .0 .2) (c .before .before .before .before .before .before .before .before .before .before .before .add-own .ensures) (c .before .before .before .before .before .before .before .gemm .ensures) (c .before .before .add-products .ensures)
+returns c =
+    let args = c .before .before .before .before .before .before .before .before .before .before .before .before .before .before .before .before .before .before .before .before .args in
+    key-is (args .z) (args .f) (args .layout) (args .row) (args .keys .now) (args .y) (args .a .now) (args .xi .now) (args .w .now) (args .k) (args .b .now) (args .t .now) _ _ _ _ (c .before .before .before .before .before .before .before .before .before .before .before .before .before .before .before .before .before .before .before .before .pre .1 .0 .2) (c .before .before .before .before .before .before .before .before .before .before .before .add-own .ensures) (c .before .before .before .before .before .before .before .gemm .ensures) (c .before .before .add-products .ensures)
 
 pub add-key-spec : {M : Type 1} → statement M
 add-key-spec =

@@ -35,13 +35,26 @@ find-requires : tie.Need-find-requires Inv-loop μ-loop
 find-requires c κs = c .before .before .before .before .before .before .before .before .before .pre .1 .1 .1 .0 (c .before .before .loop .i) (omega (arith, c .before .loop-test .taken, c .before .before .loop .inv .1)) .listed
 
 block-at-requires : tie.Need-block-at-requires Inv-loop μ-loop
-block-at-requires c κs = column-fits (c .before .before .before .loop .i) (c .before .before .before .before .before .before .before .before .before .before .pre .1 .1 .1 .1) (omega (arith, c .before .before .loop-test .taken, c .before .before .before .loop .inv .1)) (c .before .before .before .loop .inv .3) (ap (λ (s : Spot). s .size) (c .find .ensures)) .2
+block-at-requires c κs =
+    let loop = c .before .before .before .loop in
+    column-fits (loop .i) (c .before .before .before .before .before .before .before .before .before .before .pre .1 .1 .1 .1) (omega (arith, c .before .before .loop-test .taken, loop .inv .1)) (loop .inv .3) (ap (λ (s : Spot). s .size) (c .find .ensures)) .2
 
 add-key-requires : tie.Need-add-key-requires Inv-loop μ-loop
-add-key-requires c κs = let b = column-fits (c .before .before .before .before .before .before .loop .i) (c .before .before .before .before .before .before .before .before .before .before .before .before .before .pre .1 .1 .1 .1) (omega (arith, c .before .before .before .before .before .loop-test .taken, c .before .before .before .before .before .before .loop .inv .1)) (c .before .before .before .before .before .before .loop .inv .3) (ap (λ (s : Spot). s .size) (c .before .before .before .find .ensures)) in let k = c .before .before .before .before .before .before .before .before .before .before .before .before .before .pre .1 .1 .1 .0 (c .before .before .before .before .before .before .loop .i) (omega (arith, c .before .before .before .before .before .loop-test .taken, c .before .before .before .before .before .before .loop .inv .1)) in (relaid _ (c .before .before .before .before .before .before .loop .inv .2) (c .before .before .before .before .before .before .before .before .before .before .before .before .before .pre .0), ((c .before .before .before .before .before .before .before .before .before .before .before .before .before .pre .1 .0 .0, rw (c .before .before .before .find .ensures) (k .sits), rw (c .before .before .before .find .ensures) (scratch _ _ _ _ (k .small) (c .before .before .before .before .before .before .before .before .before .before .before .before .before .pre .1 .0 .1) (c .before .before .before .before .before .before .loop .inv .5))), ((fits-block (c .before .before .before .before .before .before .before .before .before .before .before .before .before .args .a .now) _ _ (c .before .before .before .before .before .before .loop .column) _ (c .before .before .block-at .ensures) (b .2), c .before .before .before .before .before .before .before .before .before .before .before .before .before .pre .1 .1 .0 .0, c .before .before .before .before .before .before .before .before .before .before .before .before .before .pre .1 .1 .0 .1), (c .before .before .before .before .before .before .before .before .before .before .before .before .before .pre .1 .1 .1 .0, c .before .before .before .before .before .before .before .before .before .before .before .before .before .pre .1 .1 .1 .1))))
+add-key-requires c κs =
+    let pre = c .before .before .before .before .before .before .before .before .before .before .before .before .before .pre in
+    let loop = c .before .before .before .before .before .before .loop in
+    let find = c .before .before .before .find in
+    let b = column-fits (loop .i) (pre .1 .1 .1 .1) (omega (arith, c .before .before .before .before .before .loop-test .taken, loop .inv .1)) (loop .inv .3) (ap (λ (s : Spot). s .size) (find .ensures)) in
+    let k = pre .1 .1 .1 .0 (loop .i) (omega (arith, c .before .before .before .before .before .loop-test .taken, loop .inv .1)) in (
+      relaid _ (loop .inv .2) (pre .0),
+      ((pre .1 .0 .0, rw (find .ensures) (k .sits), rw (find .ensures) (scratch _ _ _ _ (k .small) (pre .1 .0 .1) (loop .inv .5))), ((fits-block (c .before .before .before .before .before .before .before .before .before .before .before .before .before .args .a .now) _ _ (loop .column) _ (c .before .before .block-at .ensures) (b .2), pre .1 .1 .0 .0, pre .1 .1 .0 .1), (pre .1 .1 .1 .0, pre .1 .1 .1 .1))),
+    )
 
 add-column : tie.Need-add-column Inv-loop μ-loop
-add-column c = let b = column-fits (c .before .before .before .before .before .before .before .before .before .before .before .before .loop .i) (c .before .before .before .before .before .before .before .before .before .before .before .before .before .before .before .before .before .before .before .pre .1 .1 .1 .1) (omega (arith, c .before .before .before .before .before .before .before .before .before .before .before .loop-test .taken, c .before .before .before .before .before .before .before .before .before .before .before .before .loop .inv .1)) (c .before .before .before .before .before .before .before .before .before .before .before .before .loop .inv .3) (ap (λ (s : Spot). s .size) (c .before .before .before .before .before .before .before .before .before .find .ensures)) in omega arith
+add-column c =
+    let loop = c .before .before .before .before .before .before .before .before .before .before .before .before .loop in
+    let b = column-fits (loop .i) (c .before .before .before .before .before .before .before .before .before .before .before .before .before .before .before .before .before .before .before .pre .1 .1 .1 .1) (omega (arith, c .before .before .before .before .before .before .before .before .before .before .before .loop-test .taken, loop .inv .1)) (loop .inv .3) (ap (λ (s : Spot). s .size) (c .before .before .before .before .before .before .before .before .before .find .ensures)) in
+    omega arith
 
 add-i : tie.Need-add-i Inv-loop μ-loop
 add-i c = omega (arith, c .before .before .before .before .before .before .before .before .before .before .before .loop-test .taken, c .before .before .before .before .before .before .before .before .before .before .before .before .loop .inv .1, c .before .before .before .before .before .before .before .before .before .before .before .before .before .before .before .before .before .before .before .pre .1 .1 .1 .1 .count)
@@ -50,7 +63,19 @@ loop-less : tie.Need-loop-less Inv-loop μ-loop
 loop-less c = omega arith
 
 loop-again : tie.Need-loop-again Inv-loop μ-loop
-loop-again c = (omega (arith, c .before .before .before .before .before .before .before .before .before .before .before .loop-test .taken), omega (arith, c .before .before .before .before .before .before .before .before .before .before .before .before .loop .inv .1), c .before .before .before .before .before .add-key .kept .0 ∙ c .before .before .before .before .before .before .before .before .before .before .before .before .loop .inv .2, column-fits (c .before .before .before .before .before .before .before .before .before .before .before .before .loop .i) (c .before .before .before .before .before .before .before .before .before .before .before .before .before .before .before .before .before .before .before .pre .1 .1 .1 .1) (omega (arith, c .before .before .before .before .before .before .before .before .before .before .before .loop-test .taken, c .before .before .before .before .before .before .before .before .before .before .before .before .loop .inv .1)) (c .before .before .before .before .before .before .before .before .before .before .before .before .loop .inv .3) (ap (λ (s : Spot). s .size) (c .before .before .before .before .before .before .before .before .before .find .ensures)) .0, keys-more (c .before .before .before .before .before .before .before .before .before .before .before .before .before .before .before .before .before .before .before .args .z) (c .before .before .before .before .before .before .before .before .before .before .before .before .before .before .before .before .before .before .before .args .f) (c .before .before .before .before .before .before .before .before .before .before .before .before .before .before .before .before .before .before .before .args .layout) (c .before .before .before .before .before .before .before .before .before .before .before .before .before .before .before .before .before .before .before .args .row) (c .before .before .before .before .before .before .before .before .before .before .before .before .before .before .before .before .before .before .before .args .keys .now) (c .before .before .before .before .before .before .before .before .before .before .before .before .before .before .before .before .before .before .before .args .y) (c .before .before .before .before .before .before .before .before .before .before .before .before .before .before .before .before .before .before .before .args .a .now) (c .before .before .before .before .before .before .before .before .before .before .before .before .before .before .before .before .before .before .before .args .xi .now) (c .before .before .before .before .before .before .before .before .before .before .before .before .before .before .before .before .before .before .before .args .w .now) _ _ _ _ _ (c .before .before .before .before .before .before .before .before .before .before .before .before .loop .i) (c .before .before .before .before .before .before .before .before .before .before .before .before .loop .column) (c .before .before .before .before .before .before .before .before .before .before .before .before .loop .inv .4) (c .before .before .before .before .before .before .before .before .before .before .before .before .loop .inv .3) (c .before .before .before .before .before .before .before .before .before .find .ensures) (c .before .before .before .before .before .before .before .before .block-at .ensures) (c .before .before .before .before .before .add-key .ensures), c .before .before .before .before .before .add-key .kept .1 .0 ∙ c .before .before .before .before .before .before .before .before .before .before .before .before .loop .inv .5)
+loop-again c =
+    let args = c .before .before .before .before .before .before .before .before .before .before .before .before .before .before .before .before .before .before .before .args in
+    let loop = c .before .before .before .before .before .before .before .before .before .before .before .before .loop in
+    let loop-test = c .before .before .before .before .before .before .before .before .before .before .before .loop-test in
+    let find = c .before .before .before .before .before .before .before .before .before .find in
+    let add-key = c .before .before .before .before .before .add-key in (
+      omega (arith, loop-test .taken),
+      omega (arith, loop .inv .1),
+      add-key .kept .0 ∙ loop .inv .2,
+      column-fits (loop .i) (c .before .before .before .before .before .before .before .before .before .before .before .before .before .before .before .before .before .before .before .pre .1 .1 .1 .1) (omega (arith, loop-test .taken, loop .inv .1)) (loop .inv .3) (ap (λ (s : Spot). s .size) (find .ensures)) .0,
+      keys-more (args .z) (args .f) (args .layout) (args .row) (args .keys .now) (args .y) (args .a .now) (args .xi .now) (args .w .now) _ _ _ _ _ (loop .i) (loop .column) (loop .inv .4) (loop .inv .3) (find .ensures) (c .before .before .before .before .before .before .before .before .block-at .ensures) (add-key .ensures),
+      add-key .kept .1 .0 ∙ loop .inv .5,
+    )
 
 same-length : tie.Need-same-length Inv-loop μ-loop
 same-length c = search needs
@@ -59,7 +84,9 @@ same-length-2 : tie.Need-same-length-2 Inv-loop μ-loop
 same-length-2 c = search needs
 
 returns : tie.Need-returns Inv-loop μ-loop
-returns c = let e : c .before .loop .i ≡ length (c .before .before .before .before .before .before .before .before .args .keys .now) = omega arith in rw (← e) (c .before .loop .inv .4)
+returns c =
+    let e : c .before .loop .i ≡ length (c .before .before .before .before .before .before .before .before .args .keys .now) = omega arith in
+    rw (← e) (c .before .loop .inv .4)
 
 pub add-keys-spec : {M : Type 1} → statement M
 add-keys-spec =

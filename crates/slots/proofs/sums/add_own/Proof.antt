@@ -10,16 +10,39 @@ use Rattle.slots.proofs.sums.add_own.Statement.{statement}
 use Rattle.slots.proofs.sums.add_own.Tie as tie
 
 corner-requires : tie.Need-corner-requires
-corner-requires c κs = let l = (c .before .before .before .before .before .pre .0) in (l .few-cleared, omega (arith, small (c .before .before .before .before .before .args .f) (length (c .before .before .before .before .before .args .work .now)) (c .before .before .before .before .before .args .k) (c .before .before .before .before .before .pre .0) (c .before .before .before .before .before .pre .1 .0 .1)), omega arith)
+corner-requires c κs =
+    let args = c .before .before .before .before .before .args in
+    let pre = c .before .before .before .before .before .pre in
+    let l = (pre .0) in
+    (l .few-cleared, omega (arith, small (args .f) (length (args .work .now)) (args .k) (pre .0) (pre .1 .0 .1)), omega arith)
 
 times-at-requires : tie.Need-times-at-requires
-times-at-requires c κs = let l = (c .before .before .before .before .before .before .before .pre .0) in (l, (corner-fits (c .before .before .before .before .before .before .before .args .f) H (c .before .before .before .before .before .before .before .args .f .cleared) 1 _ (c .before .before .before .before .before .before .before .args .k .at) 0 (c .before .before .before .before .before .before .before .args .k .size) 1 (omega arith) (c .before .corner .ensures) (rw (c .before .before .if1 .taken) at (c .before .before .before .before .before .before .before .pre .1 .0 .1)) (omega arith), (c .before .before .before .before .before .before .before .pre .1 .1 .0, omega (arith, c .before .before .before .before .before .before .before .pre .1 .1 .1))))
+times-at-requires c κs =
+    let args = c .before .before .before .before .before .before .before .args in
+    let pre = c .before .before .before .before .before .before .before .pre in
+    let l = (pre .0) in (
+      l,
+      (corner-fits (args .f) H (args .f .cleared) 1 _ (args .k .at) 0 (args .k .size) 1 (omega arith) (c .before .corner .ensures) (rw (c .before .before .if1 .taken) at (pre .1 .0 .1)) (omega arith), (pre .1 .1 .0, omega (arith, pre .1 .1 .1))),
+    )
 
 corner-requires-2 : tie.Need-corner-requires-2
-corner-requires-2 c κs = let l = (c .before .before .before .before .before .before .before .before .before .before .before .pre .0) in (l .few-cleared, omega (arith, small (c .before .before .before .before .before .before .before .before .before .before .before .args .f) (length (c .before .before .before .before .before .before .before .before .before .before .before .args .work .now)) (c .before .before .before .before .before .before .before .before .before .before .before .args .k) (c .before .before .before .before .before .before .before .before .before .before .before .pre .0) (c .before .before .before .before .before .before .before .before .before .before .before .pre .1 .0 .1)), omega (arith, (c .before .before .before .before .before .before .before .before .before .before .before .pre .1 .0 .0) .inside (c .if2 .taken), l .few-rows))
+corner-requires-2 c κs =
+    let args = c .before .before .before .before .before .before .before .before .before .before .before .args in
+    let pre = c .before .before .before .before .before .before .before .before .before .before .before .pre in
+    let l = (pre .0) in (
+      l .few-cleared,
+      omega (arith, small (args .f) (length (args .work .now)) (args .k) (pre .0) (pre .1 .0 .1)),
+      omega (arith, (pre .1 .0 .0) .inside (c .if2 .taken), l .few-rows),
+    )
 
 times-at-requires-2 : tie.Need-times-at-requires-2
-times-at-requires-2 c κs = let l = (c .before .before .before .before .before .before .before .before .before .before .before .before .before .pre .0) in (relaid (c .before .before .before .before .before .before .before .before .before .before .before .before .before .args .f) (c .before .before .before .before .before .times-at .kept .0) l, (corner-fits (c .before .before .before .before .before .before .before .before .before .before .before .before .before .args .f) G (c .before .before .before .before .before .before .before .before .before .before .before .before .before .args .f .cleared) (c .before .before .before .before .before .before .before .before .before .before .before .before .before .args .f .rows) _ (c .before .before .before .before .before .before .before .before .before .before .before .before .before .args .k .at) (c .before .before .before .before .before .before .before .before .before .before .before .before .before .args .row) (c .before .before .before .before .before .before .before .before .before .before .before .before .before .args .k .size) (c .before .before .before .before .before .before .before .before .before .before .before .before .before .args .y) (omega arith) (c .before .corner2 .ensures) (rw (c .before .before .before .before .before .before .before .before .if1 .taken) at (c .before .before .before .before .before .before .before .before .before .before .before .before .before .pre .1 .0 .1)) ((c .before .before .before .before .before .before .before .before .before .before .before .before .before .pre .1 .0 .0) .inside (c .before .before .if2 .taken)), (c .before .before .before .before .before .before .before .before .before .before .before .before .before .pre .1 .1 .0, c .before .before .before .before .before .before .before .before .before .before .before .before .before .pre .1 .1 .2)))
+times-at-requires-2 c κs =
+    let args = c .before .before .before .before .before .before .before .before .before .before .before .before .before .args in
+    let pre = c .before .before .before .before .before .before .before .before .before .before .before .before .before .pre in
+    let l = (pre .0) in (
+      relaid (args .f) (c .before .before .before .before .before .times-at .kept .0) l,
+      (corner-fits (args .f) G (args .f .cleared) (args .f .rows) _ (args .k .at) (args .row) (args .k .size) (args .y) (omega arith) (c .before .corner2 .ensures) (rw (c .before .before .before .before .before .before .before .before .if1 .taken) at (pre .1 .0 .1)) ((pre .1 .0 .0) .inside (c .before .before .if2 .taken)), (pre .1 .1 .0, pre .1 .1 .2)),
+    )
 
 same-length : tie.Need-same-length
 same-length c = search needs
@@ -34,10 +57,23 @@ returns-2 : tie.Need-returns-2
 returns-2 c = own-cleared-x _ _ _ _ _ _ _ _ _ _ _ (c .before .before .before .before .before .before .if1 .taken) (c .if2 .left) (c .before .before .before .before .before .corner .ensures) (c .before .before .before .times-at .ensures)
 
 corner-requires-3 : tie.Need-corner-requires-3
-corner-requires-3 c κs = let l = (c .before .before .before .before .before .before .pre .0) in (l .few-rows, omega (arith, (c .before .before .before .before .before .before .pre .1 .0 .0) .inside (c .if3 .taken), l .few-rows), omega (arith, small (c .before .before .before .before .before .before .args .f) (length (c .before .before .before .before .before .before .args .work .now)) (c .before .before .before .before .before .before .args .k) (c .before .before .before .before .before .before .pre .0) (c .before .before .before .before .before .before .pre .1 .0 .1)))
+corner-requires-3 c κs =
+    let args = c .before .before .before .before .before .before .args in
+    let pre = c .before .before .before .before .before .before .pre in
+    let l = (pre .0) in (
+      l .few-rows,
+      omega (arith, (pre .1 .0 .0) .inside (c .if3 .taken), l .few-rows),
+      omega (arith, small (args .f) (length (args .work .now)) (args .k) (pre .0) (pre .1 .0 .1)),
+    )
 
 stamp-at-requires : tie.Need-stamp-at-requires
-stamp-at-requires c κs = let l = (c .before .before .before .before .before .before .before .before .pre .0) in (l, (corner-fits (c .before .before .before .before .before .before .before .before .args .f) A (c .before .before .before .before .before .before .before .before .args .f .rows) (c .before .before .before .before .before .before .before .before .args .f .kept) _ (c .before .before .before .before .before .before .before .before .args .row) (c .before .before .before .before .before .before .before .before .args .k .at) (c .before .before .before .before .before .before .before .before .args .y) (c .before .before .before .before .before .before .before .before .args .k .size) (omega arith) (c .before .corner3 .ensures) ((c .before .before .before .before .before .before .before .before .pre .1 .0 .0) .inside (c .before .before .if3 .taken)) (rw (c .before .before .before .if1 .left) at (c .before .before .before .before .before .before .before .before .pre .1 .0 .1)), λ i j hi hj. dense (c .before .before .before .before .before .before .before .before .args .y) (c .before .before .before .before .before .before .before .before .args .k .size) _ (c .before .before .before .before .before .before .before .before .pre .1 .1 .0) i j hi hj))
+stamp-at-requires c κs =
+    let args = c .before .before .before .before .before .before .before .before .args in
+    let pre = c .before .before .before .before .before .before .before .before .pre in
+    let l = (pre .0) in (
+      l,
+      (corner-fits (args .f) A (args .f .rows) (args .f .kept) _ (args .row) (args .k .at) (args .y) (args .k .size) (omega arith) (c .before .corner3 .ensures) ((pre .1 .0 .0) .inside (c .before .before .if3 .taken)) (rw (c .before .before .before .if1 .left) at (pre .1 .0 .1)), λ i j hi hj. dense (args .y) (args .k .size) _ (pre .1 .1 .0) i j hi hj),
+    )
 
 same-length-3 : tie.Need-same-length-3
 same-length-3 c = search needs
@@ -46,10 +82,20 @@ returns-3 : tie.Need-returns-3
 returns-3 c = own-kept-z _ _ _ _ _ _ _ _ _ _ _ (c .before .before .before .before .before .before .if1 .left) (c .before .before .before .before .before .if3 .taken) (c .before .before .before .before .corner3 .ensures) (c .before .before .stamp-at .ensures)
 
 corner-requires-4 : tie.Need-corner-requires-4
-corner-requires-4 c κs = let l = (c .before .before .before .before .before .before .pre .0) in (l .few-rows, omega (arith, small (c .before .before .before .before .before .before .args .f) (length (c .before .before .before .before .before .before .args .work .now)) (c .before .before .before .before .before .before .args .k) (c .before .before .before .before .before .before .pre .0) (c .before .before .before .before .before .before .pre .1 .0 .1)), omega arith)
+corner-requires-4 c κs =
+    let args = c .before .before .before .before .before .before .args in
+    let pre = c .before .before .before .before .before .before .pre in
+    let l = (pre .0) in
+    (l .few-rows, omega (arith, small (args .f) (length (args .work .now)) (args .k) (pre .0) (pre .1 .0 .1)), omega arith)
 
 times-at-requires-3 : tie.Need-times-at-requires-3
-times-at-requires-3 c κs = let l = (c .before .before .before .before .before .before .before .before .pre .0) in (l, (corner-fits (c .before .before .before .before .before .before .before .before .args .f) Xi (c .before .before .before .before .before .before .before .before .args .f .rows) 1 _ (c .before .before .before .before .before .before .before .before .args .k .at) 0 (c .before .before .before .before .before .before .before .before .args .k .size) 1 (omega arith) (c .before .corner4 .ensures) (omega (arith, rw (c .before .before .before .if1 .left) at (c .before .before .before .before .before .before .before .before .pre .1 .0 .1), (c .before .before .before .before .before .before .before .before .pre .1 .0 .0) .square (c .before .before .if3 .left))) (omega arith), (c .before .before .before .before .before .before .before .before .pre .1 .1 .0, omega (arith, c .before .before .before .before .before .before .before .before .pre .1 .1 .1))))
+times-at-requires-3 c κs =
+    let args = c .before .before .before .before .before .before .before .before .args in
+    let pre = c .before .before .before .before .before .before .before .before .pre in
+    let l = (pre .0) in (
+      l,
+      (corner-fits (args .f) Xi (args .f .rows) 1 _ (args .k .at) 0 (args .k .size) 1 (omega arith) (c .before .corner4 .ensures) (omega (arith, rw (c .before .before .before .if1 .left) at (pre .1 .0 .1), (pre .1 .0 .0) .square (c .before .before .if3 .left))) (omega arith), (pre .1 .1 .0, omega (arith, pre .1 .1 .1))),
+    )
 
 same-length-4 : tie.Need-same-length-4
 same-length-4 c = search needs

@@ -8,7 +8,15 @@ use Rattle.slots.proofs.sums.add_product.Statement.{statement}
 use Rattle.slots.proofs.sums.add_product.Tie as tie
 
 target-of-requires : tie.Need-target-of-requires
-target-of-requires c κs = let l = c .before .before .before .pre .0 in (omega arith, omega arith, omega (arith, small (c .before .before .before .args .f) (length (c .before .before .before .args .work .now)) (c .before .before .before .args .k) (c .before .before .before .pre .0) (c .before .before .before .pre .1 .0 .1)), omega (arith, small (c .before .before .before .args .f) (length (c .before .before .before .args .work .now)) (c .before .before .before .args .o) (c .before .before .before .pre .0) (c .before .before .before .pre .1 .0 .2)))
+target-of-requires c κs =
+    let args = c .before .before .before .args in
+    let pre = c .before .before .before .pre in
+    let l = pre .0 in (
+      omega arith,
+      omega arith,
+      omega (arith, small (args .f) (length (args .work .now)) (args .k) (pre .0) (pre .1 .0 .1)),
+      omega (arith, small (args .f) (length (args .work .now)) (args .o) (pre .0) (pre .1 .0 .2)),
+    )
 
 enum-known-p : tie.Need-enum-known-p
 enum-known-p c = search needs
@@ -17,16 +25,25 @@ enum-told : tie.Need-enum-told
 enum-told c = search needs
 
 returns : tie.Need-returns
-returns c = no-product (c .before .before .before .before .before .before .args .z) (c .before .before .before .before .before .before .args .f) (c .before .before .before .before .before .before .args .k) (c .before .before .before .before .before .before .args .o) _ (c .before .before .before .before .before .before .args .k .size) (c .before .before .before .before .before .before .args .t .now) (c .before .before .before .before .before .before .args .y) (c .before .before .before .before .before .before .args .b .now) (c .before .before .before .before .before .before .args .o .size) _ (c .before .before .target-of .ensures) (c .enum-told .given .1)
+returns c =
+    let args = c .before .before .before .before .before .before .args in
+    no-product (args .z) (args .f) (args .k) (args .o) _ (args .k .size) (args .t .now) (args .y) (args .b .now) (args .o .size) _ (c .before .before .target-of .ensures) (c .enum-told .given .1)
 
 gemm-at-requires : tie.Need-gemm-at-requires
-gemm-at-requires c κs = (c .before .before .before .before .before .before .before .before .pre .0, (goes-inside (c .before .before .before .before .before .before .before .before .args .z) (c .before .before .before .before .before .before .before .before .args .f) (length (c .before .before .before .before .before .before .before .before .args .work .now)) (c .before .before .before .before .before .before .before .before .args .k) (c .before .before .before .before .before .before .before .before .args .o) _ _ _ (c .before .before .before .before .before .before .before .before .pre .0) (c .before .before .before .before .before .before .before .before .pre .1 .0 .0) (c .before .before .before .before .before .before .before .before .pre .1 .0 .1) (c .before .before .before .before .before .before .before .before .pre .1 .0 .2) (c .before .before .before .before .target-of .ensures) (c .before .before .p .given .1), (λ i j hi hj. dense _ _ _ (c .before .before .before .before .before .before .before .before .pre .1 .1 .0) i j hi hj, λ i j hi hj. dense _ _ _ (c .before .before .before .before .before .before .before .before .pre .1 .1 .1) i j hi hj)))
+gemm-at-requires c κs =
+    let args = c .before .before .before .before .before .before .before .before .args in
+    let pre = c .before .before .before .before .before .before .before .before .pre in (
+      pre .0,
+      (goes-inside (args .z) (args .f) (length (args .work .now)) (args .k) (args .o) _ _ _ (pre .0) (pre .1 .0 .0) (pre .1 .0 .1) (pre .1 .0 .2) (c .before .before .before .before .target-of .ensures) (c .before .before .p .given .1), (λ i j hi hj. dense _ _ _ (pre .1 .1 .0) i j hi hj, λ i j hi hj. dense _ _ _ (pre .1 .1 .1) i j hi hj)),
+    )
 
 same-length : tie.Need-same-length
 same-length c = search needs
 
 returns-2 : tie.Need-returns-2
-returns-2 c = product-at-target (c .before .before .before .before .before .before .before .before .before .before .before .args .z) (c .before .before .before .before .before .before .before .before .before .before .before .args .f) (c .before .before .before .before .before .before .before .before .before .before .before .args .k) (c .before .before .before .before .before .before .before .before .before .before .before .args .o) _ _ _ (c .before .before .before .before .before .before .before .before .before .before .before .args .k .size) (c .before .before .before .before .before .before .before .before .before .before .before .args .t .now) (c .before .before .before .before .before .before .before .before .before .before .before .args .y) (c .before .before .before .before .before .before .before .before .before .before .before .args .b .now) (c .before .before .before .before .before .before .before .before .before .before .before .args .o .size) _ _ (c .before .before .before .before .before .before .before .target-of .ensures) (c .before .before .before .before .before .p .given .1) (c .before .before .gemm-at .ensures)
+returns-2 c =
+    let args = c .before .before .before .before .before .before .before .before .before .before .before .args in
+    product-at-target (args .z) (args .f) (args .k) (args .o) _ _ _ (args .k .size) (args .t .now) (args .y) (args .b .now) (args .o .size) _ _ (c .before .before .before .before .before .before .before .target-of .ensures) (c .before .before .before .before .before .p .given .1) (c .before .before .gemm-at .ensures)
 
 pub add-product-spec : {M : Type 1} → statement M
 add-product-spec =

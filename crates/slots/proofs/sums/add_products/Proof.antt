@@ -35,13 +35,24 @@ find-requires : tie.Need-find-requires Inv-loop μ-loop
 find-requires c κs = c .before .before .before .before .before .before .before .pre .1 .1 .0 (c .before .before .loop .j) (omega (arith, c .before .loop-test .taken, c .before .before .loop .inv .1)) .listed
 
 block-at-requires : tie.Need-block-at-requires Inv-loop μ-loop
-block-at-requires c κs = column-fits (c .before .before .before .loop .j) (c .before .before .before .before .before .before .before .before .pre .1 .1 .1) (omega (arith, c .before .before .loop-test .taken, c .before .before .before .loop .inv .1)) (c .before .before .before .loop .inv .3) (ap (λ (s : Spot). s .size) (c .find .ensures)) .2
+block-at-requires c κs =
+    let loop = c .before .before .before .loop in
+    column-fits (loop .j) (c .before .before .before .before .before .before .before .before .pre .1 .1 .1) (omega (arith, c .before .before .loop-test .taken, loop .inv .1)) (loop .inv .3) (ap (λ (s : Spot). s .size) (c .find .ensures)) .2
 
 add-product-requires : tie.Need-add-product-requires Inv-loop μ-loop
-add-product-requires c κs = let b = column-fits (c .before .before .before .before .before .loop .j) (c .before .before .before .before .before .before .before .before .before .before .pre .1 .1 .1) (omega (arith, c .before .before .before .before .loop-test .taken, c .before .before .before .before .before .loop .inv .1)) (c .before .before .before .before .before .loop .inv .3) (ap (λ (s : Spot). s .size) (c .before .before .find .ensures)) in (relaid _ (c .before .before .before .before .before .loop .inv .2) (c .before .before .before .before .before .before .before .before .before .before .pre .0), ((c .before .before .before .before .before .before .before .before .before .before .pre .1 .0 .0, c .before .before .before .before .before .before .before .before .before .before .pre .1 .0 .1, rw (c .before .before .find .ensures) (c .before .before .before .before .before .before .before .before .before .before .pre .1 .1 .0 (c .before .before .before .before .before .loop .j) (omega (arith, c .before .before .before .before .loop-test .taken, c .before .before .before .before .before .loop .inv .1)) .sits)), (c .before .before .before .before .before .before .before .before .before .before .pre .1 .0 .2, fits-block (c .before .before .before .before .before .before .before .before .before .before .args .a .now) _ _ (c .before .before .before .before .before .loop .column) _ (c .before .block-at .ensures) (b .2))))
+add-product-requires c κs =
+    let pre = c .before .before .before .before .before .before .before .before .before .before .pre in
+    let loop = c .before .before .before .before .before .loop in
+    let b = column-fits (loop .j) (pre .1 .1 .1) (omega (arith, c .before .before .before .before .loop-test .taken, loop .inv .1)) (loop .inv .3) (ap (λ (s : Spot). s .size) (c .before .before .find .ensures)) in (
+      relaid _ (loop .inv .2) (pre .0),
+      ((pre .1 .0 .0, pre .1 .0 .1, rw (c .before .before .find .ensures) (pre .1 .1 .0 (loop .j) (omega (arith, c .before .before .before .before .loop-test .taken, loop .inv .1)) .sits)), (pre .1 .0 .2, fits-block (c .before .before .before .before .before .before .before .before .before .before .args .a .now) _ _ (loop .column) _ (c .before .block-at .ensures) (b .2))),
+    )
 
 add-column : tie.Need-add-column Inv-loop μ-loop
-add-column c = let b = column-fits (c .before .before .before .before .before .before .before .before .before .loop .j) (c .before .before .before .before .before .before .before .before .before .before .before .before .before .before .pre .1 .1 .1) (omega (arith, c .before .before .before .before .before .before .before .before .loop-test .taken, c .before .before .before .before .before .before .before .before .before .loop .inv .1)) (c .before .before .before .before .before .before .before .before .before .loop .inv .3) (ap (λ (s : Spot). s .size) (c .before .before .before .before .before .before .find .ensures)) in omega arith
+add-column c =
+    let loop = c .before .before .before .before .before .before .before .before .before .loop in
+    let b = column-fits (loop .j) (c .before .before .before .before .before .before .before .before .before .before .before .before .before .before .pre .1 .1 .1) (omega (arith, c .before .before .before .before .before .before .before .before .loop-test .taken, loop .inv .1)) (loop .inv .3) (ap (λ (s : Spot). s .size) (c .before .before .before .before .before .before .find .ensures)) in
+    omega arith
 
 add-j : tie.Need-add-j Inv-loop μ-loop
 add-j c = omega (arith, c .before .before .before .before .before .before .before .before .loop-test .taken, c .before .before .before .before .before .before .before .before .before .loop .inv .1, c .before .before .before .before .before .before .before .before .before .before .before .before .before .before .pre .1 .1 .1 .count)
@@ -50,13 +61,24 @@ loop-less : tie.Need-loop-less Inv-loop μ-loop
 loop-less c = omega arith
 
 loop-again : tie.Need-loop-again Inv-loop μ-loop
-loop-again c = (omega (arith, c .before .before .before .before .before .before .before .before .loop-test .taken), omega (arith, c .before .before .before .before .before .before .before .before .before .loop .inv .1), c .before .before .before .add-product .kept .0 ∙ c .before .before .before .before .before .before .before .before .before .loop .inv .2, column-fits (c .before .before .before .before .before .before .before .before .before .loop .j) (c .before .before .before .before .before .before .before .before .before .before .before .before .before .before .pre .1 .1 .1) (omega (arith, c .before .before .before .before .before .before .before .before .loop-test .taken, c .before .before .before .before .before .before .before .before .before .loop .inv .1)) (c .before .before .before .before .before .before .before .before .before .loop .inv .3) (ap (λ (s : Spot). s .size) (c .before .before .before .before .before .before .find .ensures)) .0, products-more (c .before .before .before .before .before .before .before .before .before .before .before .before .before .before .args .z) (c .before .before .before .before .before .before .before .before .before .before .before .before .before .before .args .f) (c .before .before .before .before .before .before .before .before .before .before .before .before .before .before .args .layout) (c .before .before .before .before .before .before .before .before .before .before .before .before .before .before .args .keys .now) (c .before .before .before .before .before .before .before .before .before .before .before .before .before .before .args .y) (c .before .before .before .before .before .before .before .before .before .before .before .before .before .before .args .a .now) (c .before .before .before .before .before .before .before .before .before .before .before .before .before .before .args .k) _ (c .before .before .before .before .before .before .before .before .before .before .before .before .before .before .args .t .now) _ _ _ _ (c .before .before .before .before .before .before .before .before .before .loop .j) (c .before .before .before .before .before .before .before .before .before .loop .column) (c .before .before .before .before .before .before .before .before .before .loop .inv .4) (c .before .before .before .before .before .before .before .before .before .loop .inv .3) (c .before .before .before .before .before .before .find .ensures) (c .before .before .before .before .before .block-at .ensures) (c .before .before .before .add-product .ensures))
+loop-again c =
+    let args = c .before .before .before .before .before .before .before .before .before .before .before .before .before .before .args in
+    let loop = c .before .before .before .before .before .before .before .before .before .loop in
+    let loop-test = c .before .before .before .before .before .before .before .before .loop-test in (
+      omega (arith, loop-test .taken),
+      omega (arith, loop .inv .1),
+      c .before .before .before .add-product .kept .0 ∙ loop .inv .2,
+      column-fits (loop .j) (c .before .before .before .before .before .before .before .before .before .before .before .before .before .before .pre .1 .1 .1) (omega (arith, loop-test .taken, loop .inv .1)) (loop .inv .3) (ap (λ (s : Spot). s .size) (c .before .before .before .before .before .before .find .ensures)) .0,
+      products-more (args .z) (args .f) (args .layout) (args .keys .now) (args .y) (args .a .now) (args .k) _ (args .t .now) _ _ _ _ (loop .j) (loop .column) (loop .inv .4) (loop .inv .3) (c .before .before .before .before .before .before .find .ensures) (c .before .before .before .before .before .block-at .ensures) (c .before .before .before .add-product .ensures),
+    )
 
 same-length : tie.Need-same-length Inv-loop μ-loop
 same-length c = search needs
 
 returns : tie.Need-returns Inv-loop μ-loop
-returns c = let e : c .before .loop .j ≡ length (c .before .before .before .before .before .before .args .keys .now) = omega arith in rw (← e) (c .before .loop .inv .4)
+returns c =
+    let e : c .before .loop .j ≡ length (c .before .before .before .before .before .before .args .keys .now) = omega arith in
+    rw (← e) (c .before .loop .inv .4)
 
 pub add-products-spec : {M : Type 1} → statement M
 add-products-spec =

@@ -26,7 +26,10 @@ find-requires : tie.Need-find-requires
 find-requires c κs = c .before .before .before .before .before .before .pre .1 .known 0 (c .before .before .before .before .before .before .pre .1 .some (c .before .if1 .taken)) .listed
 
 mul-add-prior : tie.Need-mul-add-prior
-mul-add-prior c = let b = offsets (c .before .before .before .before .before .before .before .before .pre .1) in omega (arith, c .before .before .before .before .before .before .before .before .pre .1 .rows)
+mul-add-prior c =
+    let pre = c .before .before .before .before .before .before .before .before .pre in
+    let b = offsets (pre .1) in
+    omega (arith, pre .1 .rows)
 
 sub-add-prior : tie.Need-sub-add-prior
 sub-add-prior c = omega arith
@@ -38,7 +41,10 @@ part-add-prior-end : tie.Need-part-add-prior-end
 part-add-prior-end c = search needs
 
 mul-add-prior-2 : tie.Need-mul-add-prior-2
-mul-add-prior-2 c = let b = offsets (c .before .before .before .before .before .before .before .before .before .pre .1) in omega (arith, c .before .before .before .before .before .before .before .before .before .pre .1 .rows)
+mul-add-prior-2 c =
+    let pre = c .before .before .before .before .before .before .before .before .before .pre in
+    let b = offsets (pre .1) in
+    omega (arith, pre .1 .rows)
 
 sub-add-prior-2 : tie.Need-sub-add-prior-2
 sub-add-prior-2 c = omega arith
@@ -50,13 +56,23 @@ part-add-prior-end-2 : tie.Need-part-add-prior-end-2
 part-add-prior-end-2 c = search needs
 
 add-prior-requires : tie.Need-add-prior-requires
-add-prior-requires c κs = let l = (c .before .before .before .before .before .before .before .before .before .before .pre .0) in let q = prior-sizes (c .before .before .before .before .before .before .before .before .before .before .pre .1) (c .before .before .before .before .before .before .before .before .before .before .args .nums .now) _ refl (c .before .before .before .before .before .if1 .taken) (c .before .before .before .find .ensures) in (l, ((rw (c .before .before .before .find .ensures) (branch-prior (c .before .before .before .before .before .before .before .before .before .before .pre .1) (c .before .before .before .before .before .if1 .taken)), rw (c .before .before .before .find .ensures) (c .before .before .before .before .before .before .before .before .before .before .pre .1 .known 0 (c .before .before .before .before .before .before .before .before .before .before .pre .1 .some (c .before .before .before .before .before .if1 .taken)) .sits)), (q .0, q .1)))
+add-prior-requires c κs =
+    let pre = c .before .before .before .before .before .before .before .before .before .before .pre in
+    let if1 = c .before .before .before .before .before .if1 in
+    let find = c .before .before .before .find in
+    let l = (pre .0) in
+    let q = prior-sizes (pre .1) (c .before .before .before .before .before .before .before .before .before .before .args .nums .now) _ refl (if1 .taken) (find .ensures) in (
+      l,
+      ((rw (find .ensures) (branch-prior (pre .1) (if1 .taken)), rw (find .ensures) (pre .1 .known 0 (pre .1 .some (if1 .taken)) .sits)), (q .0, q .1)),
+    )
 
 same-length : tie.Need-same-length
 same-length c = search needs
 
 returns : tie.Need-returns
-returns c = view-prior (c .before .before .before .before .before .before .before .before .before .before .before .before .before .args .z) (c .before .before .before .before .before .before .before .before .before .before .before .before .before .args .f) (c .before .before .before .before .before .before .before .before .before .before .before .before .before .args .layout) (c .before .before .before .before .before .before .before .before .before .before .before .before .before .args .row) (c .before .before .before .before .before .before .before .before .before .before .before .before .before .args .prior) (c .before .before .before .before .before .before .before .before .before .before .before .before .before .args .keys .now) (c .before .before .before .before .before .before .before .before .before .before .before .before .before .args .y) (c .before .before .before .before .before .before .before .before .before .before .before .before .before .args .d) (c .before .before .before .before .before .before .before .before .before .before .before .before .before .args .nums .now) _ _ _ (c .before .before .before .before .before .before .before .before .if1 .taken) (c .before .before .before .before .before .before .find .ensures) (c .before .before .add-prior .ensures)
+returns c =
+    let args = c .before .before .before .before .before .before .before .before .before .before .before .before .before .args in
+    view-prior (args .z) (args .f) (args .layout) (args .row) (args .prior) (args .keys .now) (args .y) (args .d) (args .nums .now) _ _ _ (c .before .before .before .before .before .before .before .before .if1 .taken) (c .before .before .before .before .before .before .find .ensures) (c .before .before .add-prior .ensures)
 
 mul-copy-rows : tie.Need-mul-copy-rows
 mul-copy-rows c = omega arith
@@ -83,7 +99,13 @@ part-copy-rows-end-2 : tie.Need-part-copy-rows-end-2
 part-copy-rows-end-2 c = search needs
 
 copy-rows-requires : tie.Need-copy-rows-requires
-copy-rows-requires c κs = let l = (c .before .before .before .before .before .before .before .before .pre .0) in (l, (branch-other (c .before .before .before .before .before .before .before .before .pre .1) (c .before .before .before .if1 .left), part-sizes (c .before .before .before .before .before .before .before .before .pre .1) (c .before .before .before .before .before .before .before .before .args .nums .now) refl .0, part-sizes (c .before .before .before .before .before .before .before .before .pre .1) (c .before .before .before .before .before .before .before .before .args .nums .now) refl .1))
+copy-rows-requires c κs =
+    let args = c .before .before .before .before .before .before .before .before .args in
+    let pre = c .before .before .before .before .before .before .before .before .pre in
+    let l = (pre .0) in (
+      l,
+      (branch-other (pre .1) (c .before .before .before .if1 .left), part-sizes (pre .1) (args .nums .now) refl .0, part-sizes (pre .1) (args .nums .now) refl .1),
+    )
 
 mul-add-keys : tie.Need-mul-add-keys
 mul-add-keys c = omega arith
@@ -98,7 +120,10 @@ part-add-keys-end : tie.Need-part-add-keys-end
 part-add-keys-end c = search needs
 
 mul-add-keys-2 : tie.Need-mul-add-keys-2
-mul-add-keys-2 c = let b = offsets (c .before .before .before .before .before .before .before .before .before .before .before .before .before .before .pre .1) in omega (arith, c .before .before .before .before .before .before .before .before .before .before .before .before .before .before .pre .1 .rows)
+mul-add-keys-2 c =
+    let pre = c .before .before .before .before .before .before .before .before .before .before .before .before .before .before .pre in
+    let b = offsets (pre .1) in
+    omega (arith, pre .1 .rows)
 
 sub-add-keys-2 : tie.Need-sub-add-keys-2
 sub-add-keys-2 c = omega arith
@@ -110,7 +135,10 @@ part-add-keys-end-2 : tie.Need-part-add-keys-end-2
 part-add-keys-end-2 c = search needs
 
 mul-add-keys-3 : tie.Need-mul-add-keys-3
-mul-add-keys-3 c = let b = offsets (c .before .before .before .before .before .before .before .before .before .before .before .before .before .before .before .pre .1) in omega (arith, c .before .before .before .before .before .before .before .before .before .before .before .before .before .before .before .pre .1 .rows)
+mul-add-keys-3 c =
+    let pre = c .before .before .before .before .before .before .before .before .before .before .before .before .before .before .before .pre in
+    let b = offsets (pre .1) in
+    omega (arith, pre .1 .rows)
 
 sub-add-keys-3 : tie.Need-sub-add-keys-3
 sub-add-keys-3 c = omega arith
@@ -122,7 +150,14 @@ part-add-keys-end-3 : tie.Need-part-add-keys-end-3
 part-add-keys-end-3 c = search needs
 
 add-keys-requires : tie.Need-add-keys-requires
-add-keys-requires c κs = let l = (c .before .before .before .before .before .before .before .before .before .before .before .before .before .before .before .before .pre .0) in (relaid (c .before .before .before .before .before .before .before .before .before .before .before .before .before .before .before .before .args .f) (c .before .before .before .before .before .before .before .copy-rows .kept .0) l, ((branch-other (c .before .before .before .before .before .before .before .before .before .before .before .before .before .before .before .before .pre .1) (c .before .before .before .before .before .before .before .before .before .before .before .if1 .left), c .before .before .before .before .before .before .before .before .before .before .before .before .before .before .before .before .pre .1 .scratch), ((part-sizes (c .before .before .before .before .before .before .before .before .before .before .before .before .before .before .before .before .pre .1) (c .before .before .before .before .before .before .before .before .before .before .before .before .before .before .before .before .args .nums .now) refl .0, part-sizes (c .before .before .before .before .before .before .before .before .before .before .before .before .before .before .before .before .pre .1) (c .before .before .before .before .before .before .before .before .before .before .before .before .before .before .before .before .args .nums .now) refl .1), (c .before .before .before .before .before .before .before .before .before .before .before .before .before .before .before .before .pre .1 .known, wide-other (c .before .before .before .before .before .before .before .before .before .before .before .before .before .before .before .before .pre .1) _ (c .before .before .before .before .before .before .before .before .before .before .before .if1 .left) (part-sizes (c .before .before .before .before .before .before .before .before .before .before .before .before .before .before .before .before .pre .1) (c .before .before .before .before .before .before .before .before .before .before .before .before .before .before .before .before .args .nums .now) refl .2)))))
+add-keys-requires c κs =
+    let args = c .before .before .before .before .before .before .before .before .before .before .before .before .before .before .before .before .args in
+    let pre = c .before .before .before .before .before .before .before .before .before .before .before .before .before .before .before .before .pre in
+    let if1 = c .before .before .before .before .before .before .before .before .before .before .before .if1 in
+    let l = (pre .0) in (
+      relaid (args .f) (c .before .before .before .before .before .before .before .copy-rows .kept .0) l,
+      ((branch-other (pre .1) (if1 .left), pre .1 .scratch), ((part-sizes (pre .1) (args .nums .now) refl .0, part-sizes (pre .1) (args .nums .now) refl .1), (pre .1 .known, wide-other (pre .1) _ (if1 .left) (part-sizes (pre .1) (args .nums .now) refl .2)))),
+    )
 
 same-length-2 : tie.Need-same-length-2
 same-length-2 c = c .before .before .before .before .add-keys .kept .0 ∙ c .before .before .before .before .before .before .before .before .before .before .before .before .copy-rows .kept .0
@@ -131,7 +166,9 @@ same-length-3 : tie.Need-same-length-3
 same-length-3 c = search needs
 
 returns-2 : tie.Need-returns-2
-returns-2 c = view-other (c .before .before .before .before .before .before .before .before .before .before .before .before .before .before .before .before .before .before .before .before .before .args .z) (c .before .before .before .before .before .before .before .before .before .before .before .before .before .before .before .before .before .before .before .before .before .args .f) (c .before .before .before .before .before .before .before .before .before .before .before .before .before .before .before .before .before .before .before .before .before .args .layout) (c .before .before .before .before .before .before .before .before .before .before .before .before .before .before .before .before .before .before .before .before .before .args .row) (c .before .before .before .before .before .before .before .before .before .before .before .before .before .before .before .before .before .before .before .before .before .args .prior) (c .before .before .before .before .before .before .before .before .before .before .before .before .before .before .before .before .before .before .before .before .before .args .keys .now) (c .before .before .before .before .before .before .before .before .before .before .before .before .before .before .before .before .before .before .before .before .before .args .y) (c .before .before .before .before .before .before .before .before .before .before .before .before .before .before .before .before .before .before .before .before .before .args .d) (c .before .before .before .before .before .before .before .before .before .before .before .before .before .before .before .before .before .before .before .before .before .args .nums .now) _ _ _ (c .before .before .before .before .before .before .before .before .before .before .before .before .before .before .before .before .if1 .left) (c .before .before .before .before .before .before .before .before .before .before .before .before .copy-rows .ensures) (c .before .before .before .before .add-keys .ensures)
+returns-2 c =
+    let args = c .before .before .before .before .before .before .before .before .before .before .before .before .before .before .before .before .before .before .before .before .before .args in
+    view-other (args .z) (args .f) (args .layout) (args .row) (args .prior) (args .keys .now) (args .y) (args .d) (args .nums .now) _ _ _ (c .before .before .before .before .before .before .before .before .before .before .before .before .before .before .before .before .if1 .left) (c .before .before .before .before .before .before .before .before .before .before .before .before .copy-rows .ensures) (c .before .before .before .before .add-keys .ensures)
 
 pub add-view-spec : {M : Type 1} → statement M
 add-view-spec =

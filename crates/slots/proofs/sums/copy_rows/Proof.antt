@@ -14,16 +14,41 @@ returns : tie.Need-returns
 returns c = rows-x _ _ _ _ _ _ _ (not-true (c .before .before .before .before .args .z) (c .if1 .taken))
 
 corner-requires : tie.Need-corner-requires
-corner-requires c κs = let l = (c .before .before .before .before .pre .0) in (l .few-rows, omega (arith, (c .before .before .before .before .pre .1 .0) .inside (not-false (c .before .before .before .before .args .z) (c .if1 .left)), l .few-rows), omega arith)
+corner-requires c κs =
+    let l = (c .before .before .before .before .pre .0) in (
+      l .few-rows,
+      omega (arith, (c .before .before .before .before .pre .1 .0) .inside (not-false (c .before .before .before .before .args .z) (c .if1 .left)), l .few-rows),
+      omega arith,
+    )
 
 stamp-at-requires : tie.Need-stamp-at-requires
-stamp-at-requires c κs = let l = (c .before .before .before .before .before .before .pre .0) in (l, (corner-fits (c .before .before .before .before .before .before .args .f) Xi (c .before .before .before .before .before .before .args .f .rows) 1 _ (c .before .before .before .before .before .before .args .row) 0 (c .before .before .before .before .before .before .args .y) 1 (omega arith) (c .before .corner .ensures) ((c .before .before .before .before .before .before .pre .1 .0) .inside (not-false (c .before .before .before .before .before .before .args .z) (c .before .before .if1 .left))) (omega arith), λ i j hi hj. dense (c .before .before .before .before .before .before .args .y) 1 _ (omega (arith, (c .before .before .before .before .before .before .pre .1 .1))) i j hi hj))
+stamp-at-requires c κs =
+    let args = c .before .before .before .before .before .before .args in
+    let pre = c .before .before .before .before .before .before .pre in
+    let l = (pre .0) in (
+      l,
+      (corner-fits (args .f) Xi (args .f .rows) 1 _ (args .row) 0 (args .y) 1 (omega arith) (c .before .corner .ensures) ((pre .1 .0) .inside (not-false (args .z) (c .before .before .if1 .left))) (omega arith), λ i j hi hj. dense (args .y) 1 _ (omega (arith, (pre .1 .1))) i j hi hj),
+    )
 
 corner-requires-2 : tie.Need-corner-requires-2
-corner-requires-2 c κs = let l = (c .before .before .before .before .before .before .before .before .before .pre .0) in (l .few-rows, omega (arith, (c .before .before .before .before .before .before .before .before .before .pre .1 .0) .inside (not-false (c .before .before .before .before .before .before .before .before .before .args .z) (c .before .before .before .before .before .if1 .left)), l .few-rows), omega (arith, (c .before .before .before .before .before .before .before .before .before .pre .1 .0) .inside (not-false (c .before .before .before .before .before .before .before .before .before .args .z) (c .before .before .before .before .before .if1 .left)), l .few-rows))
+corner-requires-2 c κs =
+    let args = c .before .before .before .before .before .before .before .before .before .args in
+    let pre = c .before .before .before .before .before .before .before .before .before .pre in
+    let l = (pre .0) in (
+      l .few-rows,
+      omega (arith, (pre .1 .0) .inside (not-false (args .z) (c .before .before .before .before .before .if1 .left)), l .few-rows),
+      omega (arith, (pre .1 .0) .inside (not-false (args .z) (c .before .before .before .before .before .if1 .left)), l .few-rows),
+    )
 
 stamp-at-requires-2 : tie.Need-stamp-at-requires-2
-stamp-at-requires-2 c κs = let l = (c .before .before .before .before .before .before .before .before .before .before .before .pre .0) in (relaid (c .before .before .before .before .before .before .before .before .before .before .before .args .f) (c .before .before .before .before .stamp-at .kept .0) l, (corner-fits (c .before .before .before .before .before .before .before .before .before .before .before .args .f) W (c .before .before .before .before .before .before .before .before .before .before .before .args .f .rows) (c .before .before .before .before .before .before .before .before .before .before .before .args .f .rows) _ (c .before .before .before .before .before .before .before .before .before .before .before .args .row) (c .before .before .before .before .before .before .before .before .before .before .before .args .row) (c .before .before .before .before .before .before .before .before .before .before .before .args .y) (c .before .before .before .before .before .before .before .before .before .before .before .args .y) (omega arith) (c .before .corner2 .ensures) ((c .before .before .before .before .before .before .before .before .before .before .before .pre .1 .0) .inside (not-false (c .before .before .before .before .before .before .before .before .before .before .before .args .z) (c .before .before .before .before .before .before .before .if1 .left))) ((c .before .before .before .before .before .before .before .before .before .before .before .pre .1 .0) .inside (not-false (c .before .before .before .before .before .before .before .before .before .before .before .args .z) (c .before .before .before .before .before .before .before .if1 .left))), λ i j hi hj. dense (c .before .before .before .before .before .before .before .before .before .before .before .args .y) (c .before .before .before .before .before .before .before .before .before .before .before .args .y) _ ((c .before .before .before .before .before .before .before .before .before .before .before .pre .1 .2)) i j hi hj))
+stamp-at-requires-2 c κs =
+    let args = c .before .before .before .before .before .before .before .before .before .before .before .args in
+    let pre = c .before .before .before .before .before .before .before .before .before .before .before .pre in
+    let if1 = c .before .before .before .before .before .before .before .if1 in
+    let l = (pre .0) in (
+      relaid (args .f) (c .before .before .before .before .stamp-at .kept .0) l,
+      (corner-fits (args .f) W (args .f .rows) (args .f .rows) _ (args .row) (args .row) (args .y) (args .y) (omega arith) (c .before .corner2 .ensures) ((pre .1 .0) .inside (not-false (args .z) (if1 .left))) ((pre .1 .0) .inside (not-false (args .z) (if1 .left))), λ i j hi hj. dense (args .y) (args .y) _ ((pre .1 .2)) i j hi hj),
+    )
 
 same-length : tie.Need-same-length
 same-length c = search needs

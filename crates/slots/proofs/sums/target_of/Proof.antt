@@ -15,14 +15,18 @@ returns-2 c = rw (c .before .before .before .before .if1 .taken, not-false (c .b
 
 returns-3 : tie.Need-returns-3
 unfolding targetOf
-returns-3 c = rw (c .before .before .before .before .before .before .before .if1 .taken, not-false (c .before .before .before .before .before .before .before .before .args .k .cleared) (c .before .before .before .before .before .if2 .left), not-false (c .before .before .before .before .before .before .before .before .args .o .cleared) (c .before .before .before .if3 .left), lt-leb _ _ (c .if4 .taken))
+returns-3 c =
+    let args = c .before .before .before .before .before .before .before .before .args in
+    rw (c .before .before .before .before .before .before .before .if1 .taken, not-false (args .k .cleared) (c .before .before .before .before .before .if2 .left), not-false (args .o .cleared) (c .before .before .before .if3 .left), lt-leb _ _ (c .if4 .taken))
 
 corner-requires : tie.Need-corner-requires
 corner-requires c κs = search needs
 
 returns-4 : tie.Need-returns-4
 unfolding targetOf
-returns-4 c = rw (c .before .before .before .before .before .before .before .before .before .before .before .if1 .taken, not-false (c .before .before .before .before .before .before .before .before .before .before .before .before .args .k .cleared) (c .before .before .before .before .before .before .before .before .before .if2 .left), not-false (c .before .before .before .before .before .before .before .before .before .before .before .before .args .o .cleared) (c .before .before .before .before .before .before .before .if3 .left), le-leb _ _ (c .before .before .before .before .if4 .left), le-leb _ _ (c .before .if5 .taken), c .corner .ensures)
+returns-4 c =
+    let args = c .before .before .before .before .before .before .before .before .before .before .before .before .args in
+    rw (c .before .before .before .before .before .before .before .before .before .before .before .if1 .taken, not-false (args .k .cleared) (c .before .before .before .before .before .before .before .before .before .if2 .left), not-false (args .o .cleared) (c .before .before .before .before .before .before .before .if3 .left), le-leb _ _ (c .before .before .before .before .if4 .left), le-leb _ _ (c .before .if5 .taken), c .corner .ensures)
 
 corner-requires-2 : tie.Need-corner-requires-2
 corner-requires-2 c κs = search needs
@@ -32,7 +36,9 @@ flip-requires c κs = search needs
 
 returns-5 : tie.Need-returns-5
 unfolding targetOf
-returns-5 c = rw (c .before .before .before .before .before .before .before .before .before .before .before .before .if1 .taken, not-false (c .before .before .before .before .before .before .before .before .before .before .before .before .before .args .k .cleared) (c .before .before .before .before .before .before .before .before .before .before .if2 .left), not-false (c .before .before .before .before .before .before .before .before .before .before .before .before .before .args .o .cleared) (c .before .before .before .before .before .before .before .before .if3 .left), le-leb _ _ (c .before .before .before .before .before .if4 .left), lt-leb _ _ (c .before .before .if5 .left), c .flip .ensures, c .before .corner2 .ensures)
+returns-5 c =
+    let args = c .before .before .before .before .before .before .before .before .before .before .before .before .before .args in
+    rw (c .before .before .before .before .before .before .before .before .before .before .before .before .if1 .taken, not-false (args .k .cleared) (c .before .before .before .before .before .before .before .before .before .before .if2 .left), not-false (args .o .cleared) (c .before .before .before .before .before .before .before .before .if3 .left), le-leb _ _ (c .before .before .before .before .before .if4 .left), lt-leb _ _ (c .before .before .if5 .left), c .flip .ensures, c .before .corner2 .ensures)
 
 corner-requires-3 : tie.Need-corner-requires-3
 corner-requires-3 c κs = search needs

@@ -6,7 +6,10 @@ use Rattle.slots.proofs.sums.times_at.Statement.{statement}
 use Rattle.slots.proofs.sums.times_at.Tie as tie
 
 gemm-at-requires : tie.Need-gemm-at-requires
-gemm-at-requires c κs = (c .before .before .before .before .pre .0, (c .before .before .before .before .pre .1 .0, (dense-flip (c .before .before .before .before .args .y) (c .before .before .before .before .args .s) _ (c .before .before .before .before .pre .1 .1 .0), dense (c .before .before .before .before .args .y) (c .before .before .before .before .args .w) _ (c .before .before .before .before .pre .1 .1 .1))))
+gemm-at-requires c κs =
+    let args = c .before .before .before .before .args in
+    let pre = c .before .before .before .before .pre in
+    (pre .0, (pre .1 .0, (dense-flip (args .y) (args .s) _ (pre .1 .1 .0), dense (args .y) (args .w) _ (pre .1 .1 .1))))
 
 same-length : tie.Need-same-length
 same-length c = search needs

@@ -15,19 +15,25 @@ refused-requires : tie.Need-refused-requires
 refused-requires c κs = search needs
 
 returns : tie.Need-returns
-returns c = rw (c .refused .ensures) (short-factors (c .before .before .before .before .before .before .before .before .before .args .g) (planOf (c .before .before .before .before .before .before .before .before .before .args .g .variables) (c .before .before .before .before .before .before .before .before .before .args .p)) (c .before .before .before .before .before .before .before .before .before .args .figure) (c .before .before .before .before .before .before .before .before .before .args .factors .now) (c .before .before .before .before .before .before .before .before .before .args .messages .now) (c .before .before .before .before .before .before .before .before .before .args .marginals .now) (length (c .before .before .before .before .before .before .before .before .before .args .work .now)) (omega (arith, c .before .before .offset .ensures .0)))
+returns c =
+    let args = c .before .before .before .before .before .before .before .before .before .args in
+    rw (c .refused .ensures) (short-factors (args .g) (planOf (args .g .variables) (args .p)) (args .figure) (args .factors .now) (args .messages .now) (args .marginals .now) (length (args .work .now)) (omega (arith, c .before .before .offset .ensures .0)))
 
 refused-requires-2 : tie.Need-refused-requires-2
 refused-requires-2 c κs = search needs
 
 returns-2 : tie.Need-returns-2
-returns-2 c = rw (c .refused2 .ensures) (short-messages (c .before .before .before .before .before .before .before .before .before .before .args .g) (planOf (c .before .before .before .before .before .before .before .before .before .before .args .g .variables) (c .before .before .before .before .before .before .before .before .before .before .args .p)) (c .before .before .before .before .before .before .before .before .before .before .args .figure) (c .before .before .before .before .before .before .before .before .before .before .args .factors .now) (c .before .before .before .before .before .before .before .before .before .before .args .messages .now) (c .before .before .before .before .before .before .before .before .before .before .args .marginals .now) (length (c .before .before .before .before .before .before .before .before .before .before .args .work .now)) (omega (arith, c .before .before .before .offset .ensures .0, c .before .before .if1 .left)) (omega (arith, c .before .if2 .taken)))
+returns-2 c =
+    let args = c .before .before .before .before .before .before .before .before .before .before .args in
+    rw (c .refused2 .ensures) (short-messages (args .g) (planOf (args .g .variables) (args .p)) (args .figure) (args .factors .now) (args .messages .now) (args .marginals .now) (length (args .work .now)) (omega (arith, c .before .before .before .offset .ensures .0, c .before .before .if1 .left)) (omega (arith, c .before .if2 .taken)))
 
 refused-requires-3 : tie.Need-refused-requires-3
 refused-requires-3 c κs = search needs
 
 returns-3 : tie.Need-returns-3
-returns-3 c = rw (c .refused3 .ensures) (short-work (c .before .before .before .before .before .before .before .before .before .before .before .args .g) (planOf (c .before .before .before .before .before .before .before .before .before .before .before .args .g .variables) (c .before .before .before .before .before .before .before .before .before .before .before .args .p)) (c .before .before .before .before .before .before .before .before .before .before .before .args .figure) (c .before .before .before .before .before .before .before .before .before .before .before .args .factors .now) (c .before .before .before .before .before .before .before .before .before .before .before .args .messages .now) (c .before .before .before .before .before .before .before .before .before .before .before .args .marginals .now) (length (c .before .before .before .before .before .before .before .before .before .before .before .args .work .now)) (omega (arith, c .before .before .before .before .offset .ensures .0, c .before .before .before .if1 .left)) (omega (arith, c .before .before .if2 .left)) (omega (arith, c .before .if3 .taken)))
+returns-3 c =
+    let args = c .before .before .before .before .before .before .before .before .before .before .before .args in
+    rw (c .refused3 .ensures) (short-work (args .g) (planOf (args .g .variables) (args .p)) (args .figure) (args .factors .now) (args .messages .now) (args .marginals .now) (length (args .work .now)) (omega (arith, c .before .before .before .before .offset .ensures .0, c .before .before .before .if1 .left)) (omega (arith, c .before .before .if2 .left)) (omega (arith, c .before .if3 .taken)))
 
 marginal-numbers-requires : tie.Need-marginal-numbers-requires
 marginal-numbers-requires c κs = (c .before .before .before .before .before .before .before .before .before .before .pre) .plan .sound
@@ -36,10 +42,15 @@ refused-requires-4 : tie.Need-refused-requires-4
 refused-requires-4 c κs = search needs
 
 returns-4 : tie.Need-returns-4
-returns-4 c = rw (c .refused4 .ensures) (short-marginals (c .before .before .before .before .before .before .before .before .before .before .before .before .before .args .g) (planOf (c .before .before .before .before .before .before .before .before .before .before .before .before .before .args .g .variables) (c .before .before .before .before .before .before .before .before .before .before .before .before .before .args .p)) (c .before .before .before .before .before .before .before .before .before .before .before .before .before .args .figure) (c .before .before .before .before .before .before .before .before .before .before .before .before .before .args .factors .now) (c .before .before .before .before .before .before .before .before .before .before .before .before .before .args .messages .now) (c .before .before .before .before .before .before .before .before .before .before .before .before .before .args .marginals .now) (length (c .before .before .before .before .before .before .before .before .before .before .before .before .before .args .work .now)) (omega (arith, c .before .before .before .before .before .before .offset .ensures .0, c .before .before .before .before .before .if1 .left)) (omega (arith, c .before .before .before .before .if2 .left)) (omega (arith, c .before .before .before .if3 .left)) (omega (arith, c .before .if4 .taken, c .before .before .marginal-numbers .ensures .0)))
+returns-4 c =
+    let args = c .before .before .before .before .before .before .before .before .before .before .before .before .before .args in
+    rw (c .refused4 .ensures) (short-marginals (args .g) (planOf (args .g .variables) (args .p)) (args .figure) (args .factors .now) (args .messages .now) (args .marginals .now) (length (args .work .now)) (omega (arith, c .before .before .before .before .before .before .offset .ensures .0, c .before .before .before .before .before .if1 .left)) (omega (arith, c .before .before .before .before .if2 .left)) (omega (arith, c .before .before .before .if3 .left)) (omega (arith, c .before .if4 .taken, c .before .before .marginal-numbers .ensures .0)))
 
 first-stage-requires : tie.Need-first-stage-requires
-first-stage-requires c κs = (c .before .before .before .before .before .before .before .before .before .before .before .before .before .before .before .pre, record { of-factors = (omega (arith, c .before .before .before .before .before .before .before .before .offset .ensures .0, c .before .before .before .before .before .before .before .if1 .left)); of-messages = (omega (arith, c .before .before .before .before .before .before .if2 .left)); of-work = (omega (arith, c .before .before .before .before .before .if3 .left)); of-marginals = omega (arith, c .before .before .before .if4 .left, c .before .before .before .before .marginal-numbers .ensures .0) })
+first-stage-requires c κs = (
+  c .before .before .before .before .before .before .before .before .before .before .before .before .before .before .before .pre,
+  record { of-factors = (omega (arith, c .before .before .before .before .before .before .before .before .offset .ensures .0, c .before .before .before .before .before .before .before .if1 .left)); of-messages = (omega (arith, c .before .before .before .before .before .before .if2 .left)); of-work = (omega (arith, c .before .before .before .before .before .if3 .left)); of-marginals = omega (arith, c .before .before .before .if4 .left, c .before .before .before .before .marginal-numbers .ensures .0) },
+)
 
 same-length : tie.Need-same-length
 same-length c = search needs
@@ -51,7 +62,9 @@ same-length-3 : tie.Need-same-length-3
 same-length-3 c = search needs
 
 returns-5 : tie.Need-returns-5
-returns-5 c = c .before .before .before .before .before .before .first-stage .ensures ∙ checked-enough (c .before .before .before .before .before .before .before .before .before .before .before .before .before .before .before .before .before .before .before .before .before .before .args .g) (planOf (c .before .before .before .before .before .before .before .before .before .before .before .before .before .before .before .before .before .before .before .before .before .before .args .g .variables) (c .before .before .before .before .before .before .before .before .before .before .before .before .before .before .before .before .before .before .before .before .before .before .args .p)) (c .before .before .before .before .before .before .before .before .before .before .before .before .before .before .before .before .before .before .before .before .before .before .args .figure) (c .before .before .before .before .before .before .before .before .before .before .before .before .before .before .before .before .before .before .before .before .before .before .args .factors .now) (c .before .before .before .before .before .before .before .before .before .before .before .before .before .before .before .before .before .before .before .before .before .before .args .messages .now) (c .before .before .before .before .before .before .before .before .before .before .before .before .before .before .before .before .before .before .before .before .before .before .args .marginals .now) (length (c .before .before .before .before .before .before .before .before .before .before .before .before .before .before .before .before .before .before .before .before .before .before .args .work .now)) (omega (arith, c .before .before .before .before .before .before .before .before .before .before .before .before .before .before .before .offset .ensures .0, c .before .before .before .before .before .before .before .before .before .before .before .before .before .before .if1 .left)) (omega (arith, c .before .before .before .before .before .before .before .before .before .before .before .before .before .if2 .left)) (omega (arith, c .before .before .before .before .before .before .before .before .before .before .before .before .if3 .left)) (omega (arith, c .before .before .before .before .before .before .before .before .before .before .if4 .left, c .before .before .before .before .before .before .before .before .before .before .before .marginal-numbers .ensures .0))
+returns-5 c =
+    let args = c .before .before .before .before .before .before .before .before .before .before .before .before .before .before .before .before .before .before .before .before .before .before .args in
+    c .before .before .before .before .before .before .first-stage .ensures ∙ checked-enough (args .g) (planOf (args .g .variables) (args .p)) (args .figure) (args .factors .now) (args .messages .now) (args .marginals .now) (length (args .work .now)) (omega (arith, c .before .before .before .before .before .before .before .before .before .before .before .before .before .before .before .offset .ensures .0, c .before .before .before .before .before .before .before .before .before .before .before .before .before .before .if1 .left)) (omega (arith, c .before .before .before .before .before .before .before .before .before .before .before .before .before .if2 .left)) (omega (arith, c .before .before .before .before .before .before .before .before .before .before .before .before .if3 .left)) (omega (arith, c .before .before .before .before .before .before .before .before .before .before .if4 .left, c .before .before .before .before .before .before .before .before .before .before .before .marginal-numbers .ensures .0))
 
 pub check-stores-spec : {M : Type 1} → statement M
 check-stores-spec =

@@ -7,7 +7,12 @@ use Rattle.solver.proofs.run.first_stage.Statement.{statement}
 use Rattle.solver.proofs.run.first_stage.Tie as tie
 
 carry-pass-requires : tie.Need-carry-pass-requires
-carry-pass-requires c κs = ((forward-ready (c .before .before .before .before .before .before .before .before .before .args .g) (c .before .before .before .before .before .before .before .before .before .args .p) (c .before .before .before .before .before .before .before .before .before .args .half) (c .before .before .before .before .before .before .before .before .before .args .figure) (c .before .before .before .before .before .before .before .before .before .args .keys .now) (c .before .before .before .before .before .before .before .before .before .args .heads .now) (c .before .before .before .before .before .before .before .before .before .args .factors .now) (c .before .before .before .before .before .before .before .before .before .args .messages .now) (c .before .before .before .before .before .before .before .before .before .args .marginals .now) (length (c .before .before .before .before .before .before .before .before .before .args .work .now)) (c .before .before .before .before .before .before .before .before .before .pre .0) (c .before .before .before .before .before .before .before .before .before .pre .1), forwards (c .before .before .before .before .before .before .before .before .before .args .g) (c .before .before .before .before .before .before .before .before .before .args .p) (c .before .before .before .before .before .before .before .before .before .args .half) (c .before .before .before .before .before .before .before .before .before .args .figure) (c .before .before .before .before .before .before .before .before .before .args .keys .now) (c .before .before .before .before .before .before .before .before .before .args .heads .now) (c .before .before .before .before .before .before .before .before .before .args .factors .now) (c .before .before .before .before .before .before .before .before .before .args .messages .now) (c .before .before .before .before .before .before .before .before .before .args .marginals .now) (length (c .before .before .before .before .before .before .before .before .before .args .work .now)) (c .before .before .before .before .before .before .before .before .before .pre .0) (c .before .before .before .before .before .before .before .before .before .pre .1), omega arith, omega arith), ((c .before .before .before .before .before .before .before .before .before .pre .0 .tables, (c .before .before .before .before .before .before .before .before .before .pre) .0 .placed), (c .before .before .before .before .before .before .before .before .before .pre .1 .of-factors, forward-room (c .before .before .before .before .before .before .before .before .before .args .g) (c .before .before .before .before .before .before .before .before .before .args .p) (c .before .before .before .before .before .before .before .before .before .args .half) (c .before .before .before .before .before .before .before .before .before .args .figure) (c .before .before .before .before .before .before .before .before .before .args .keys .now) (c .before .before .before .before .before .before .before .before .before .args .heads .now) (c .before .before .before .before .before .before .before .before .before .args .factors .now) (c .before .before .before .before .before .before .before .before .before .args .messages .now) (c .before .before .before .before .before .before .before .before .before .args .marginals .now) (length (c .before .before .before .before .before .before .before .before .before .args .work .now)) (c .before .before .before .before .before .before .before .before .before .pre .0) (c .before .before .before .before .before .before .before .before .before .pre .1), (c .before .before .before .before .before .before .before .before .before .pre) .1 .of-work)))
+carry-pass-requires c κs =
+    let args = c .before .before .before .before .before .before .before .before .before .args in
+    let pre = c .before .before .before .before .before .before .before .before .before .pre in (
+      (forward-ready (args .g) (args .p) (args .half) (args .figure) (args .keys .now) (args .heads .now) (args .factors .now) (args .messages .now) (args .marginals .now) (length (args .work .now)) (pre .0) (pre .1), forwards (args .g) (args .p) (args .half) (args .figure) (args .keys .now) (args .heads .now) (args .factors .now) (args .messages .now) (args .marginals .now) (length (args .work .now)) (pre .0) (pre .1), omega arith, omega arith),
+      ((pre .0 .tables, (pre) .0 .placed), (pre .1 .of-factors, forward-room (args .g) (args .p) (args .half) (args .figure) (args .keys .now) (args .heads .now) (args .factors .now) (args .messages .now) (args .marginals .now) (length (args .work .now)) (pre .0) (pre .1), (pre) .1 .of-work)),
+    )
 
 enum-told : tie.Need-enum-told
 enum-told c = search needs
@@ -16,7 +21,12 @@ enum-known-j : tie.Need-enum-known-j
 enum-known-j c = search needs
 
 step-of-requires : tie.Need-step-of-requires
-step-of-requires c κs = (forward-ready (c .before .before .before .before .before .before .before .before .before .before .before .before .before .before .before .before .before .args .g) (c .before .before .before .before .before .before .before .before .before .before .before .before .before .before .before .before .before .args .p) (c .before .before .before .before .before .before .before .before .before .before .before .before .before .before .before .before .before .args .half) (c .before .before .before .before .before .before .before .before .before .before .before .before .before .before .before .before .before .args .figure) (c .before .before .before .before .before .before .before .before .before .before .before .before .before .before .before .before .before .args .keys .now) (c .before .before .before .before .before .before .before .before .before .before .before .before .before .before .before .before .before .args .heads .now) (c .before .before .before .before .before .before .before .before .before .before .before .before .before .before .before .before .before .args .factors .now) (c .before .before .before .before .before .before .before .before .before .before .before .before .before .before .before .before .before .args .messages .now) (c .before .before .before .before .before .before .before .before .before .before .before .before .before .before .before .before .before .args .marginals .now) (length (c .before .before .before .before .before .before .before .before .before .before .before .before .before .before .before .before .before .args .work .now)) (c .before .before .before .before .before .before .before .before .before .before .before .before .before .before .before .before .before .pre .0) (c .before .before .before .before .before .before .before .before .before .before .before .before .before .before .before .before .before .pre .1), stop-low (c .before .before .before .before .before .before .before .before .before .before .before .before .before .before .before .before .before .args .g) (c .before .before .before .before .before .before .before .before .before .before .before .before .before .before .before .before .before .args .factors .now) _ _ _ _ (c .before .before .before .before .before .before .before .carry-pass .ensures .0) (c .before .j .given .1))
+step-of-requires c κs =
+    let args = c .before .before .before .before .before .before .before .before .before .before .before .before .before .before .before .before .before .args in
+    let pre = c .before .before .before .before .before .before .before .before .before .before .before .before .before .before .before .before .before .pre in (
+      forward-ready (args .g) (args .p) (args .half) (args .figure) (args .keys .now) (args .heads .now) (args .factors .now) (args .messages .now) (args .marginals .now) (length (args .work .now)) (pre .0) (pre .1),
+      stop-low (args .g) (args .factors .now) _ _ _ _ (c .before .before .before .before .before .before .before .carry-pass .ensures .0) (c .before .j .given .1),
+    )
 
 refused-requires : tie.Need-refused-requires
 refused-requires c κs = search needs
@@ -28,10 +38,20 @@ same-length-2 : tie.Need-same-length-2
 same-length-2 c = search needs
 
 returns : tie.Need-returns
-returns c = rw (c .refused .ensures) (first-refused (c .before .before .before .before .before .before .before .before .before .before .before .before .before .before .before .before .before .before .before .args .g) (c .before .before .before .before .before .before .before .before .before .before .before .before .before .before .before .before .before .before .before .args .p) (c .before .before .before .before .before .before .before .before .before .before .before .before .before .before .before .before .before .before .before .args .half) (c .before .before .before .before .before .before .before .before .before .before .before .before .before .before .before .before .before .before .before .args .figure) (c .before .before .before .before .before .before .before .before .before .before .before .before .before .before .before .before .before .before .before .args .keys .now) (c .before .before .before .before .before .before .before .before .before .before .before .before .before .before .before .before .before .before .before .args .heads .now) (c .before .before .before .before .before .before .before .before .before .before .before .before .before .before .before .before .before .before .before .args .factors .now) (c .before .before .before .before .before .before .before .before .before .before .before .before .before .before .before .before .before .before .before .args .messages .now) (c .before .before .before .before .before .before .before .before .before .before .before .before .before .before .before .before .before .before .before .args .marginals .now) (length (c .before .before .before .before .before .before .before .before .before .before .before .before .before .before .before .before .before .before .before .args .work .now)) (c .before .before .before .before .before .before .before .before .before .before .before .before .before .before .before .before .before .before .before .pre .0) (c .before .before .before .before .before .before .before .before .before .before .before .before .before .before .before .before .before .before .before .pre .1) _ _ (c .before .before .before .before .before .before .before .before .before .carry-pass .ensures .0) (c .before .before .before .before .before .before .before .before .before .carry-pass .ensures .1 .0) _ _ _ (c .before .before .before .j .given .1) (c .before .step-of .ensures))
+returns c =
+    let args = c .before .before .before .before .before .before .before .before .before .before .before .before .before .before .before .before .before .before .before .args in
+    let pre = c .before .before .before .before .before .before .before .before .before .before .before .before .before .before .before .before .before .before .before .pre in
+    let carry-pass = c .before .before .before .before .before .before .before .before .before .carry-pass in
+    rw (c .refused .ensures) (first-refused (args .g) (args .p) (args .half) (args .figure) (args .keys .now) (args .heads .now) (args .factors .now) (args .messages .now) (args .marginals .now) (length (args .work .now)) (pre .0) (pre .1) _ _ (carry-pass .ensures .0) (carry-pass .ensures .1 .0) _ _ _ (c .before .before .before .j .given .1) (c .before .step-of .ensures))
 
 second-stage-requires : tie.Need-second-stage-requires
-second-stage-requires c κs = ((c .before .before .before .before .before .before .before .before .before .before .before .before .before .before .before .before .before .before .before .pre .0, enough-later (c .before .before .before .before .before .before .before .before .before .before .before .before .before .before .before .before .before .before .before .args .g) (c .before .before .before .before .before .before .before .before .before .before .before .before .before .before .before .before .before .before .before .args .figure) (c .before .before .before .before .before .before .before .before .before .before .before .before .before .before .before .before .before .before .before .args .factors .now) (c .before .before .before .before .before .before .before .before .before .before .before .before .before .before .before .before .before .before .before .args .messages .now) _ (length (c .before .before .before .before .before .before .before .before .before .before .before .before .before .before .before .before .before .before .before .args .work .now)) _ (length (c .before .before .before .before .before .before .before .before .before .before .before .before .before .before .before .before .before .before .before .args .marginals .now)) (c .before .before .before .before .before .before .before .before .before .before .before .before .before .before .before .before .before .before .before .pre .1) (c .before .before .before .before .before .before .before .before .before .carry-pass .kept .1 .1 .1 .1 .1 .0) (c .before .before .before .before .before .before .before .before .before .carry-pass .kept .1 .1 .1 .1 .1 .1 .0)), (c .before .before .before .before .before .before .before .before .before .carry-pass .ensures .1 .1 (c .before .before .before .enum-told .given .1)))
+second-stage-requires c κs =
+    let args = c .before .before .before .before .before .before .before .before .before .before .before .before .before .before .before .before .before .before .before .args in
+    let pre = c .before .before .before .before .before .before .before .before .before .before .before .before .before .before .before .before .before .before .before .pre in
+    let carry-pass = c .before .before .before .before .before .before .before .before .before .carry-pass in (
+      (pre .0, enough-later (args .g) (args .figure) (args .factors .now) (args .messages .now) _ (length (args .work .now)) _ (length (args .marginals .now)) (pre .1) (carry-pass .kept .1 .1 .1 .1 .1 .0) (carry-pass .kept .1 .1 .1 .1 .1 .1 .0)),
+      (carry-pass .ensures .1 .1 (c .before .before .before .enum-told .given .1)),
+    )
 
 same-length-3 : tie.Need-same-length-3
 same-length-3 c = search needs
@@ -43,7 +63,12 @@ same-length-5 : tie.Need-same-length-5
 same-length-5 c = search needs
 
 returns-2 : tie.Need-returns-2
-returns-2 c = first-done (c .before .before .before .before .before .before .before .before .before .before .before .before .before .before .before .before .before .before .before .before .before .before .before .before .before .before .args .g) (c .before .before .before .before .before .before .before .before .before .before .before .before .before .before .before .before .before .before .before .before .before .before .before .before .before .before .args .p) (c .before .before .before .before .before .before .before .before .before .before .before .before .before .before .before .before .before .before .before .before .before .before .before .before .before .before .args .half) (c .before .before .before .before .before .before .before .before .before .before .before .before .before .before .before .before .before .before .before .before .before .before .before .before .before .before .args .figure) (c .before .before .before .before .before .before .before .before .before .before .before .before .before .before .before .before .before .before .before .before .before .before .before .before .before .before .args .keys .now) (c .before .before .before .before .before .before .before .before .before .before .before .before .before .before .before .before .before .before .before .before .before .before .before .before .before .before .args .heads .now) (c .before .before .before .before .before .before .before .before .before .before .before .before .before .before .before .before .before .before .before .before .before .before .before .before .before .before .args .factors .now) (c .before .before .before .before .before .before .before .before .before .before .before .before .before .before .before .before .before .before .before .before .before .before .before .before .before .before .args .messages .now) (c .before .before .before .before .before .before .before .before .before .before .before .before .before .before .before .before .before .before .before .before .before .before .before .before .before .before .args .marginals .now) (length (c .before .before .before .before .before .before .before .before .before .before .before .before .before .before .before .before .before .before .before .before .before .before .before .before .before .before .args .work .now)) (c .before .before .before .before .before .before .before .before .before .before .before .before .before .before .before .before .before .before .before .before .before .before .before .before .before .before .pre .0) (c .before .before .before .before .before .before .before .before .before .before .before .before .before .before .before .before .before .before .before .before .before .before .before .before .before .before .pre .1) _ _ (c .before .before .before .before .before .before .before .before .before .before .before .before .before .before .before .before .carry-pass .ensures .0) (c .before .before .before .before .before .before .before .before .before .before .before .before .before .before .before .before .carry-pass .ensures .1 .0) _ _ _ (c .before .before .before .before .before .before .before .before .before .before .enum-told .given .1) (c .before .before .before .before .before .before .before .before .before .before .before .before .before .before .before .before .carry-pass .ensures .1 .1 (c .before .before .before .before .before .before .before .before .before .before .enum-told .given .1)) (c .before .before .before .before .before .before .second-stage .ensures)
+returns-2 c =
+    let args = c .before .before .before .before .before .before .before .before .before .before .before .before .before .before .before .before .before .before .before .before .before .before .before .before .before .before .args in
+    let pre = c .before .before .before .before .before .before .before .before .before .before .before .before .before .before .before .before .before .before .before .before .before .before .before .before .before .before .pre in
+    let carry-pass = c .before .before .before .before .before .before .before .before .before .before .before .before .before .before .before .before .carry-pass in
+    let the-enum-told = c .before .before .before .before .before .before .before .before .before .before .enum-told in
+    first-done (args .g) (args .p) (args .half) (args .figure) (args .keys .now) (args .heads .now) (args .factors .now) (args .messages .now) (args .marginals .now) (length (args .work .now)) (pre .0) (pre .1) _ _ (carry-pass .ensures .0) (carry-pass .ensures .1 .0) _ _ _ (the-enum-told .given .1) (carry-pass .ensures .1 .1 (the-enum-told .given .1)) (c .before .before .before .before .before .before .second-stage .ensures)
 
 pub first-stage-spec : {M : Type 1} → statement M
 first-stage-spec =

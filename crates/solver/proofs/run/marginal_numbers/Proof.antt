@@ -27,7 +27,9 @@ add-sum : tie.Need-add-sum Inv-loop μ-loop
 add-sum c = let m = square (c .size-of .result) (c .size-of .ensures .1) in record { fits = omega (arith, c .size-of .ensures .1) }
 
 add-sum-2 : tie.Need-add-sum-2 Inv-loop μ-loop
-add-sum-2 c = let m = square (c .size-of .result) (c .size-of .ensures .1) in record { fits = omega (arith, c .size-of .ensures .1, c .before .before .loop .inv .2) }
+add-sum-2 c =
+    let m = square (c .size-of .result) (c .size-of .ensures .1) in
+    record { fits = omega (arith, c .size-of .ensures .1, c .before .before .loop .inv .2) }
 
 add-key : tie.Need-add-key Inv-loop μ-loop
 add-key c = search needs
@@ -36,10 +38,15 @@ loop-less : tie.Need-loop-less Inv-loop μ-loop
 loop-less c = search needs
 
 loop-again : tie.Need-loop-again Inv-loop μ-loop
-loop-again c = let m = square (c .size-of .result) (c .size-of .ensures .1) in (omega arith, place-next _ (c .before .before .loop .key) (c .before .before .loop .sum) _ (c .before .before .loop .inv .1) (c .size-of .ensures .0), omega (arith, c .size-of .ensures .1, c .before .before .loop .inv .2))
+loop-again c =
+    let loop = c .before .before .loop in
+    let m = square (c .size-of .result) (c .size-of .ensures .1) in
+    (omega arith, place-next _ (loop .key) (loop .sum) _ (loop .inv .1) (c .size-of .ensures .0), omega (arith, c .size-of .ensures .1, loop .inv .2))
 
 returns : tie.Need-returns Inv-loop μ-loop
-returns c = let e : c .before .loop .key ≡ 32 = omega arith in numbers-told (c .before .before .before .args .g) (c .before .before .before .pre) (c .before .loop .sum) (c .before .loop .key) (c .before .loop .inv .1) e
+returns c =
+    let e : c .before .loop .key ≡ 32 = omega arith in
+    numbers-told (c .before .before .before .args .g) (c .before .before .before .pre) (c .before .loop .sum) (c .before .loop .key) (c .before .loop .inv .1) e
 
 pub marginal-numbers-spec : {M : Type 1} → statement M
 marginal-numbers-spec =

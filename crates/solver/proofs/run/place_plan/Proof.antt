@@ -22,7 +22,13 @@ slice-aggregate-place-pass-2 : tie.Need-slice-aggregate-place-pass-2
 slice-aggregate-place-pass-2 c = search needs
 
 place-pass-requires : tie.Need-place-pass-requires
-place-pass-requires c κs = let w = plan-forward (c .before .before .before .before .before .before .before .before .before .before .before .before .before .args .g) (c .before .before .before .before .before .before .before .before .before .before .before .before .before .args .p) (c .before .before .before .before .before .before .before .before .before .before .before .before .before .pre) in ((w .0, w .1, omega arith, omega arith), tables-filled (c .before .before .before .before .before .before .before .before .before .before .before .before .before .args .g) _ _ (c .before .before .before .before .fill-originals .kept .1 .0) (c .before .before .before .before .fill-originals .kept .1 .1 .0) (c .before .before .before .before .fill-originals .ensures))
+place-pass-requires c κs =
+    let args = c .before .before .before .before .before .before .before .before .before .before .before .before .before .args in
+    let fill-originals = c .before .before .before .before .fill-originals in
+    let w = plan-forward (args .g) (args .p) (c .before .before .before .before .before .before .before .before .before .before .before .before .before .pre) in (
+      (w .0, w .1, omega arith, omega arith),
+      tables-filled (args .g) _ _ (fill-originals .kept .1 .0) (fill-originals .kept .1 .1 .0) (fill-originals .ensures),
+    )
 
 slice-aggregate-place-pass-3 : tie.Need-slice-aggregate-place-pass-3
 slice-aggregate-place-pass-3 c = search needs
@@ -31,7 +37,13 @@ slice-aggregate-place-pass-4 : tie.Need-slice-aggregate-place-pass-4
 slice-aggregate-place-pass-4 c = search needs
 
 place-pass-requires-2 : tie.Need-place-pass-requires-2
-place-pass-requires-2 c κs = let w = plan-backward (c .before .before .before .before .before .before .before .before .before .before .before .before .before .before .before .before .before .before .args .g) (c .before .before .before .before .before .before .before .before .before .before .before .before .before .before .before .before .before .before .args .p) (c .before .before .before .before .before .before .before .before .before .before .before .before .before .before .before .before .before .before .pre) in ((w .0, w .1, omega arith, omega (arith, c .before .before .before .before .place-pass .ensures .0, forward-most (c .before .before .before .before .before .before .before .before .before .before .before .before .before .before .before .before .before .before .args .g) (c .before .before .before .before .before .before .before .before .before .before .before .before .before .before .before .before .before .before .args .p) (c .before .before .before .before .before .before .before .before .before .before .before .before .before .before .before .before .before .before .pre))), c .before .before .before .before .place-pass .ensures .1 .1 .0)
+place-pass-requires-2 c κs =
+    let args = c .before .before .before .before .before .before .before .before .before .before .before .before .before .before .before .before .before .before .args in
+    let pre = c .before .before .before .before .before .before .before .before .before .before .before .before .before .before .before .before .before .before .pre in
+    let w = plan-backward (args .g) (args .p) (pre) in (
+      (w .0, w .1, omega arith, omega (arith, c .before .before .before .before .place-pass .ensures .0, forward-most (args .g) (args .p) (pre))),
+      c .before .before .before .before .place-pass .ensures .1 .1 .0,
+    )
 
 slice-aggregate-check-stores : tie.Need-slice-aggregate-check-stores
 slice-aggregate-check-stores c = search needs
@@ -40,7 +52,11 @@ slice-aggregate-check-stores-2 : tie.Need-slice-aggregate-check-stores-2
 slice-aggregate-check-stores-2 c = search needs
 
 check-stores-requires : tie.Need-check-stores-requires
-check-stores-requires c κs = all-ready (c .before .before .before .before .before .before .before .before .before .before .before .before .before .before .before .before .before .before .before .before .before .before .before .before .before .before .args .g) (c .before .before .before .before .before .before .before .before .before .before .before .before .before .before .before .before .before .before .before .before .before .before .before .before .before .before .args .p) _ _ _ _ _ _ (c .before .before .before .before .before .before .before .before .before .before .before .before .before .before .before .before .before .before .before .before .before .before .before .before .before .before .pre) (c .before .before .before .before .before .before .before .before .before .before .before .before .place-pass .ensures .0) (c .before .before .before .before .before .before .before .place-pass2 .ensures .0) (c .before .before .before .before .before .before .before .before .before .before .before .before .place-pass .ensures .1 .1 .1) (c .before .before .before .before .before .before .before .place-pass2 .ensures .1 .0) (c .before .before .before .before .before .before .before .place-pass2 .ensures .1 .1 .0) (c .before .before .before .before .before .before .before .place-pass2 .ensures .1 .1 .1)
+check-stores-requires c κs =
+    let args = c .before .before .before .before .before .before .before .before .before .before .before .before .before .before .before .before .before .before .before .before .before .before .before .before .before .before .args in
+    let place-pass = c .before .before .before .before .before .before .before .before .before .before .before .before .place-pass in
+    let place-pass2 = c .before .before .before .before .before .before .before .place-pass2 in
+    all-ready (args .g) (args .p) _ _ _ _ _ _ (c .before .before .before .before .before .before .before .before .before .before .before .before .before .before .before .before .before .before .before .before .before .before .before .before .before .before .pre) (place-pass .ensures .0) (place-pass2 .ensures .0) (place-pass .ensures .1 .1 .1) (place-pass2 .ensures .1 .0) (place-pass2 .ensures .1 .1 .0) (place-pass2 .ensures .1 .1 .1)
 
 same-length : tie.Need-same-length
 same-length c = search needs
@@ -52,7 +68,10 @@ same-length-3 : tie.Need-same-length-3
 same-length-3 c = search needs
 
 returns : tie.Need-returns
-returns c = plan-checked (c .before .before .before .before .before .before .before .before .before .before .before .before .before .before .before .before .before .before .before .before .before .before .before .before .before .before .before .before .before .before .before .before .before .args .g) (c .before .before .before .before .before .before .before .before .before .before .before .before .before .before .before .before .before .before .before .before .before .before .before .before .before .before .before .before .before .before .before .before .before .args .p) _ (c .before .before .before .before .before .before .before .before .before .before .before .before .before .before .before .before .before .before .before .before .before .before .before .before .before .before .before .before .before .before .before .before .before .args .factors .now) (c .before .before .before .before .before .before .before .before .before .before .before .before .before .before .before .before .before .before .before .before .before .before .before .before .before .before .before .before .before .before .before .before .before .args .messages .now) (c .before .before .before .before .before .before .before .before .before .before .before .before .before .before .before .before .before .before .before .before .before .before .before .before .before .before .before .before .before .before .before .before .before .args .marginals .now) (length (c .before .before .before .before .before .before .before .before .before .before .before .before .before .before .before .before .before .before .before .before .before .before .before .before .before .before .before .before .before .before .before .before .before .args .work .now)) _ (c .before .before .before .before .before .before .before .before .before .before .before .before .before .before .before .before .before .before .before .before .before .before .before .before .before .before .before .before .before .before .before .before .before .pre) (figure-told (c .before .before .before .before .before .before .before .before .before .before .before .before .before .before .before .before .before .before .before .before .before .before .before .before .before .before .before .before .before .before .before .before .before .args .g) (c .before .before .before .before .before .before .before .before .before .before .before .before .before .before .before .before .before .before .before .before .before .before .before .before .before .before .before .before .before .before .before .before .before .args .p) _ _ (c .before .before .before .before .before .before .before .before .before .before .before .before .before .before .before .before .before .before .before .before .before .before .before .before .before .before .before .before .before .before .before .before .before .pre) (c .before .before .before .before .before .before .before .before .before .before .before .before .before .before .before .before .before .before .before .place-pass .ensures .0) (c .before .before .before .before .before .before .before .before .before .before .before .before .before .before .place-pass2 .ensures .0)) (c .before .before .before .before .before .before .check-stores .ensures)
+returns c =
+    let args = c .before .before .before .before .before .before .before .before .before .before .before .before .before .before .before .before .before .before .before .before .before .before .before .before .before .before .before .before .before .before .before .before .before .args in
+    let pre = c .before .before .before .before .before .before .before .before .before .before .before .before .before .before .before .before .before .before .before .before .before .before .before .before .before .before .before .before .before .before .before .before .before .pre in
+    plan-checked (args .g) (args .p) _ (args .factors .now) (args .messages .now) (args .marginals .now) (length (args .work .now)) _ (pre) (figure-told (args .g) (args .p) _ _ (pre) (c .before .before .before .before .before .before .before .before .before .before .before .before .before .before .before .before .before .before .before .place-pass .ensures .0) (c .before .before .before .before .before .before .before .before .before .before .before .before .before .before .place-pass2 .ensures .0)) (c .before .before .before .before .before .before .check-stores .ensures)
 
 pub place-plan-spec : {M : Type 1} → statement M
 place-plan-spec =

@@ -22,7 +22,9 @@ place-plan-requires : tie.Need-place-plan-requires
 place-plan-requires c κs = made-planned _ (c .before .before .before .before .before .before .before .before .before .before .before .args .g) (c .before .before .before .before .before .before .plan .ensures .0) (c .before .before .before .before .before .before .plan .ensures .1 .1) (c .before .before .before .before .enum-told .given .1)
 
 returns : tie.Need-returns
-returns c = rw (c .refused .ensures) (run-refused (c .before .before .before .before .before .before .before .before .before .args .g) (c .before .before .before .before .before .before .before .before .before .args .factors .now) (c .before .before .before .before .before .before .before .before .before .args .messages .now) (c .before .before .before .before .before .before .before .before .before .args .marginals .now) (length (c .before .before .before .before .before .before .before .before .before .args .work .now)) _ (refused-why _ (c .before .before .before .before .before .before .before .before .before .args .g) _ (c .before .before .before .before .plan .ensures .0) (c .before .before .outcome .given .1)))
+returns c =
+    let args = c .before .before .before .before .before .before .before .before .before .args in
+    rw (c .refused .ensures) (run-refused (args .g) (args .factors .now) (args .messages .now) (args .marginals .now) (length (args .work .now)) _ (refused-why _ (args .g) _ (c .before .before .before .before .plan .ensures .0) (c .before .before .outcome .given .1)))
 
 same-length : tie.Need-same-length
 same-length c = search needs
@@ -34,7 +36,9 @@ same-length-3 : tie.Need-same-length-3
 same-length-3 c = search needs
 
 returns-2 : tie.Need-returns-2
-returns-2 c = run-made (c .before .before .before .before .before .before .before .before .before .before .before .before .before .before .before .before .before .before .args .g) (c .before .before .before .before .before .before .before .before .before .before .before .before .before .before .before .before .before .before .args .factors .now) (c .before .before .before .before .before .before .before .before .before .before .before .before .before .before .before .before .before .before .args .messages .now) (c .before .before .before .before .before .before .before .before .before .before .before .before .before .before .before .before .before .before .args .marginals .now) (length (c .before .before .before .before .before .before .before .before .before .before .before .before .before .before .before .before .before .before .args .work .now)) _ (made-valid _ (c .before .before .before .before .before .before .before .before .before .before .before .before .before .before .before .before .before .before .args .g) (c .before .before .before .before .before .before .before .before .before .before .before .before .before .plan .ensures .0) (c .before .before .before .before .before .before .before .before .before .before .before .enum-told .given .1)) (c .before .before .before .before .before .before .place-plan .ensures)
+returns-2 c =
+    let args = c .before .before .before .before .before .before .before .before .before .before .before .before .before .before .before .before .before .before .args in
+    run-made (args .g) (args .factors .now) (args .messages .now) (args .marginals .now) (length (args .work .now)) _ (made-valid _ (args .g) (c .before .before .before .before .before .before .before .before .before .before .before .before .before .plan .ensures .0) (c .before .before .before .before .before .before .before .before .before .before .before .enum-told .given .1)) (c .before .before .before .before .before .before .place-plan .ensures)
 
 pub run-spec : {M : Type 1} → statement M
 run-spec =

@@ -11,89 +11,218 @@ use Rattle.gaussian.proofs.marginal.Marginal.from.Statement.{statement}
 use Rattle.gaussian.proofs.marginal.Marginal.from.Tie as tie
 
 mul-p : tie.Need-mul-p
-mul-p c = let a = mul-le-mul (c .before .pre .1) (c .before .pre .0) in let b = mul-le-mul (c .before .pre .1) (c .before .pre .1) in let d = mul-le-mul (c .before .pre .0) (c .before .pre .0) in omega (arith, c .before .pre .2)
+mul-p c =
+    let a = mul-le-mul (c .before .pre .1) (c .before .pre .0) in
+    let b = mul-le-mul (c .before .pre .1) (c .before .pre .1) in
+    let d = mul-le-mul (c .before .pre .0) (c .before .pre .0) in
+    omega (arith, c .before .pre .2)
 
 add-q : tie.Need-add-q
-add-q c = let a = mul-le-mul (c .before .pre .1) (c .before .pre .0) in let b = mul-le-mul (c .before .pre .1) (c .before .pre .1) in let d = mul-le-mul (c .before .pre .0) (c .before .pre .0) in omega (arith, c .before .pre .2)
+add-q c =
+    let a = mul-le-mul (c .before .pre .1) (c .before .pre .0) in
+    let b = mul-le-mul (c .before .pre .1) (c .before .pre .1) in
+    let d = mul-le-mul (c .before .pre .0) (c .before .pre .0) in
+    omega (arith, c .before .pre .2)
 
 mul-e : tie.Need-mul-e
-mul-e c = let a = mul-le-mul (c .before .pre .1) (c .before .pre .0) in let b = mul-le-mul (c .before .pre .1) (c .before .pre .1) in let d = mul-le-mul (c .before .pre .0) (c .before .pre .0) in omega (arith, c .before .pre .2)
+mul-e c =
+    let a = mul-le-mul (c .before .pre .1) (c .before .pre .0) in
+    let b = mul-le-mul (c .before .pre .1) (c .before .pre .1) in
+    let d = mul-le-mul (c .before .pre .0) (c .before .pre .0) in
+    omega (arith, c .before .pre .2)
 
 add-e : tie.Need-add-e
-add-e c = let a = mul-le-mul (c .before .pre .1) (c .before .pre .0) in let b = mul-le-mul (c .before .pre .1) (c .before .pre .1) in let d = mul-le-mul (c .before .pre .0) (c .before .pre .0) in omega (arith, c .before .pre .2)
+add-e c =
+    let a = mul-le-mul (c .before .pre .1) (c .before .pre .0) in
+    let b = mul-le-mul (c .before .pre .1) (c .before .pre .1) in
+    let d = mul-le-mul (c .before .pre .0) (c .before .pre .0) in
+    omega (arith, c .before .pre .2)
 
 mul-square : tie.Need-mul-square
-mul-square c = let a = mul-le-mul (c .before .pre .1) (c .before .pre .0) in let b = mul-le-mul (c .before .pre .1) (c .before .pre .1) in let d = mul-le-mul (c .before .pre .0) (c .before .pre .0) in omega (arith, c .before .pre .2)
+mul-square c =
+    let a = mul-le-mul (c .before .pre .1) (c .before .pre .0) in
+    let b = mul-le-mul (c .before .pre .1) (c .before .pre .1) in
+    let d = mul-le-mul (c .before .pre .0) (c .before .pre .0) in
+    omega (arith, c .before .pre .2)
 
 mul-moments : tie.Need-mul-moments
-mul-moments c = let a = mul-le-mul (c .before .pre .1) (c .before .pre .0) in let b = mul-le-mul (c .before .pre .1) (c .before .pre .1) in let d = mul-le-mul (c .before .pre .0) (c .before .pre .0) in omega (arith, c .before .pre .2)
+mul-moments c =
+    let a = mul-le-mul (c .before .pre .1) (c .before .pre .0) in
+    let b = mul-le-mul (c .before .pre .1) (c .before .pre .1) in
+    let d = mul-le-mul (c .before .pre .0) (c .before .pre .0) in
+    omega (arith, c .before .pre .2)
 
 sub-moments : tie.Need-sub-moments
-sub-moments c = let a = mul-le-mul (c .before .pre .1) (c .before .pre .0) in let b = mul-le-mul (c .before .pre .1) (c .before .pre .1) in let d = mul-le-mul (c .before .pre .0) (c .before .pre .0) in omega (arith, c .before .pre .2)
+sub-moments c =
+    let a = mul-le-mul (c .before .pre .1) (c .before .pre .0) in
+    let b = mul-le-mul (c .before .pre .1) (c .before .pre .1) in
+    let d = mul-le-mul (c .before .pre .0) (c .before .pre .0) in
+    omega (arith, c .before .pre .2)
 
 part-moments-start : tie.Need-part-moments-start
-part-moments-start c = let a = mul-le-mul (c .before .pre .1) (c .before .pre .0) in let b = mul-le-mul (c .before .pre .1) (c .before .pre .1) in let d = mul-le-mul (c .before .pre .0) (c .before .pre .0) in omega (arith, c .before .pre .2)
+part-moments-start c =
+    let a = mul-le-mul (c .before .pre .1) (c .before .pre .0) in
+    let b = mul-le-mul (c .before .pre .1) (c .before .pre .1) in
+    let d = mul-le-mul (c .before .pre .0) (c .before .pre .0) in
+    omega (arith, c .before .pre .2)
 
 part-moments-end : tie.Need-part-moments-end
-part-moments-end c = let a = mul-le-mul (c .before .pre .1) (c .before .pre .0) in let b = mul-le-mul (c .before .pre .1) (c .before .pre .1) in let d = mul-le-mul (c .before .pre .0) (c .before .pre .0) in omega (arith, c .before .pre .2)
+part-moments-end c =
+    let a = mul-le-mul (c .before .pre .1) (c .before .pre .0) in
+    let b = mul-le-mul (c .before .pre .1) (c .before .pre .1) in
+    let d = mul-le-mul (c .before .pre .0) (c .before .pre .0) in
+    omega (arith, c .before .pre .2)
 
 mul-moments-2 : tie.Need-mul-moments-2
-mul-moments-2 c = let a = mul-le-mul (c .before .before .pre .1) (c .before .before .pre .0) in let b = mul-le-mul (c .before .before .pre .1) (c .before .before .pre .1) in let d = mul-le-mul (c .before .before .pre .0) (c .before .before .pre .0) in omega (arith, c .before .before .pre .2)
+mul-moments-2 c =
+    let pre = c .before .before .pre in
+    let a = mul-le-mul (pre .1) (pre .0) in
+    let b = mul-le-mul (pre .1) (pre .1) in
+    let d = mul-le-mul (pre .0) (pre .0) in
+    omega (arith, pre .2)
 
 sub-moments-2 : tie.Need-sub-moments-2
-sub-moments-2 c = let a = mul-le-mul (c .before .before .pre .1) (c .before .before .pre .0) in let b = mul-le-mul (c .before .before .pre .1) (c .before .before .pre .1) in let d = mul-le-mul (c .before .before .pre .0) (c .before .before .pre .0) in omega (arith, c .before .before .pre .2)
+sub-moments-2 c =
+    let pre = c .before .before .pre in
+    let a = mul-le-mul (pre .1) (pre .0) in
+    let b = mul-le-mul (pre .1) (pre .1) in
+    let d = mul-le-mul (pre .0) (pre .0) in
+    omega (arith, pre .2)
 
 part-moments-start-2 : tie.Need-part-moments-start-2
-part-moments-start-2 c = let a = mul-le-mul (c .before .before .pre .1) (c .before .before .pre .0) in let b = mul-le-mul (c .before .before .pre .1) (c .before .before .pre .1) in let d = mul-le-mul (c .before .before .pre .0) (c .before .before .pre .0) in omega (arith, c .before .before .pre .2)
+part-moments-start-2 c =
+    let pre = c .before .before .pre in
+    let a = mul-le-mul (pre .1) (pre .0) in
+    let b = mul-le-mul (pre .1) (pre .1) in
+    let d = mul-le-mul (pre .0) (pre .0) in
+    omega (arith, pre .2)
 
 part-moments-end-2 : tie.Need-part-moments-end-2
-part-moments-end-2 c = let a = mul-le-mul (c .before .before .pre .1) (c .before .before .pre .0) in let b = mul-le-mul (c .before .before .pre .1) (c .before .before .pre .1) in let d = mul-le-mul (c .before .before .pre .0) (c .before .before .pre .0) in omega (arith, c .before .before .pre .2)
+part-moments-end-2 c =
+    let pre = c .before .before .pre in
+    let a = mul-le-mul (pre .1) (pre .0) in
+    let b = mul-le-mul (pre .1) (pre .1) in
+    let d = mul-le-mul (pre .0) (pre .0) in
+    omega (arith, pre .2)
 
 mul-moments-3 : tie.Need-mul-moments-3
-mul-moments-3 c = let a = mul-le-mul (c .before .before .before .pre .1) (c .before .before .before .pre .0) in let b = mul-le-mul (c .before .before .before .pre .1) (c .before .before .before .pre .1) in let d = mul-le-mul (c .before .before .before .pre .0) (c .before .before .before .pre .0) in omega (arith, c .before .before .before .pre .2)
+mul-moments-3 c =
+    let pre = c .before .before .before .pre in
+    let a = mul-le-mul (pre .1) (pre .0) in
+    let b = mul-le-mul (pre .1) (pre .1) in
+    let d = mul-le-mul (pre .0) (pre .0) in
+    omega (arith, pre .2)
 
 sub-moments-3 : tie.Need-sub-moments-3
-sub-moments-3 c = let a = mul-le-mul (c .before .before .before .pre .1) (c .before .before .before .pre .0) in let b = mul-le-mul (c .before .before .before .pre .1) (c .before .before .before .pre .1) in let d = mul-le-mul (c .before .before .before .pre .0) (c .before .before .before .pre .0) in omega (arith, c .before .before .before .pre .2)
+sub-moments-3 c =
+    let pre = c .before .before .before .pre in
+    let a = mul-le-mul (pre .1) (pre .0) in
+    let b = mul-le-mul (pre .1) (pre .1) in
+    let d = mul-le-mul (pre .0) (pre .0) in
+    omega (arith, pre .2)
 
 part-moments-start-3 : tie.Need-part-moments-start-3
-part-moments-start-3 c = let a = mul-le-mul (c .before .before .before .pre .1) (c .before .before .before .pre .0) in let b = mul-le-mul (c .before .before .before .pre .1) (c .before .before .before .pre .1) in let d = mul-le-mul (c .before .before .before .pre .0) (c .before .before .before .pre .0) in omega (arith, c .before .before .before .pre .2)
+part-moments-start-3 c =
+    let pre = c .before .before .before .pre in
+    let a = mul-le-mul (pre .1) (pre .0) in
+    let b = mul-le-mul (pre .1) (pre .1) in
+    let d = mul-le-mul (pre .0) (pre .0) in
+    omega (arith, pre .2)
 
 part-moments-end-3 : tie.Need-part-moments-end-3
-part-moments-end-3 c = let a = mul-le-mul (c .before .before .before .pre .1) (c .before .before .before .pre .0) in let b = mul-le-mul (c .before .before .before .pre .1) (c .before .before .before .pre .1) in let d = mul-le-mul (c .before .before .before .pre .0) (c .before .before .before .pre .0) in omega (arith, c .before .before .before .pre .2)
+part-moments-end-3 c =
+    let pre = c .before .before .before .pre in
+    let a = mul-le-mul (pre .1) (pre .0) in
+    let b = mul-le-mul (pre .1) (pre .1) in
+    let d = mul-le-mul (pre .0) (pre .0) in
+    omega (arith, pre .2)
 
 sub-moments-4 : tie.Need-sub-moments-4
-sub-moments-4 c = let a = mul-le-mul (c .before .before .before .before .pre .1) (c .before .before .before .before .pre .0) in let b = mul-le-mul (c .before .before .before .before .pre .1) (c .before .before .before .before .pre .1) in let d = mul-le-mul (c .before .before .before .before .pre .0) (c .before .before .before .before .pre .0) in omega (arith, c .before .before .before .before .pre .2)
+sub-moments-4 c =
+    let pre = c .before .before .before .before .pre in
+    let a = mul-le-mul (pre .1) (pre .0) in
+    let b = mul-le-mul (pre .1) (pre .1) in
+    let d = mul-le-mul (pre .0) (pre .0) in
+    omega (arith, pre .2)
 
 part-mean-start : tie.Need-part-mean-start
-part-mean-start c = let a = mul-le-mul (c .before .before .before .before .pre .1) (c .before .before .before .before .pre .0) in let b = mul-le-mul (c .before .before .before .before .pre .1) (c .before .before .before .before .pre .1) in let d = mul-le-mul (c .before .before .before .before .pre .0) (c .before .before .before .before .pre .0) in omega (arith, c .before .before .before .before .pre .2)
+part-mean-start c =
+    let pre = c .before .before .before .before .pre in
+    let a = mul-le-mul (pre .1) (pre .0) in
+    let b = mul-le-mul (pre .1) (pre .1) in
+    let d = mul-le-mul (pre .0) (pre .0) in
+    omega (arith, pre .2)
 
 part-mean-end : tie.Need-part-mean-end
-part-mean-end c = let a = mul-le-mul (c .before .before .before .before .pre .1) (c .before .before .before .before .pre .0) in let b = mul-le-mul (c .before .before .before .before .pre .1) (c .before .before .before .before .pre .1) in let d = mul-le-mul (c .before .before .before .before .pre .0) (c .before .before .before .before .pre .0) in omega (arith, c .before .before .before .before .pre .2)
+part-mean-end c =
+    let pre = c .before .before .before .before .pre in
+    let a = mul-le-mul (pre .1) (pre .0) in
+    let b = mul-le-mul (pre .1) (pre .1) in
+    let d = mul-le-mul (pre .0) (pre .0) in
+    omega (arith, pre .2)
 
 sub-moments-5 : tie.Need-sub-moments-5
-sub-moments-5 c = let a = mul-le-mul (c .before .before .before .before .before .pre .1) (c .before .before .before .before .before .pre .0) in let b = mul-le-mul (c .before .before .before .before .before .pre .1) (c .before .before .before .before .before .pre .1) in let d = mul-le-mul (c .before .before .before .before .before .pre .0) (c .before .before .before .before .before .pre .0) in omega (arith, c .before .before .before .before .before .pre .2)
+sub-moments-5 c =
+    let pre = c .before .before .before .before .before .pre in
+    let a = mul-le-mul (pre .1) (pre .0) in
+    let b = mul-le-mul (pre .1) (pre .1) in
+    let d = mul-le-mul (pre .0) (pre .0) in
+    omega (arith, pre .2)
 
 part-l-start : tie.Need-part-l-start
-part-l-start c = let a = mul-le-mul (c .before .before .before .before .before .pre .1) (c .before .before .before .before .before .pre .0) in let b = mul-le-mul (c .before .before .before .before .before .pre .1) (c .before .before .before .before .before .pre .1) in let d = mul-le-mul (c .before .before .before .before .before .pre .0) (c .before .before .before .before .before .pre .0) in omega (arith, c .before .before .before .before .before .pre .2)
+part-l-start c =
+    let pre = c .before .before .before .before .before .pre in
+    let a = mul-le-mul (pre .1) (pre .0) in
+    let b = mul-le-mul (pre .1) (pre .1) in
+    let d = mul-le-mul (pre .0) (pre .0) in
+    omega (arith, pre .2)
 
 part-l-end : tie.Need-part-l-end
-part-l-end c = let a = mul-le-mul (c .before .before .before .before .before .pre .1) (c .before .before .before .before .before .pre .0) in let b = mul-le-mul (c .before .before .before .before .before .pre .1) (c .before .before .before .before .before .pre .1) in let d = mul-le-mul (c .before .before .before .before .before .pre .0) (c .before .before .before .before .before .pre .0) in omega (arith, c .before .before .before .before .before .pre .2)
+part-l-end c =
+    let pre = c .before .before .before .before .before .pre in
+    let a = mul-le-mul (pre .1) (pre .0) in
+    let b = mul-le-mul (pre .1) (pre .1) in
+    let d = mul-le-mul (pre .0) (pre .0) in
+    omega (arith, pre .2)
 
 sub-moments-6 : tie.Need-sub-moments-6
-sub-moments-6 c = let a = mul-le-mul (c .before .before .before .before .before .before .pre .1) (c .before .before .before .before .before .before .pre .0) in let b = mul-le-mul (c .before .before .before .before .before .before .pre .1) (c .before .before .before .before .before .before .pre .1) in let d = mul-le-mul (c .before .before .before .before .before .before .pre .0) (c .before .before .before .before .before .before .pre .0) in omega (arith, c .before .before .before .before .before .before .pre .2)
+sub-moments-6 c =
+    let pre = c .before .before .before .before .before .before .pre in
+    let a = mul-le-mul (pre .1) (pre .0) in
+    let b = mul-le-mul (pre .1) (pre .1) in
+    let d = mul-le-mul (pre .0) (pre .0) in
+    omega (arith, pre .2)
 
 part-covariance-start : tie.Need-part-covariance-start
-part-covariance-start c = let a = mul-le-mul (c .before .before .before .before .before .before .pre .1) (c .before .before .before .before .before .before .pre .0) in let b = mul-le-mul (c .before .before .before .before .before .before .pre .1) (c .before .before .before .before .before .before .pre .1) in let d = mul-le-mul (c .before .before .before .before .before .before .pre .0) (c .before .before .before .before .before .before .pre .0) in omega (arith, c .before .before .before .before .before .before .pre .2)
+part-covariance-start c =
+    let pre = c .before .before .before .before .before .before .pre in
+    let a = mul-le-mul (pre .1) (pre .0) in
+    let b = mul-le-mul (pre .1) (pre .1) in
+    let d = mul-le-mul (pre .0) (pre .0) in
+    omega (arith, pre .2)
 
 part-covariance-end : tie.Need-part-covariance-end
-part-covariance-end c = let a = mul-le-mul (c .before .before .before .before .before .before .pre .1) (c .before .before .before .before .before .before .pre .0) in let b = mul-le-mul (c .before .before .before .before .before .before .pre .1) (c .before .before .before .before .before .before .pre .1) in let d = mul-le-mul (c .before .before .before .before .before .before .pre .0) (c .before .before .before .before .before .before .pre .0) in omega (arith, c .before .before .before .before .before .before .pre .2)
+part-covariance-end c =
+    let pre = c .before .before .before .before .before .before .pre in
+    let a = mul-le-mul (pre .1) (pre .0) in
+    let b = mul-le-mul (pre .1) (pre .1) in
+    let d = mul-le-mul (pre .0) (pre .0) in
+    omega (arith, pre .2)
 
 slice-aggregate-moments : tie.Need-slice-aggregate-moments
 slice-aggregate-moments c = search needs
 
 moments-requires : tie.Need-moments-requires
 unfolding ofBits
-moments-requires c κs = let a = mul-le-mul (c .before .before .before .before .before .before .before .before .pre .1) (c .before .before .before .before .before .before .before .before .pre .0) in let b = mul-le-mul (c .before .before .before .before .before .before .before .before .pre .1) (c .before .before .before .before .before .before .before .before .pre .1) in let d = mul-le-mul (c .before .before .before .before .before .before .before .before .pre .0) (c .before .before .before .before .before .before .before .before .pre .0) in ((fits-part (c .before .before .before .before .before .before .before .before .args .message .now) (0) (c .before .before .before .before .before .before .before .before .args .rows * c .before .before .before .before .before .before .before .before .args .size) (c .before .before .before .before .before .before .before .before .args .rows * c .before .before .before .before .before .before .before .before .args .size) (omega (arith, c .before .before .before .before .before .before .before .before .pre .2)) (omega arith), fits-part (c .before .before .before .before .before .before .before .before .args .message .now) (c .before .before .before .before .before .before .before .before .args .rows * c .before .before .before .before .before .before .before .before .args .size) (c .before .before .before .before .before .before .before .before .args .rows * c .before .before .before .before .before .before .before .before .args .size + c .before .before .before .before .before .before .before .before .args .rows) (c .before .before .before .before .before .before .before .before .args .rows) (omega (arith, c .before .before .before .before .before .before .before .before .pre .2)) (omega arith), fits-part (c .before .before .before .before .before .before .before .before .args .message .now) (c .before .before .before .before .before .before .before .before .args .rows * c .before .before .before .before .before .before .before .before .args .size + c .before .before .before .before .before .before .before .before .args .rows) (c .before .before .before .before .before .before .before .before .args .rows * c .before .before .before .before .before .before .before .before .args .size + c .before .before .before .before .before .before .before .before .args .rows + c .before .before .before .before .before .before .before .before .args .rows * c .before .before .before .before .before .before .before .before .args .rows) (c .before .before .before .before .before .before .before .before .args .rows * c .before .before .before .before .before .before .before .before .args .rows) (omega (arith, c .before .before .before .before .before .before .before .before .pre .2)) (omega arith), omega arith, c .before .before .before .before .before .before .before .before .pre .0), (zeros-part 6 (c .before .before .before .before .before .before .before .before .args .size) (c .before .before .before .before .before .before .before .before .pre .0), zeros-part 36 (c .before .before .before .before .before .before .before .before .args .size * c .before .before .before .before .before .before .before .before .args .size) d, zeros-part 36 (c .before .before .before .before .before .before .before .before .args .size * c .before .before .before .before .before .before .before .before .args .size) d))
+moments-requires c κs =
+    let args = c .before .before .before .before .before .before .before .before .args in
+    let pre = c .before .before .before .before .before .before .before .before .pre in
+    let a = mul-le-mul (pre .1) (pre .0) in
+    let b = mul-le-mul (pre .1) (pre .1) in
+    let d = mul-le-mul (pre .0) (pre .0) in (
+      (fits-part (args .message .now) (0) (args .rows * args .size) (args .rows * args .size) (omega (arith, pre .2)) (omega arith), fits-part (args .message .now) (args .rows * args .size) (args .rows * args .size + args .rows) (args .rows) (omega (arith, pre .2)) (omega arith), fits-part (args .message .now) (args .rows * args .size + args .rows) (args .rows * args .size + args .rows + args .rows * args .rows) (args .rows * args .rows) (omega (arith, pre .2)) (omega arith), omega arith, pre .0),
+      (zeros-part 6 (args .size) (pre .0), zeros-part 36 (args .size * args .size) d, zeros-part 36 (args .size * args .size) d),
+    )
 
 enum-told : tie.Need-enum-told
 enum-told c = search needs
@@ -105,7 +234,9 @@ refused-requires : tie.Need-refused-requires
 refused-requires c κs = search needs
 
 returns : tie.Need-returns
-returns c = from-pivot (c .before .before .before .before .before .before .before .before .before .before .before .before .before .before .before .before .args .key) (c .before .before .before .before .before .before .before .before .before .before .before .before .before .before .before .before .args .size) (c .before .before .before .before .before .before .before .before .before .before .before .before .before .before .before .before .args .rows) (c .before .before .before .before .before .before .before .before .before .before .before .before .before .before .before .before .args .message .now) _ _ _ (c .before .before .before .before .before .before .before .moments .ensures) _ (c .refused .ensures) (c .before .enum-told2 .given .1)
+returns c =
+    let args = c .before .before .before .before .before .before .before .before .before .before .before .before .before .before .before .before .args in
+    from-pivot (args .key) (args .size) (args .rows) (args .message .now) _ _ _ (c .before .before .before .before .before .before .before .moments .ensures) _ (c .refused .ensures) (c .before .enum-told2 .given .1)
 
 enum-told-3 : tie.Need-enum-told-3
 enum-told-3 c = search needs
@@ -114,11 +245,20 @@ refused-requires-2 : tie.Need-refused-requires-2
 refused-requires-2 c κs = search needs
 
 returns-2 : tie.Need-returns-2
-returns-2 c = from-unbounded (c .before .before .before .before .before .before .before .before .before .before .before .before .before .before .before .before .args .key) (c .before .before .before .before .before .before .before .before .before .before .before .before .before .before .before .before .args .size) (c .before .before .before .before .before .before .before .before .before .before .before .before .before .before .before .before .args .rows) (c .before .before .before .before .before .before .before .before .before .before .before .before .before .before .before .before .args .message .now) _ _ _ (c .before .before .before .before .before .before .before .moments .ensures) _ (c .refused2 .ensures) (c .before .enum-told3 .given .1)
+returns-2 c =
+    let args = c .before .before .before .before .before .before .before .before .before .before .before .before .before .before .before .before .args in
+    from-unbounded (args .key) (args .size) (args .rows) (args .message .now) _ _ _ (c .before .before .before .before .before .before .before .moments .ensures) _ (c .refused2 .ensures) (c .before .enum-told3 .given .1)
 
 returns-3 : tie.Need-returns-3
 unfolding ofBits
-returns-3 c = let a = mul-le-mul (c .before .before .before .before .before .before .before .before .before .before .before .before .before .before .before .pre .1) (c .before .before .before .before .before .before .before .before .before .before .before .before .before .before .before .pre .0) in let b = mul-le-mul (c .before .before .before .before .before .before .before .before .before .before .before .before .before .before .before .pre .1) (c .before .before .before .before .before .before .before .before .before .before .before .before .before .before .before .pre .1) in let d = mul-le-mul (c .before .before .before .before .before .before .before .before .before .before .before .before .before .before .before .pre .0) (c .before .before .before .before .before .before .before .before .before .before .before .before .before .before .before .pre .0) in from-done (c .before .before .before .before .before .before .before .before .before .before .before .before .before .before .before .args .key) (c .before .before .before .before .before .before .before .before .before .before .before .before .before .before .before .args .size) (c .before .before .before .before .before .before .before .before .before .before .before .before .before .before .before .args .rows) (c .before .before .before .before .before .before .before .before .before .before .before .before .before .before .before .args .message .now) _ _ _ (c .before .before .before .before .before .before .moments .ensures) (c .before .before .before .before .before .before .moments .kept .1 .1 .1 .1 .1 .0 ∙ zeros-long 6 (c .before .before .before .before .before .before .before .before .before .before .before .before .before .before .before .args .size) (c .before .before .before .before .before .before .before .before .before .before .before .before .before .before .before .pre .0)) (c .before .before .before .before .before .before .moments .kept .1 .1 .1 .1 .1 .1 .1 .0 ∙ zeros-long 36 (c .before .before .before .before .before .before .before .before .before .before .before .before .before .before .before .args .size * c .before .before .before .before .before .before .before .before .before .before .before .before .before .before .before .args .size) d) (c .enum-told .given .1)
+returns-3 c =
+    let args = c .before .before .before .before .before .before .before .before .before .before .before .before .before .before .before .args in
+    let pre = c .before .before .before .before .before .before .before .before .before .before .before .before .before .before .before .pre in
+    let moments = c .before .before .before .before .before .before .moments in
+    let a = mul-le-mul (pre .1) (pre .0) in
+    let b = mul-le-mul (pre .1) (pre .1) in
+    let d = mul-le-mul (pre .0) (pre .0) in
+    from-done (args .key) (args .size) (args .rows) (args .message .now) _ _ _ (moments .ensures) (moments .kept .1 .1 .1 .1 .1 .0 ∙ zeros-long 6 (args .size) (pre .0)) (moments .kept .1 .1 .1 .1 .1 .1 .1 .0 ∙ zeros-long 36 (args .size * args .size) d) (c .enum-told .given .1)
 
 pub from-spec : {M : Type 1} → statement M
 from-spec =
