@@ -1,4 +1,4 @@
--- Runs and plans one after the other, and a direct elimination over what a job registers. Assumes nothing.
+-- Runs and plans one after the other, a direct elimination over what a job registers, and the number of a root. Assumes nothing.
 use mathlib.Core.Path.{_≡_, refl, ap, _∙_, sym}
 use mathlib.Core.List.{List}
 use Prim.Native.Nat.{ℕ, _+_, _≤_}
@@ -6,6 +6,9 @@ use native.Mathlib.Numerals.{add-one}
 use lib.Ieee.{Float}
 use lib.ListN.{length, replicate}
 use Rattle.matrix.specs.Sums.{plus-zero}
+use Rattle.root.specs.Root.{rootOf}
+use Rattle.root.specs.declared.Pivot.{Pivot}
+use Rattle.root.specs.declared.Pivot.the-variants as pivot
 use Rattle.workspace.specs.Frames.{work-numbers}
 use Rattle.graph.specs.Refusals.{numberOf}
 use Rattle.graph.specs.declared.Graph.{Graph}
@@ -22,7 +25,7 @@ use Rattle.solver.specs.declared.Planned.{Planned}
 use Rattle.solver.specs.Run as solver
 use Rattle.solver.specs.Stages as stages
 use Rattle.solver.specs.declared.run.Ran.{Ran}
-use Rattle.measured.specs.Measured.{factor-room, readJob, numberIn, eliminated, Stores, stores, storesIn, again, repeated, replanned}
+use Rattle.measured.specs.Measured.{factor-room, readJob, numberIn, eliminated, Stores, stores, storesIn, again, repeated, replanned, rootIn}
 
 -- no refusal's number is above 30
 pub few : (r : ℕ) (why : Refusal) → r ≡ numberOf why → r ≤ 30
@@ -65,3 +68,11 @@ no-plan g = refl
 pub one-plan : (g : Graph) (made : Planned) (n : ℕ) → read made ≡ planned g → made .plan .forward .count ≡ replanned g (n + 1)
 unfolding replanned read planOf
 one-plan g made n e = rw (add-one n) (sym (messages-length (made .plan .forward)) ∙ ap (λ (a : Answer). length (a .plan .forward)) e)
+
+-- ---- roots
+
+pub root-given : (v r : Float) (p : Pivot) → p ≡ rootOf v → p ≡ pivot.Root r → r ≡ rootIn (rootOf v)
+root-given v r p e told = ap rootIn (sym told ∙ e)
+
+pub root-refused : (v : Float) (p : Pivot) → p ≡ rootOf v → p ≡ pivot.Refused → plus-zero ≡ rootIn (rootOf v)
+root-refused v p e told = ap rootIn (sym told ∙ e)

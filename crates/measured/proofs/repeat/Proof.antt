@@ -18,12 +18,13 @@ abbrev μ-loop : tie.MeasureT-loop
 
 loop-holds : tie.Need-loop-holds Inv-loop μ-loop
 loop-holds c =
-    let args = c .before .before .before .before .args in
-    (omega arith,
-    (c .before .before .before .before .pre),
-    no-run (args .g) (args .factors .now) (stores (args .messages .now) (args .marginals .now)),
-    refl,
-    refl)
+    let args = c .before .before .before .before .args in (
+      omega arith,
+      (c .before .before .before .before .pre),
+      no-run (args .g) (args .factors .now) (stores (args .messages .now) (args .marginals .now)),
+      refl,
+      refl,
+    )
 
 run-requires : tie.Need-run-requires Inv-loop μ-loop
 run-requires c κs = search needs
@@ -38,12 +39,13 @@ loop-again : tie.Need-loop-again Inv-loop μ-loop
 loop-again c =
     let args = c .before .before .before .before .before .before .before .before .before .before .before .before .before .before .before .before .args in
     let loop = c .before .before .before .before .before .before .before .before .before .before .before .loop in
-    let run = c .before .before .before .before .before .before .run in
-    (omega arith,
-    run .kept .1 .1 .1 .0 ∙ loop .inv .1,
-    one-run (args .g) (args .factors .now) (stores (args .messages .now) (args .marginals .now)) (loop .counter) (loop .messages) (loop .marginals) (length (loop .work)) _ _ _ (loop .inv .1) (loop .inv .2) (run .ensures),
-    run .kept .1 .1 .0 ∙ loop .inv .3,
-    run .kept .1 .1 .1 .1 .0 ∙ loop .inv .4)
+    let run = c .before .before .before .before .before .before .run in (
+      omega arith,
+      run .kept .1 .1 .1 .0 ∙ loop .inv .1,
+      one-run (args .g) (args .factors .now) (stores (args .messages .now) (args .marginals .now)) (loop .counter) (loop .messages) (loop .marginals) (length (loop .work)) _ _ _ (loop .inv .1) (loop .inv .2) (run .ensures),
+      run .kept .1 .1 .0 ∙ loop .inv .3,
+      run .kept .1 .1 .1 .1 .0 ∙ loop .inv .4,
+    )
 
 same-length : tie.Need-same-length Inv-loop μ-loop
 same-length c = search needs

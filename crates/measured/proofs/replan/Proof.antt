@@ -27,9 +27,10 @@ loop-less : tie.Need-loop-less Inv-loop μ-loop
 loop-less c = omega (arith, c .before .before .before .loop-test .taken)
 
 loop-again : tie.Need-loop-again Inv-loop μ-loop
-loop-again c =
-    (omega (arith, c .before .before .before .loop-test .taken),
-    one-plan (c .before .before .before .before .before .args .g) (c .before .before .plan .result) (c .before .before .before .before .loop .counter) (c .before .before .plan .ensures .0))
+loop-again c = (
+  omega (arith, c .before .before .before .loop-test .taken),
+  one-plan (c .before .before .before .before .before .args .g) (c .before .before .plan .result) (c .before .before .before .before .loop .counter) (c .before .before .plan .ensures .0),
+)
 
 returns : tie.Need-returns Inv-loop μ-loop
 returns c = c .before .loop .inv .1 ∙ ap (replanned (c .before .before .args .g)) (omega (arith, c .loop-test .left, c .before .loop .inv .0))

@@ -18,14 +18,18 @@ abbrev μ-loop : tie.MeasureT-loop
 μ-loop g p shift start factors messages₀ work₀ keys heads n to₀ j₀ messages work to j = n - j
 
 loop-holds : tie.Need-loop-holds Inv-loop μ-loop
-loop-holds c =
-    let args = c .before .before .before .before .before .args in
-    (carrying-none (args .g) (args .factors .now) (messagesOf (args .p)) (args .start) (args .messages .now) (omega arith), refl, omega arith)
+loop-holds c = (
+  carrying-none (c .before .before .before .before .before .args .g) (c .before .before .before .before .before .args .factors .now) (messagesOf (c .before .before .before .before .before .args .p)) (c .before .before .before .before .before .args .start) (c .before .before .before .before .before .args .messages .now) (omega arith),
+  refl,
+  omega arith,
+)
 
 message-lists-requires : tie.Need-message-lists-requires Inv-loop μ-loop
-message-lists-requires c κs =
-    let pre = c .before .before .before .before .before .before .before .before .pre in
-    (pre .0 .0, c .before .loop-test .taken, pre .0 .2)
+message-lists-requires c κs = (
+  c .before .before .before .before .before .before .before .before .pre .0 .0,
+  c .before .loop-test .taken,
+  c .before .before .before .before .before .before .before .before .pre .0 .2,
+)
 
 add-head-at : tie.Need-add-head-at Inv-loop μ-loop
 add-head-at c = search needs
@@ -34,55 +38,39 @@ add-head-at-2 : tie.Need-add-head-at-2 Inv-loop μ-loop
 add-head-at-2 c = search needs
 
 head-at-requires : tie.Need-head-at-requires Inv-loop μ-loop
-head-at-requires c κs =
-    let pre = c .before .before .before .before .before .before .before .before .before .pre in
-    omega (arith, pre .1 .0 .0 .long-heads, pre .0 .1 .few, messages-length (c .before .before .before .before .before .before .before .before .before .args .p), c .before .before .loop-test .taken, pre .0 .2)
+head-at-requires c κs = omega (arith, c .before .before .before .before .before .before .before .before .before .pre .1 .0 .0 .long-heads, c .before .before .before .before .before .before .before .before .before .pre .0 .1 .few, messages-length (c .before .before .before .before .before .before .before .before .before .args .p), c .before .before .loop-test .taken, c .before .before .before .before .before .before .before .before .before .pre .0 .2)
 
 mul-next : tie.Need-mul-next Inv-loop μ-loop
 mul-next c =
-    let args = c .before .before .before .before .before .before .before .before .before .before .args in
-    let pre = c .before .before .before .before .before .before .before .before .before .before .pre in
-    let t = head-tells (args .g) (messagesOf (args .p)) (pre .0 .1) (args .shift) (args .start) (c .before .before .before .before .loop .j) (args .keys .now) (args .heads .now) _ (omega (arith, messages-length (args .p), c .before .before .before .loop-test .taken)) (pre .1 .0 .1) (c .head-at .ensures) in
-    record { fits = omega (arith, t .2, t .3, t .4, t .5, c .before .before .before .before .loop .inv .2, pre .0 .3, pre .0 .1 .few, messages-length (args .p), c .before .before .before .loop-test .taken) }
+    let t = head-tells (c .before .before .before .before .before .before .before .before .before .before .args .g) (messagesOf (c .before .before .before .before .before .before .before .before .before .before .args .p)) (c .before .before .before .before .before .before .before .before .before .before .pre .0 .1) (c .before .before .before .before .before .before .before .before .before .before .args .shift) (c .before .before .before .before .before .before .before .before .before .before .args .start) (c .before .before .before .before .loop .j) (c .before .before .before .before .before .before .before .before .before .before .args .keys .now) (c .before .before .before .before .before .before .before .before .before .before .args .heads .now) _ (omega (arith, messages-length (c .before .before .before .before .before .before .before .before .before .before .args .p), c .before .before .before .loop-test .taken)) (c .before .before .before .before .before .before .before .before .before .before .pre .1 .0 .1) (c .head-at .ensures) in
+    record { fits = omega (arith, t .2, t .3, t .4, t .5, c .before .before .before .before .loop .inv .2, c .before .before .before .before .before .before .before .before .before .before .pre .0 .3, c .before .before .before .before .before .before .before .before .before .before .pre .0 .1 .few, messages-length (c .before .before .before .before .before .before .before .before .before .before .args .p), c .before .before .before .loop-test .taken) }
 
 add-next : tie.Need-add-next Inv-loop μ-loop
 add-next c =
-    let args = c .before .before .before .before .before .before .before .before .before .before .args in
-    let pre = c .before .before .before .before .before .before .before .before .before .before .pre in
-    let t = head-tells (args .g) (messagesOf (args .p)) (pre .0 .1) (args .shift) (args .start) (c .before .before .before .before .loop .j) (args .keys .now) (args .heads .now) _ (omega (arith, messages-length (args .p), c .before .before .before .loop-test .taken)) (pre .1 .0 .1) (c .head-at .ensures) in
-    record { fits = omega (arith, t .2, t .3, t .4, t .5, c .before .before .before .before .loop .inv .2, pre .0 .3, pre .0 .1 .few, messages-length (args .p), c .before .before .before .loop-test .taken) }
+    let t = head-tells (c .before .before .before .before .before .before .before .before .before .before .args .g) (messagesOf (c .before .before .before .before .before .before .before .before .before .before .args .p)) (c .before .before .before .before .before .before .before .before .before .before .pre .0 .1) (c .before .before .before .before .before .before .before .before .before .before .args .shift) (c .before .before .before .before .before .before .before .before .before .before .args .start) (c .before .before .before .before .loop .j) (c .before .before .before .before .before .before .before .before .before .before .args .keys .now) (c .before .before .before .before .before .before .before .before .before .before .args .heads .now) _ (omega (arith, messages-length (c .before .before .before .before .before .before .before .before .before .before .args .p), c .before .before .before .loop-test .taken)) (c .before .before .before .before .before .before .before .before .before .before .pre .1 .0 .1) (c .head-at .ensures) in
+    record { fits = omega (arith, t .2, t .3, t .4, t .5, c .before .before .before .before .loop .inv .2, c .before .before .before .before .before .before .before .before .before .before .pre .0 .3, c .before .before .before .before .before .before .before .before .before .before .pre .0 .1 .few, messages-length (c .before .before .before .before .before .before .before .before .before .before .args .p), c .before .before .before .loop-test .taken) }
 
 mul-next-2 : tie.Need-mul-next-2 Inv-loop μ-loop
 mul-next-2 c =
-    let args = c .before .before .before .before .before .before .before .before .before .before .args in
-    let pre = c .before .before .before .before .before .before .before .before .before .before .pre in
-    let t = head-tells (args .g) (messagesOf (args .p)) (pre .0 .1) (args .shift) (args .start) (c .before .before .before .before .loop .j) (args .keys .now) (args .heads .now) _ (omega (arith, messages-length (args .p), c .before .before .before .loop-test .taken)) (pre .1 .0 .1) (c .head-at .ensures) in
-    record { fits = omega (arith, t .2, t .3, t .4, t .5, c .before .before .before .before .loop .inv .2, pre .0 .3, pre .0 .1 .few, messages-length (args .p), c .before .before .before .loop-test .taken) }
+    let t = head-tells (c .before .before .before .before .before .before .before .before .before .before .args .g) (messagesOf (c .before .before .before .before .before .before .before .before .before .before .args .p)) (c .before .before .before .before .before .before .before .before .before .before .pre .0 .1) (c .before .before .before .before .before .before .before .before .before .before .args .shift) (c .before .before .before .before .before .before .before .before .before .before .args .start) (c .before .before .before .before .loop .j) (c .before .before .before .before .before .before .before .before .before .before .args .keys .now) (c .before .before .before .before .before .before .before .before .before .before .args .heads .now) _ (omega (arith, messages-length (c .before .before .before .before .before .before .before .before .before .before .args .p), c .before .before .before .loop-test .taken)) (c .before .before .before .before .before .before .before .before .before .before .pre .1 .0 .1) (c .head-at .ensures) in
+    record { fits = omega (arith, t .2, t .3, t .4, t .5, c .before .before .before .before .loop .inv .2, c .before .before .before .before .before .before .before .before .before .before .pre .0 .3, c .before .before .before .before .before .before .before .before .before .before .pre .0 .1 .few, messages-length (c .before .before .before .before .before .before .before .before .before .before .args .p), c .before .before .before .loop-test .taken) }
 
 add-next-2 : tie.Need-add-next-2 Inv-loop μ-loop
 add-next-2 c =
-    let args = c .before .before .before .before .before .before .before .before .before .before .args in
-    let pre = c .before .before .before .before .before .before .before .before .before .before .pre in
-    let t = head-tells (args .g) (messagesOf (args .p)) (pre .0 .1) (args .shift) (args .start) (c .before .before .before .before .loop .j) (args .keys .now) (args .heads .now) _ (omega (arith, messages-length (args .p), c .before .before .before .loop-test .taken)) (pre .1 .0 .1) (c .head-at .ensures) in
-    record { fits = omega (arith, t .2, t .3, t .4, t .5, c .before .before .before .before .loop .inv .2, pre .0 .3, pre .0 .1 .few, messages-length (args .p), c .before .before .before .loop-test .taken) }
+    let t = head-tells (c .before .before .before .before .before .before .before .before .before .before .args .g) (messagesOf (c .before .before .before .before .before .before .before .before .before .before .args .p)) (c .before .before .before .before .before .before .before .before .before .before .pre .0 .1) (c .before .before .before .before .before .before .before .before .before .before .args .shift) (c .before .before .before .before .before .before .before .before .before .before .args .start) (c .before .before .before .before .loop .j) (c .before .before .before .before .before .before .before .before .before .before .args .keys .now) (c .before .before .before .before .before .before .before .before .before .before .args .heads .now) _ (omega (arith, messages-length (c .before .before .before .before .before .before .before .before .before .before .args .p), c .before .before .before .loop-test .taken)) (c .before .before .before .before .before .before .before .before .before .before .pre .1 .0 .1) (c .head-at .ensures) in
+    record { fits = omega (arith, t .2, t .3, t .4, t .5, c .before .before .before .before .loop .inv .2, c .before .before .before .before .before .before .before .before .before .before .pre .0 .3, c .before .before .before .before .before .before .before .before .before .before .pre .0 .1 .few, messages-length (c .before .before .before .before .before .before .before .before .before .before .args .p), c .before .before .before .loop-test .taken) }
 
 add-next-3 : tie.Need-add-next-3 Inv-loop μ-loop
 add-next-3 c =
-    let args = c .before .before .before .before .before .before .before .before .before .before .args in
-    let pre = c .before .before .before .before .before .before .before .before .before .before .pre in
-    let t = head-tells (args .g) (messagesOf (args .p)) (pre .0 .1) (args .shift) (args .start) (c .before .before .before .before .loop .j) (args .keys .now) (args .heads .now) _ (omega (arith, messages-length (args .p), c .before .before .before .loop-test .taken)) (pre .1 .0 .1) (c .head-at .ensures) in
-    record { fits = omega (arith, t .2, t .3, t .4, t .5, c .before .before .before .before .loop .inv .2, pre .0 .3, pre .0 .1 .few, messages-length (args .p), c .before .before .before .loop-test .taken) }
+    let t = head-tells (c .before .before .before .before .before .before .before .before .before .before .args .g) (messagesOf (c .before .before .before .before .before .before .before .before .before .before .args .p)) (c .before .before .before .before .before .before .before .before .before .before .pre .0 .1) (c .before .before .before .before .before .before .before .before .before .before .args .shift) (c .before .before .before .before .before .before .before .before .before .before .args .start) (c .before .before .before .before .loop .j) (c .before .before .before .before .before .before .before .before .before .before .args .keys .now) (c .before .before .before .before .before .before .before .before .before .before .args .heads .now) _ (omega (arith, messages-length (c .before .before .before .before .before .before .before .before .before .before .args .p), c .before .before .before .loop-test .taken)) (c .before .before .before .before .before .before .before .before .before .before .pre .1 .0 .1) (c .head-at .ensures) in
+    record { fits = omega (arith, t .2, t .3, t .4, t .5, c .before .before .before .before .loop .inv .2, c .before .before .before .before .before .before .before .before .before .before .pre .0 .3, c .before .before .before .before .before .before .before .before .before .before .pre .0 .1 .few, messages-length (c .before .before .before .before .before .before .before .before .before .before .args .p), c .before .before .before .loop-test .taken) }
 
 eliminate-listed-requires : tie.Need-eliminate-listed-requires Inv-loop μ-loop
 eliminate-listed-requires c κs =
-    let args = c .before .before .before .before .before .before .before .before .before .before .before .before .args in
-    let pre = c .before .before .before .before .before .before .before .before .before .before .before .before .pre in
-    let loop = c .before .before .before .before .before .before .loop in
-    let message-lists = c .before .before .before .message-lists in
     let good = c .before .before .before .before .before .before .before .before .before .before .before .before .good in
-    let sized : length (args .g .sizes) ≡ 32 = search needs in (
-      within _ _ _ (message-lists .ensures),
-      (asked-lists (args .g) (args .factors .now) (messagesOf (args .p)) (pre .0 .1) (args .shift) (args .start) (args .keys .now) (args .heads .now) (args .messages .now) (loop .messages) (loop .to) (loop .j) (length (loop .work)) (pre .0 .2) (omega (arith, messages-length (args .p), c .before .before .before .before .before .loop-test .taken)) (pre .1 .0 .0) (pre .1 .0 .1) sized (pre .1 .1 .0) (pre .1 .1 .1) (omega (arith, pre .1 .1 .2, loop .inv .1)) (loop .inv .0) _ (message-lists .ensures), roomy-lists (args .g) (args .factors .now) (messagesOf (args .p)) (pre .0 .1) (args .shift) (args .start) (args .keys .now) (args .heads .now) (args .messages .now) (loop .messages) (loop .to) (loop .j) (length (loop .work)) (pre .0 .2) (omega (arith, messages-length (args .p), c .before .before .before .before .before .loop-test .taken)) (pre .1 .0 .0) (pre .1 .0 .1) sized (pre .1 .1 .0) (pre .1 .1 .1) (omega (arith, pre .1 .1 .2, loop .inv .1)) (loop .inv .0) _ (message-lists .ensures)),
+    let sized : length (c .before .before .before .before .before .before .before .before .before .before .before .before .args .g .sizes) ≡ 32 = search needs in (
+      within _ _ _ (c .before .before .before .message-lists .ensures),
+      (asked-lists (c .before .before .before .before .before .before .before .before .before .before .before .before .args .g) (c .before .before .before .before .before .before .before .before .before .before .before .before .args .factors .now) (messagesOf (c .before .before .before .before .before .before .before .before .before .before .before .before .args .p)) (c .before .before .before .before .before .before .before .before .before .before .before .before .pre .0 .1) (c .before .before .before .before .before .before .before .before .before .before .before .before .args .shift) (c .before .before .before .before .before .before .before .before .before .before .before .before .args .start) (c .before .before .before .before .before .before .before .before .before .before .before .before .args .keys .now) (c .before .before .before .before .before .before .before .before .before .before .before .before .args .heads .now) (c .before .before .before .before .before .before .before .before .before .before .before .before .args .messages .now) (c .before .before .before .before .before .before .loop .messages) (c .before .before .before .before .before .before .loop .to) (c .before .before .before .before .before .before .loop .j) (length (c .before .before .before .before .before .before .loop .work)) (c .before .before .before .before .before .before .before .before .before .before .before .before .pre .0 .2) (omega (arith, messages-length (c .before .before .before .before .before .before .before .before .before .before .before .before .args .p), c .before .before .before .before .before .loop-test .taken)) (c .before .before .before .before .before .before .before .before .before .before .before .before .pre .1 .0 .0) (c .before .before .before .before .before .before .before .before .before .before .before .before .pre .1 .0 .1) sized (c .before .before .before .before .before .before .before .before .before .before .before .before .pre .1 .1 .0) (c .before .before .before .before .before .before .before .before .before .before .before .before .pre .1 .1 .1) (omega (arith, c .before .before .before .before .before .before .before .before .before .before .before .before .pre .1 .1 .2, c .before .before .before .before .before .before .loop .inv .1)) (c .before .before .before .before .before .before .loop .inv .0) _ (c .before .before .before .message-lists .ensures), roomy-lists (c .before .before .before .before .before .before .before .before .before .before .before .before .args .g) (c .before .before .before .before .before .before .before .before .before .before .before .before .args .factors .now) (messagesOf (c .before .before .before .before .before .before .before .before .before .before .before .before .args .p)) (c .before .before .before .before .before .before .before .before .before .before .before .before .pre .0 .1) (c .before .before .before .before .before .before .before .before .before .before .before .before .args .shift) (c .before .before .before .before .before .before .before .before .before .before .before .before .args .start) (c .before .before .before .before .before .before .before .before .before .before .before .before .args .keys .now) (c .before .before .before .before .before .before .before .before .before .before .before .before .args .heads .now) (c .before .before .before .before .before .before .before .before .before .before .before .before .args .messages .now) (c .before .before .before .before .before .before .loop .messages) (c .before .before .before .before .before .before .loop .to) (c .before .before .before .before .before .before .loop .j) (length (c .before .before .before .before .before .before .loop .work)) (c .before .before .before .before .before .before .before .before .before .before .before .before .pre .0 .2) (omega (arith, messages-length (c .before .before .before .before .before .before .before .before .before .before .before .before .args .p), c .before .before .before .before .before .loop-test .taken)) (c .before .before .before .before .before .before .before .before .before .before .before .before .pre .1 .0 .0) (c .before .before .before .before .before .before .before .before .before .before .before .before .pre .1 .0 .1) sized (c .before .before .before .before .before .before .before .before .before .before .before .before .pre .1 .1 .0) (c .before .before .before .before .before .before .before .before .before .before .before .before .pre .1 .1 .1) (omega (arith, c .before .before .before .before .before .before .before .before .before .before .before .before .pre .1 .1 .2, c .before .before .before .before .before .before .loop .inv .1)) (c .before .before .before .before .before .before .loop .inv .0) _ (c .before .before .before .message-lists .ensures)),
     )
 
 enum-told : tie.Need-enum-told Inv-loop μ-loop
@@ -99,13 +87,9 @@ same-length-2 c = search needs
 
 returns : tie.Need-returns Inv-loop μ-loop
 returns c =
-    let args = c .before .before .before .before .before .before .before .before .before .before .before .before .before .before .before .before .before .before .before .args in
-    let pre = c .before .before .before .before .before .before .before .before .before .before .before .before .before .before .before .before .before .before .before .pre in
-    let loop = c .before .before .before .before .before .before .before .before .before .before .before .before .before .loop in
-    let eliminate-listed = c .before .before .before .before .before .before .eliminate-listed in
     let good = c .before .before .before .before .before .before .before .before .before .before .before .before .before .before .before .before .before .before .before .good in
-    let sized : length (args .g .sizes) ≡ 32 = search needs in
-    let r = refused-pivot (args .g) (args .factors .now) (messagesOf (args .p)) (pre .0 .1) (args .shift) (args .start) (args .keys .now) (args .heads .now) (args .messages .now) (loop .messages) (loop .to) (loop .j) (length (loop .work)) (pre .0 .2) (omega (arith, messages-length (args .p), c .before .before .before .before .before .before .before .before .before .before .before .before .loop-test .taken)) (pre .1 .0 .0) (pre .1 .0 .1) sized (pre .1 .1 .0) (pre .1 .1 .1) (omega (arith, pre .1 .1 .2, loop .inv .1)) (loop .inv .0) _ (c .before .before .before .before .before .before .before .before .before .before .message-lists .ensures) _ _ (eliminate-listed .ensures .0) (eliminate-listed .ensures .1) (c .enum-told2 .given .1) in
+    let sized : length (c .before .before .before .before .before .before .before .before .before .before .before .before .before .before .before .before .before .before .before .args .g .sizes) ≡ 32 = search needs in
+    let r = refused-pivot (c .before .before .before .before .before .before .before .before .before .before .before .before .before .before .before .before .before .before .before .args .g) (c .before .before .before .before .before .before .before .before .before .before .before .before .before .before .before .before .before .before .before .args .factors .now) (messagesOf (c .before .before .before .before .before .before .before .before .before .before .before .before .before .before .before .before .before .before .before .args .p)) (c .before .before .before .before .before .before .before .before .before .before .before .before .before .before .before .before .before .before .before .pre .0 .1) (c .before .before .before .before .before .before .before .before .before .before .before .before .before .before .before .before .before .before .before .args .shift) (c .before .before .before .before .before .before .before .before .before .before .before .before .before .before .before .before .before .before .before .args .start) (c .before .before .before .before .before .before .before .before .before .before .before .before .before .before .before .before .before .before .before .args .keys .now) (c .before .before .before .before .before .before .before .before .before .before .before .before .before .before .before .before .before .before .before .args .heads .now) (c .before .before .before .before .before .before .before .before .before .before .before .before .before .before .before .before .before .before .before .args .messages .now) (c .before .before .before .before .before .before .before .before .before .before .before .before .before .loop .messages) (c .before .before .before .before .before .before .before .before .before .before .before .before .before .loop .to) (c .before .before .before .before .before .before .before .before .before .before .before .before .before .loop .j) (length (c .before .before .before .before .before .before .before .before .before .before .before .before .before .loop .work)) (c .before .before .before .before .before .before .before .before .before .before .before .before .before .before .before .before .before .before .before .pre .0 .2) (omega (arith, messages-length (c .before .before .before .before .before .before .before .before .before .before .before .before .before .before .before .before .before .before .before .args .p), c .before .before .before .before .before .before .before .before .before .before .before .before .loop-test .taken)) (c .before .before .before .before .before .before .before .before .before .before .before .before .before .before .before .before .before .before .before .pre .1 .0 .0) (c .before .before .before .before .before .before .before .before .before .before .before .before .before .before .before .before .before .before .before .pre .1 .0 .1) sized (c .before .before .before .before .before .before .before .before .before .before .before .before .before .before .before .before .before .before .before .pre .1 .1 .0) (c .before .before .before .before .before .before .before .before .before .before .before .before .before .before .before .before .before .before .before .pre .1 .1 .1) (omega (arith, c .before .before .before .before .before .before .before .before .before .before .before .before .before .before .before .before .before .before .before .pre .1 .1 .2, c .before .before .before .before .before .before .before .before .before .before .before .before .before .loop .inv .1)) (c .before .before .before .before .before .before .before .before .before .before .before .before .before .loop .inv .0) _ (c .before .before .before .before .before .before .before .before .before .before .message-lists .ensures) _ _ (c .before .before .before .before .before .before .eliminate-listed .ensures .0) (c .before .before .before .before .before .before .eliminate-listed .ensures .1) (c .enum-told2 .given .1) in
     (r .0, (r .1, λ e. absurd (halted-through _ _ e)))
 
 enum-told-3 : tie.Need-enum-told-3 Inv-loop μ-loop
@@ -119,13 +103,9 @@ same-length-4 c = search needs
 
 returns-2 : tie.Need-returns-2 Inv-loop μ-loop
 returns-2 c =
-    let args = c .before .before .before .before .before .before .before .before .before .before .before .before .before .before .before .before .before .before .before .args in
-    let pre = c .before .before .before .before .before .before .before .before .before .before .before .before .before .before .before .before .before .before .before .pre in
-    let loop = c .before .before .before .before .before .before .before .before .before .before .before .before .before .loop in
-    let eliminate-listed = c .before .before .before .before .before .before .eliminate-listed in
     let good = c .before .before .before .before .before .before .before .before .before .before .before .before .before .before .before .before .before .before .before .good in
-    let sized : length (args .g .sizes) ≡ 32 = search needs in
-    let r = refused-unbounded (args .g) (args .factors .now) (messagesOf (args .p)) (pre .0 .1) (args .shift) (args .start) (args .keys .now) (args .heads .now) (args .messages .now) (loop .messages) (loop .to) (loop .j) (length (loop .work)) (pre .0 .2) (omega (arith, messages-length (args .p), c .before .before .before .before .before .before .before .before .before .before .before .before .loop-test .taken)) (pre .1 .0 .0) (pre .1 .0 .1) sized (pre .1 .1 .0) (pre .1 .1 .1) (omega (arith, pre .1 .1 .2, loop .inv .1)) (loop .inv .0) _ (c .before .before .before .before .before .before .before .before .before .before .message-lists .ensures) _ _ (eliminate-listed .ensures .0) (eliminate-listed .ensures .1) (c .enum-told3 .given .1) in
+    let sized : length (c .before .before .before .before .before .before .before .before .before .before .before .before .before .before .before .before .before .before .before .args .g .sizes) ≡ 32 = search needs in
+    let r = refused-unbounded (c .before .before .before .before .before .before .before .before .before .before .before .before .before .before .before .before .before .before .before .args .g) (c .before .before .before .before .before .before .before .before .before .before .before .before .before .before .before .before .before .before .before .args .factors .now) (messagesOf (c .before .before .before .before .before .before .before .before .before .before .before .before .before .before .before .before .before .before .before .args .p)) (c .before .before .before .before .before .before .before .before .before .before .before .before .before .before .before .before .before .before .before .pre .0 .1) (c .before .before .before .before .before .before .before .before .before .before .before .before .before .before .before .before .before .before .before .args .shift) (c .before .before .before .before .before .before .before .before .before .before .before .before .before .before .before .before .before .before .before .args .start) (c .before .before .before .before .before .before .before .before .before .before .before .before .before .before .before .before .before .before .before .args .keys .now) (c .before .before .before .before .before .before .before .before .before .before .before .before .before .before .before .before .before .before .before .args .heads .now) (c .before .before .before .before .before .before .before .before .before .before .before .before .before .before .before .before .before .before .before .args .messages .now) (c .before .before .before .before .before .before .before .before .before .before .before .before .before .loop .messages) (c .before .before .before .before .before .before .before .before .before .before .before .before .before .loop .to) (c .before .before .before .before .before .before .before .before .before .before .before .before .before .loop .j) (length (c .before .before .before .before .before .before .before .before .before .before .before .before .before .loop .work)) (c .before .before .before .before .before .before .before .before .before .before .before .before .before .before .before .before .before .before .before .pre .0 .2) (omega (arith, messages-length (c .before .before .before .before .before .before .before .before .before .before .before .before .before .before .before .before .before .before .before .args .p), c .before .before .before .before .before .before .before .before .before .before .before .before .loop-test .taken)) (c .before .before .before .before .before .before .before .before .before .before .before .before .before .before .before .before .before .before .before .pre .1 .0 .0) (c .before .before .before .before .before .before .before .before .before .before .before .before .before .before .before .before .before .before .before .pre .1 .0 .1) sized (c .before .before .before .before .before .before .before .before .before .before .before .before .before .before .before .before .before .before .before .pre .1 .1 .0) (c .before .before .before .before .before .before .before .before .before .before .before .before .before .before .before .before .before .before .before .pre .1 .1 .1) (omega (arith, c .before .before .before .before .before .before .before .before .before .before .before .before .before .before .before .before .before .before .before .pre .1 .1 .2, c .before .before .before .before .before .before .before .before .before .before .before .before .before .loop .inv .1)) (c .before .before .before .before .before .before .before .before .before .before .before .before .before .loop .inv .0) _ (c .before .before .before .before .before .before .before .before .before .before .message-lists .ensures) _ _ (c .before .before .before .before .before .before .eliminate-listed .ensures .0) (c .before .before .before .before .before .before .eliminate-listed .ensures .1) (c .enum-told3 .given .1) in
     (r .0, (r .1, λ e. absurd (halted-through _ _ e)))
 
 add-j : tie.Need-add-j Inv-loop μ-loop
@@ -136,17 +116,12 @@ loop-less c = search needs
 
 loop-again : tie.Need-loop-again Inv-loop μ-loop
 loop-again c =
-    let args = c .before .before .before .before .before .before .before .before .before .before .before .before .before .before .before .before .before .before .before .args in
-    let pre = c .before .before .before .before .before .before .before .before .before .before .before .before .before .before .before .before .before .before .before .pre in
-    let loop = c .before .before .before .before .before .before .before .before .before .before .before .before .before .loop in
-    let loop-test = c .before .before .before .before .before .before .before .before .before .before .before .before .loop-test in
-    let eliminate-listed = c .before .before .before .before .before .before .eliminate-listed in
     let good = c .before .before .before .before .before .before .before .before .before .before .before .before .before .before .before .before .before .before .before .good in
-    let sized : length (args .g .sizes) ≡ 32 = search needs in
-    let t = head-tells (args .g) (messagesOf (args .p)) (pre .0 .1) (args .shift) (args .start) (loop .j) (args .keys .now) (args .heads .now) _ (omega (arith, messages-length (args .p), loop-test .taken)) (pre .1 .0 .1) (c .before .before .before .before .before .before .before .before .before .head-at .ensures) in (
-      carrying-more (args .g) (args .factors .now) (messagesOf (args .p)) (pre .0 .1) (args .shift) (args .start) (args .keys .now) (args .heads .now) (args .messages .now) (loop .messages) (loop .to) (loop .j) (length (loop .work)) (pre .0 .2) (omega (arith, messages-length (args .p), loop-test .taken)) (pre .1 .0 .0) (pre .1 .0 .1) sized (pre .1 .1 .0) (pre .1 .1 .1) (omega (arith, pre .1 .1 .2, loop .inv .1)) (loop .inv .0) _ (c .before .before .before .before .before .before .before .before .before .before .message-lists .ensures) _ _ (eliminate-listed .ensures .0) (eliminate-listed .ensures .1) _ (c .enum-told .given .1) _ (next-told (args .g) (messagesOf (args .p)) (loop .to) _ _ (loop .j) (t .0) (t .1)),
-      eliminate-listed .kept .1 .1 .1 .1 .1 .0 ∙ loop .inv .1,
-      omega (arith, t .2, t .3, t .4, t .5, loop .inv .2),
+    let sized : length (c .before .before .before .before .before .before .before .before .before .before .before .before .before .before .before .before .before .before .before .args .g .sizes) ≡ 32 = search needs in
+    let t = head-tells (c .before .before .before .before .before .before .before .before .before .before .before .before .before .before .before .before .before .before .before .args .g) (messagesOf (c .before .before .before .before .before .before .before .before .before .before .before .before .before .before .before .before .before .before .before .args .p)) (c .before .before .before .before .before .before .before .before .before .before .before .before .before .before .before .before .before .before .before .pre .0 .1) (c .before .before .before .before .before .before .before .before .before .before .before .before .before .before .before .before .before .before .before .args .shift) (c .before .before .before .before .before .before .before .before .before .before .before .before .before .before .before .before .before .before .before .args .start) (c .before .before .before .before .before .before .before .before .before .before .before .before .before .loop .j) (c .before .before .before .before .before .before .before .before .before .before .before .before .before .before .before .before .before .before .before .args .keys .now) (c .before .before .before .before .before .before .before .before .before .before .before .before .before .before .before .before .before .before .before .args .heads .now) _ (omega (arith, messages-length (c .before .before .before .before .before .before .before .before .before .before .before .before .before .before .before .before .before .before .before .args .p), c .before .before .before .before .before .before .before .before .before .before .before .before .loop-test .taken)) (c .before .before .before .before .before .before .before .before .before .before .before .before .before .before .before .before .before .before .before .pre .1 .0 .1) (c .before .before .before .before .before .before .before .before .before .head-at .ensures) in (
+      carrying-more (c .before .before .before .before .before .before .before .before .before .before .before .before .before .before .before .before .before .before .before .args .g) (c .before .before .before .before .before .before .before .before .before .before .before .before .before .before .before .before .before .before .before .args .factors .now) (messagesOf (c .before .before .before .before .before .before .before .before .before .before .before .before .before .before .before .before .before .before .before .args .p)) (c .before .before .before .before .before .before .before .before .before .before .before .before .before .before .before .before .before .before .before .pre .0 .1) (c .before .before .before .before .before .before .before .before .before .before .before .before .before .before .before .before .before .before .before .args .shift) (c .before .before .before .before .before .before .before .before .before .before .before .before .before .before .before .before .before .before .before .args .start) (c .before .before .before .before .before .before .before .before .before .before .before .before .before .before .before .before .before .before .before .args .keys .now) (c .before .before .before .before .before .before .before .before .before .before .before .before .before .before .before .before .before .before .before .args .heads .now) (c .before .before .before .before .before .before .before .before .before .before .before .before .before .before .before .before .before .before .before .args .messages .now) (c .before .before .before .before .before .before .before .before .before .before .before .before .before .loop .messages) (c .before .before .before .before .before .before .before .before .before .before .before .before .before .loop .to) (c .before .before .before .before .before .before .before .before .before .before .before .before .before .loop .j) (length (c .before .before .before .before .before .before .before .before .before .before .before .before .before .loop .work)) (c .before .before .before .before .before .before .before .before .before .before .before .before .before .before .before .before .before .before .before .pre .0 .2) (omega (arith, messages-length (c .before .before .before .before .before .before .before .before .before .before .before .before .before .before .before .before .before .before .before .args .p), c .before .before .before .before .before .before .before .before .before .before .before .before .loop-test .taken)) (c .before .before .before .before .before .before .before .before .before .before .before .before .before .before .before .before .before .before .before .pre .1 .0 .0) (c .before .before .before .before .before .before .before .before .before .before .before .before .before .before .before .before .before .before .before .pre .1 .0 .1) sized (c .before .before .before .before .before .before .before .before .before .before .before .before .before .before .before .before .before .before .before .pre .1 .1 .0) (c .before .before .before .before .before .before .before .before .before .before .before .before .before .before .before .before .before .before .before .pre .1 .1 .1) (omega (arith, c .before .before .before .before .before .before .before .before .before .before .before .before .before .before .before .before .before .before .before .pre .1 .1 .2, c .before .before .before .before .before .before .before .before .before .before .before .before .before .loop .inv .1)) (c .before .before .before .before .before .before .before .before .before .before .before .before .before .loop .inv .0) _ (c .before .before .before .before .before .before .before .before .before .before .message-lists .ensures) _ _ (c .before .before .before .before .before .before .eliminate-listed .ensures .0) (c .before .before .before .before .before .before .eliminate-listed .ensures .1) _ (c .enum-told .given .1) _ (next-told (c .before .before .before .before .before .before .before .before .before .before .before .before .before .before .before .before .before .before .before .args .g) (messagesOf (c .before .before .before .before .before .before .before .before .before .before .before .before .before .before .before .before .before .before .before .args .p)) (c .before .before .before .before .before .before .before .before .before .before .before .before .before .loop .to) _ _ (c .before .before .before .before .before .before .before .before .before .before .before .before .before .loop .j) (t .0) (t .1)),
+      c .before .before .before .before .before .before .eliminate-listed .kept .1 .1 .1 .1 .1 .0 ∙ c .before .before .before .before .before .before .before .before .before .before .before .before .before .loop .inv .1,
+      omega (arith, t .2, t .3, t .4, t .5, c .before .before .before .before .before .before .before .before .before .before .before .before .before .loop .inv .2),
     )
 
 same-length-5 : tie.Need-same-length-5 Inv-loop μ-loop
@@ -157,8 +132,7 @@ same-length-6 c = search needs
 
 returns-3 : tie.Need-returns-3 Inv-loop μ-loop
 returns-3 c =
-    let args = c .before .before .before .before .before .before .before .args in
-    let r = carried (args .g) (args .factors .now) (messagesOf (args .p)) (args .start) (args .messages .now) (c .before .loop .messages) (c .before .loop .to) (c .before .loop .j) (c .before .loop .inv .0) (omega (arith, messages-length (args .p), c .before .loop .inv .0 .few)) in
+    let r = carried (c .before .before .before .before .before .before .before .args .g) (c .before .before .before .before .before .before .before .args .factors .now) (messagesOf (c .before .before .before .before .before .before .before .args .p)) (c .before .before .before .before .before .before .before .args .start) (c .before .before .before .before .before .before .before .args .messages .now) (c .before .loop .messages) (c .before .loop .to) (c .before .loop .j) (c .before .loop .inv .0) (omega (arith, messages-length (c .before .before .before .before .before .before .before .args .p), c .before .loop .inv .0 .few)) in
     (r .0, (r .1, λ e. r .2))
 
 pub carry-pass-spec : {M : Type 1} → statement M

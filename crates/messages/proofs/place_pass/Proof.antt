@@ -18,9 +18,7 @@ abbrev μ-loop : tie.MeasureT-loop
 μ-loop g p shift start keys₀ heads₀ n next₀ j₀ keys heads next j = n - j
 
 loop-holds : tie.Need-loop-holds Inv-loop μ-loop
-loop-holds c =
-    let args = c .before .before .args in
-    progress-none (args .g) (messagesOf (args .p)) (args .shift) (args .start) (args .keys .now) (args .heads .now) (c .before .before .pre .1)
+loop-holds c = progress-none (c .before .before .args .g) (messagesOf (c .before .before .args .p)) (c .before .before .args .shift) (c .before .before .args .start) (c .before .before .args .keys .now) (c .before .before .args .heads .now) (c .before .before .pre .1)
 
 message-lists-requires : tie.Need-message-lists-requires Inv-loop μ-loop
 message-lists-requires c κs = (c .before .before .before .before .before .pre .0 .0, c .before .loop-test .taken, c .before .before .before .before .before .pre .0 .2)
@@ -33,12 +31,9 @@ add-place-listed-2 c = search needs
 
 place-listed-requires : tie.Need-place-listed-requires Inv-loop μ-loop
 place-listed-requires c κs =
-    let args = c .before .before .before .before .before .before .before .before .args in
-    let pre = c .before .before .before .before .before .before .before .before .pre in
-    let loop = c .before .before .before .before .before .loop in
-    let sized : length (args .g .sizes) ≡ 32 = search needs in (
+    let sized : length (c .before .before .before .before .before .before .before .before .args .g .sizes) ≡ 32 = search needs in (
       within _ _ _ (c .before .before .message-lists .ensures),
-      placeable (args .g) (messagesOf (args .p)) (pre .0 .1) (args .shift) (args .start) (args .keys .now) (args .heads .now) (loop .keys) (loop .heads) (loop .next) (loop .j) (pre .0 .2) (omega (arith, messages-length (args .p), c .before .before .before .before .loop-test .taken)) sized (loop .inv) _ (c .before .before .message-lists .ensures) (pre .0 .3),
+      placeable (c .before .before .before .before .before .before .before .before .args .g) (messagesOf (c .before .before .before .before .before .before .before .before .args .p)) (c .before .before .before .before .before .before .before .before .pre .0 .1) (c .before .before .before .before .before .before .before .before .args .shift) (c .before .before .before .before .before .before .before .before .args .start) (c .before .before .before .before .before .before .before .before .args .keys .now) (c .before .before .before .before .before .before .before .before .args .heads .now) (c .before .before .before .before .before .loop .keys) (c .before .before .before .before .before .loop .heads) (c .before .before .before .before .before .loop .next) (c .before .before .before .before .before .loop .j) (c .before .before .before .before .before .before .before .before .pre .0 .2) (omega (arith, messages-length (c .before .before .before .before .before .before .before .before .args .p), c .before .before .before .before .loop-test .taken)) sized (c .before .before .before .before .before .loop .inv) _ (c .before .before .message-lists .ensures) (c .before .before .before .before .before .before .before .before .pre .0 .3),
     )
 
 add-j : tie.Need-add-j Inv-loop μ-loop
@@ -49,12 +44,9 @@ loop-less c = search needs
 
 loop-again : tie.Need-loop-again Inv-loop μ-loop
 loop-again c =
-    let args = c .before .before .before .before .before .before .before .before .before .before .before .before .before .args in
-    let pre = c .before .before .before .before .before .before .before .before .before .before .before .before .before .pre in
-    let loop = c .before .before .before .before .before .before .before .before .before .before .loop in
     let good = c .before .before .before .before .before .before .before .before .before .before .before .before .before .good in
-    let sized : length (args .g .sizes) ≡ 32 = search needs in
-    progress-more (args .g) (messagesOf (args .p)) (pre .0 .1) (args .shift) (args .start) (args .keys .now) (args .heads .now) (loop .keys) (loop .heads) (loop .next) (loop .j) (pre .0 .2) (omega (arith, messages-length (args .p), c .before .before .before .before .before .before .before .before .before .loop-test .taken)) sized (loop .inv) _ (c .before .before .before .before .before .before .before .message-lists .ensures) _ _ _ (c .before .before .before .before .place-listed .ensures)
+    let sized : length (c .before .before .before .before .before .before .before .before .before .before .before .before .before .args .g .sizes) ≡ 32 = search needs in
+    progress-more (c .before .before .before .before .before .before .before .before .before .before .before .before .before .args .g) (messagesOf (c .before .before .before .before .before .before .before .before .before .before .before .before .before .args .p)) (c .before .before .before .before .before .before .before .before .before .before .before .before .before .pre .0 .1) (c .before .before .before .before .before .before .before .before .before .before .before .before .before .args .shift) (c .before .before .before .before .before .before .before .before .before .before .before .before .before .args .start) (c .before .before .before .before .before .before .before .before .before .before .before .before .before .args .keys .now) (c .before .before .before .before .before .before .before .before .before .before .before .before .before .args .heads .now) (c .before .before .before .before .before .before .before .before .before .before .loop .keys) (c .before .before .before .before .before .before .before .before .before .before .loop .heads) (c .before .before .before .before .before .before .before .before .before .before .loop .next) (c .before .before .before .before .before .before .before .before .before .before .loop .j) (c .before .before .before .before .before .before .before .before .before .before .before .before .before .pre .0 .2) (omega (arith, messages-length (c .before .before .before .before .before .before .before .before .before .before .before .before .before .args .p), c .before .before .before .before .before .before .before .before .before .loop-test .taken)) sized (c .before .before .before .before .before .before .before .before .before .before .loop .inv) _ (c .before .before .before .before .before .before .before .message-lists .ensures) _ _ _ (c .before .before .before .before .place-listed .ensures)
 
 same-length : tie.Need-same-length Inv-loop μ-loop
 same-length c = search needs
@@ -63,9 +55,7 @@ same-length-2 : tie.Need-same-length-2 Inv-loop μ-loop
 same-length-2 c = search needs
 
 returns : tie.Need-returns Inv-loop μ-loop
-returns c =
-    let args = c .before .before .before .before .args in
-    progress-done (args .g) (messagesOf (args .p)) (args .shift) (args .start) (args .keys .now) (args .heads .now) (c .before .loop .keys) (c .before .loop .heads) (c .before .loop .next) (c .before .loop .j) (c .before .loop .inv) (omega (arith, messages-length (args .p), c .before .loop .inv .few))
+returns c = progress-done (c .before .before .before .before .args .g) (messagesOf (c .before .before .before .before .args .p)) (c .before .before .before .before .args .shift) (c .before .before .before .before .args .start) (c .before .before .before .before .args .keys .now) (c .before .before .before .before .args .heads .now) (c .before .loop .keys) (c .before .loop .heads) (c .before .loop .next) (c .before .loop .j) (c .before .loop .inv) (omega (arith, messages-length (c .before .before .before .before .args .p), c .before .loop .inv .few))
 
 pub place-pass-spec : {M : Type 1} → statement M
 place-pass-spec =
