@@ -22,7 +22,7 @@ pub fn shares(graph: &Graph) {
         note(0, each(|| ours::store(black_box(&bytes), &mut store)));
         note(1, each_of(REPEATS, || ours::repeat(black_box(&bytes), REPEATS, &mut messages, &mut marginals)));
         note(2, each_of(REPEATS, || assert!(ours::plan(black_box(&bytes), REPEATS) < 32)));
-        note(3, each_of(PIVOTS, || (1..=PIVOTS).for_each(|n| drop(black_box(ours::root(black_box(n as f64 / 7.0)))))));
+        note(3, each_of(PIVOTS, || (1..=PIVOTS).for_each(|n| assert!(ours::root(black_box(n as f64 / 7.0)) > 0.0))));
     }
     let [reading, run, plan, root] = least;
     // Runs and plans read the job once.
