@@ -21,7 +21,7 @@ use Rattle.direct.specs.declared.Direct.{Direct}
 use Rattle.plan.specs.Plan.{planOf}
 use Rattle.plan.proofs.Sending.{messages-length}
 use Rattle.solver.specs.Plan.{Answer, planned, read}
-use Rattle.solver.specs.declared.Planned.{Planned}
+use Rattle.solver.specs.declared.Arranged.{Arranged}
 use Rattle.solver.specs.Run as solver
 use Rattle.solver.specs.Stages as stages
 use Rattle.solver.specs.declared.run.Ran.{Ran}
@@ -65,7 +65,7 @@ unfolding replanned
 no-plan g = refl
 
 -- the arrays' count is the number of forward messages
-pub one-plan : (g : Graph) (made : Planned) (n : ℕ) → read made ≡ planned g → made .plan .forward .count ≡ replanned g (n + 1)
+pub one-plan : (g : Graph) (made : Arranged) (n : ℕ) → read made ≡ planned g → made .plan .forward .count ≡ replanned g (n + 1)
 unfolding replanned read planOf
 one-plan g made n e = rw (add-one n) (sym (messages-length (made .plan .forward)) ∙ ap (λ (a : Answer). length (a .plan .forward)) e)
 

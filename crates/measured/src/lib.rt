@@ -97,7 +97,7 @@ fn replan(g: Graph, times: usize) -> usize
 {
     let mut count = 0;
     for _ in 0..times {
-        let made = solver::plan(g);
+        let made = solver::arrange(g);
         let p = made.plan;
         let fw = p.forward;
         count = fw.count;

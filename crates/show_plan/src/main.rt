@@ -28,7 +28,7 @@ fn show(bytes: &[u8]) {
 // The buffer is longer than the text of any plan: 62 messages have lines of under 560 bytes, 32 keys of under 720. That is reckoned, not proved.
 // A graph that was read has a plan.
 fn print_plan(g: Graph) {
-    let made = solver::plan(g);
+    let made = solver::arrange(g);
     let p = made.plan;
     let mut text = io::large_buffer();
     match plan_text::lay_plan(p, made.keys, &mut text) {

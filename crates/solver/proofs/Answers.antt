@@ -1,4 +1,4 @@
--- What the answer of `plan` means, and what an outcome tells of the graph. Assumes nothing.
+-- What the answer of `arrange` means, and what an outcome tells of the graph. Assumes nothing.
 use mathlib.Core.Path.{_≡_, refl, sym, ap, _∙_}
 use mathlib.Core.Bool.{Bool, true, false, cond}
 use mathlib.Core.List.{List}
@@ -15,7 +15,7 @@ use Rattle.plan.specs.Plan.{planOf, risingPlan}
 use Rattle.plan.specs.declared.factors.FactorKeys.{FactorKeys}
 use Rattle.plan.specs.declared.plan.Plan.{Plan}
 use Rattle.solver.specs.Plan.{graphPlan, noPlan, Answer, planned, read, Table}
-use Rattle.solver.specs.declared.Planned.{Planned}
+use Rattle.solver.specs.declared.Arranged.{Arranged}
 use Rattle.solver.specs.declared.Outcome.the-variants.{Made, Refused}
 use Rattle.solver.proofs.Tables.{same-keys}
 
@@ -34,7 +34,7 @@ turned-back g table p v e = rw (v, e ∙ empty-plan (keysAt table 0))
 
 -- ---- what an outcome tells of the graph
 
-outcome-is : (r : Planned) (g : Graph) → read r ≡ planned g → r .outcome ≡ cond (valid g) Made (Refused NoSuchGraph)
+outcome-is : (r : Arranged) (g : Graph) → read r ≡ planned g → r .outcome ≡ cond (valid g) Made (Refused NoSuchGraph)
 unfolding read planned
 outcome-is r g e = ap (λ (a : Answer). a .outcome) e ∙ go (valid g)
   where
@@ -42,14 +42,14 @@ outcome-is r g e = ap (λ (a : Answer). a .outcome) e ∙ go (valid g)
     go true = refl
     go false = refl
 
-pub made-valid : (r : Planned) (g : Graph) → read r ≡ planned g → r .outcome ≡ Made → valid g ≡ true
+pub made-valid : (r : Arranged) (g : Graph) → read r ≡ planned g → r .outcome ≡ Made → valid g ≡ true
 made-valid r g e h = go (valid g) refl
   where
     go : (b : Bool) → valid g ≡ b → valid g ≡ true
     go true v = v
     go false v = let z : Made ≡ Refused NoSuchGraph = sym h ∙ outcome-is r g e ∙ rw v in cc
 
-pub refused-why : (r : Planned) (g : Graph) (why : Refusal) → read r ≡ planned g → r .outcome ≡ Refused why → (valid g ≡ false) × (why ≡ NoSuchGraph)
+pub refused-why : (r : Arranged) (g : Graph) (why : Refusal) → read r ≡ planned g → r .outcome ≡ Refused why → (valid g ≡ false) × (why ≡ NoSuchGraph)
 refused-why r g why e h = go (valid g) refl
   where
     go : (b : Bool) → valid g ≡ b → (valid g ≡ false) × (why ≡ NoSuchGraph)

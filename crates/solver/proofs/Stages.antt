@@ -52,7 +52,7 @@ use Rattle.marginals.proofs.Gathering.{findable}
 use Rattle.marginals.proofs.Laying.{lay-two}
 use Rattle.solver.specs.Plan.{graphPlan, read}
 use Rattle.solver.specs.Plan as spec
-use Rattle.solver.specs.declared.Planned as calls
+use Rattle.solver.specs.declared.Arranged as calls
 use Rattle.solver.specs.declared.Outcome.the-variants.{Made}
 use Rattle.solver.specs.Run.{Verdict, refusal, first, second, third, carried, checked, figureOf, run}
 use Rattle.solver.specs.Stages.{verdict, Planned, Ready, Enough, thirdOf, secondOf}
@@ -348,7 +348,7 @@ plan-checked g p figure factors messages marginals work v pl ef e = e ∙ rw (pl
 
 -- ---- the run
 
-pub made-planned : (r : calls.Planned) (g : Graph) → read r ≡ spec.planned g → Bounded (r .keys) (r .plan) → r .outcome ≡ Made → Planned g (r .plan)
+pub made-planned : (r : calls.Arranged) (g : Graph) → read r ≡ spec.planned g → Bounded (r .keys) (r .plan) → r .outcome ≡ Made → Planned g (r .plan)
 unfolding read spec.planned
 made-planned r g e b h =
     let v : valid g ≡ true = made-valid r g e h in

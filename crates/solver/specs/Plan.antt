@@ -15,7 +15,7 @@ use Rattle.plan.specs.Plan.{planOf}
 use Rattle.plan.specs.Factors.{noKeys}
 use Rattle.plan.specs.declared.factors.FactorKeys.{FactorKeys}
 use Rattle.messages.specs.Tables.{keysOf}
-use Rattle.solver.specs.declared.Planned.{Planned}
+use Rattle.solver.specs.declared.Arranged.{Arranged}
 use Rattle.solver.specs.declared.Outcome.{Outcome}
 use Rattle.solver.specs.declared.Outcome.the-variants.{Made, Refused}
 
@@ -40,7 +40,7 @@ planned g =
     (record { outcome = Refused NoSuchGraph; keys = 0; plan = noPlan })
 
 -- what the arrays of an answer hold
-unfoldable pub read : Planned → Answer
+unfoldable pub read : Arranged → Answer
 read r = record { outcome = r .outcome; keys = r .keys; plan = planOf (r .keys) (r .plan) }
 
 -- ---- from the graph's record to the table that a plan is made from

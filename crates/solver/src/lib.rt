@@ -21,8 +21,8 @@ pub enum Outcome {
     Refused(Refusal),
 }
 
-// The outcome, how many keys the plan is for, and the plan: empty where it was refused.
-pub struct Planned {
+// The plan in the arrays in which it was made, as the run reads it: the outcome, how many keys it is for, and the arrays, which hold no message where it was refused.
+pub struct Arranged {
     pub outcome: Outcome,
     pub keys: usize,
     pub plan: Plan,
@@ -55,14 +55,14 @@ fn table_of(g: Graph) -> [FactorKeys; FACTORS]
     table
 }
 
-// The plan of a graph: for each message its pass, step, content, kept and cleared keys; for each key the messages and originals gathered, the leaves, and the keys cleared last.
-pub fn plan(g: Graph) -> Planned
+// The plan of a graph, in arrays. What stands past their counts is read by nobody.
+pub fn arrange(g: Graph) -> Arranged
     ensures { λ r. ⌜ spec.read r ≡ spec.planned g ⌝ }
     ensures { λ r. ⌜ (r .keys ≤ max-variables) × Bounded (r .keys) (r .plan) ⌝ }
 {
     let table = table_of(g);
     if !g.valid() {
-        return Planned {
+        return Arranged {
             outcome: Outcome::Refused(Refusal::NoSuchGraph),
             keys: 0,
             plan: plan::plan::rising_plan(table, 0, 0),
@@ -70,7 +70,7 @@ pub fn plan(g: Graph) -> Planned
     }
     let n = g.variables;
     let count = g.count;
-    Planned {
+    Arranged {
         outcome: Outcome::Made,
         keys: n,
         plan: plan::plan::rising_plan(table, count, n),

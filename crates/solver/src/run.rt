@@ -274,7 +274,7 @@ pub fn run(
 ) -> Ran
     ensures { λ r. ⌜ stages.verdict r (now (messages .exit)) (now (marginals .exit)) ≡ spec.run g (now (factors .entry)) (now (messages .entry)) (length (now (work .entry))) (now (marginals .entry)) ⌝ }
 {
-    let made = crate::plan(g);
+    let made = crate::arrange(g);
     let outcome = made.outcome;
     match outcome {
         Outcome::Refused(why) => refused(0, why, 1, 0),

@@ -17,8 +17,8 @@ abbrev μ-loop : tie.MeasureT-loop
 loop-holds : tie.Need-loop-holds Inv-loop μ-loop
 loop-holds c = (omega arith, no-plan (c .args .g))
 
-plan-requires : tie.Need-plan-requires Inv-loop μ-loop
-plan-requires c κs = search needs
+arrange-requires : tie.Need-arrange-requires Inv-loop μ-loop
+arrange-requires c κs = search needs
 
 add-counter : tie.Need-add-counter Inv-loop μ-loop
 add-counter c = omega (arith, c .before .before .before .loop-test .taken)
@@ -29,11 +29,11 @@ loop-less c = omega (arith, c .before .before .before .loop-test .taken)
 loop-again : tie.Need-loop-again Inv-loop μ-loop
 loop-again c = (
   omega (arith, c .before .before .before .loop-test .taken),
-  one-plan (c .before .before .before .before .before .args .g) (c .before .before .plan .result) (c .before .before .before .before .loop .counter) (c .before .before .plan .ensures .0),
+  one-plan (c .before .before .before .before .before .args .g) (c .before .before .arrange .result) (c .before .before .before .before .loop .counter) (c .before .before .arrange .ensures .0),
 )
 
 returns : tie.Need-returns Inv-loop μ-loop
 returns c = c .before .loop .inv .1 ∙ ap (replanned (c .before .before .args .g)) (omega (arith, c .loop-test .left, c .before .loop .inv .0))
 
 pub replan-spec : {M : Type 1} → statement M
-replan-spec = tie.close (tie.spec Inv-loop μ-loop loop-holds plan-requires add-counter loop-less loop-again returns)
+replan-spec = tie.close (tie.spec Inv-loop μ-loop loop-holds arrange-requires add-counter loop-less loop-again returns)

@@ -15,8 +15,8 @@ laid-within : (a b : List ℕ) (r : Written) (n : ℕ) → r ≡ Length n → La
 unfolding Laid
 laid-within a b r n e h = let l : Laid a b (Length n) = rw e at h in l .1
 
-plan-requires : tie.Need-plan-requires
-plan-requires c κs = search needs
+arrange-requires : tie.Need-arrange-requires
+arrange-requires c κs = search needs
 
 large-buffer-requires : tie.Need-large-buffer-requires
 large-buffer-requires c κs = search needs
@@ -61,7 +61,7 @@ pub print-plan-spec : {M : Type 1} → statement M
 print-plan-spec =
     tie.close
     (tie.spec
-    plan-requires
+    arrange-requires
     large-buffer-requires
     slice-aggregate-lay-plan
     lay-plan-requires

@@ -6,8 +6,8 @@ use borrow.Author.Needs.{needs}
 use Rattle.solver.proofs.run.run.Statement.{statement}
 use Rattle.solver.proofs.run.run.Tie as tie
 
-plan-requires : tie.Need-plan-requires
-plan-requires c κs = search needs
+arrange-requires : tie.Need-arrange-requires
+arrange-requires c κs = search needs
 
 enum-known-outcome : tie.Need-enum-known-outcome
 enum-known-outcome c = search needs
@@ -19,12 +19,12 @@ enum-told : tie.Need-enum-told
 enum-told c = search needs
 
 place-plan-requires : tie.Need-place-plan-requires
-place-plan-requires c κs = made-planned _ (c .before .before .before .before .before .before .before .before .before .before .before .args .g) (c .before .before .before .before .before .before .plan .ensures .0) (c .before .before .before .before .before .before .plan .ensures .1 .1) (c .before .before .before .before .enum-told .given .1)
+place-plan-requires c κs = made-planned _ (c .before .before .before .before .before .before .before .before .before .before .before .args .g) (c .before .before .before .before .before .before .arrange .ensures .0) (c .before .before .before .before .before .before .arrange .ensures .1 .1) (c .before .before .before .before .enum-told .given .1)
 
 returns : tie.Need-returns
 returns c =
     let args = c .before .before .before .before .before .before .before .before .before .args in
-    rw (c .refused .ensures) (run-refused (args .g) (args .factors .now) (args .messages .now) (args .marginals .now) (length (args .work .now)) _ (refused-why _ (args .g) _ (c .before .before .before .before .plan .ensures .0) (c .before .before .outcome .given .1)))
+    rw (c .refused .ensures) (run-refused (args .g) (args .factors .now) (args .messages .now) (args .marginals .now) (length (args .work .now)) _ (refused-why _ (args .g) _ (c .before .before .before .before .arrange .ensures .0) (c .before .before .outcome .given .1)))
 
 same-length : tie.Need-same-length
 same-length c = search needs
@@ -38,13 +38,13 @@ same-length-3 c = search needs
 returns-2 : tie.Need-returns-2
 returns-2 c =
     let args = c .before .before .before .before .before .before .before .before .before .before .before .before .before .before .before .before .before .before .args in
-    run-made (args .g) (args .factors .now) (args .messages .now) (args .marginals .now) (length (args .work .now)) _ (made-valid _ (args .g) (c .before .before .before .before .before .before .before .before .before .before .before .before .before .plan .ensures .0) (c .before .before .before .before .before .before .before .before .before .before .before .enum-told .given .1)) (c .before .before .before .before .before .before .place-plan .ensures)
+    run-made (args .g) (args .factors .now) (args .messages .now) (args .marginals .now) (length (args .work .now)) _ (made-valid _ (args .g) (c .before .before .before .before .before .before .before .before .before .before .before .before .before .arrange .ensures .0) (c .before .before .before .before .before .before .before .before .before .before .before .enum-told .given .1)) (c .before .before .before .before .before .before .place-plan .ensures)
 
 pub run-spec : {M : Type 1} → statement M
 run-spec =
     tie.close
     (tie.spec
-    plan-requires
+    arrange-requires
     enum-known-outcome
     refused-requires
     enum-told

@@ -1,4 +1,4 @@
--- `solver::plan` meets its contract: the table of the factors' keys meets what a plan asks for (`proofs/Tables.antt`). Assumes nothing.
+-- `solver::arrange` meets its contract: the table of the factors' keys meets what a plan asks for (`proofs/Tables.antt`). Assumes nothing.
 use native.Mathlib.Omega.{arith}
 use borrow.Author.Needs.{needs}
 use borrow.Author.Tests.{not-true, not-false}
@@ -6,8 +6,8 @@ use Rattle.factor.proofs.Counting.{tells}
 use Rattle.graph.proofs.Validity.{valid-variables}
 use Rattle.solver.proofs.Tables.{registered}
 use Rattle.solver.proofs.Answers.{made, turned-back}
-use Rattle.solver.proofs.plan.Statement.{statement}
-use Rattle.solver.proofs.plan.Tie as tie
+use Rattle.solver.proofs.arrange.Statement.{statement}
+use Rattle.solver.proofs.arrange.Tie as tie
 
 table-of-requires : tie.Need-table-of-requires
 table-of-requires c κs = search needs
@@ -33,5 +33,5 @@ returns-2 c = (
   (valid-variables _ (tells (c .before .before .valid .ensures .0) (not-false _ (c .before .if1 .left))), c .rising-plan2 .ensures .1),
 )
 
-pub plan-spec : {M : Type 1} → statement M
-plan-spec = tie.close (tie.spec table-of-requires valid-requires rising-plan-requires returns rising-plan-requires-2 returns-2)
+pub arrange-spec : {M : Type 1} → statement M
+arrange-spec = tie.close (tie.spec table-of-requires valid-requires rising-plan-requires returns rising-plan-requires-2 returns-2)
