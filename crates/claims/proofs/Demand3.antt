@@ -55,6 +55,9 @@ rests : (g : Graph) (ks : List ℕ) (fs : List Accepted) → ks ≡ from 0 (g .v
     → (p : lists.Plan) (k : ℕ) (q : Gathered) → k < g .variables → Once (g .variables) (keysOf g) (from 0 (g .count)) k (p .forward) (p .backward) q → Rests ks fs p k q
 rests g ks fs ek en eg p k q l o =
     record {
+      leaves-of = o .leaves-of;
+      forward-under = o .forward-under;
+      backward-under = o .backward-under;
       listed = λ f m. omega (arith, o .listed (f .number), from-once (g .count) (f .number), numbered f m);
       no-other-leaf = λ i h. omega (arith, o .listed i, ap (count i) en);
       others-once = λ j h d. omega (arith, split j, hit-other j k d, ap (count j) ek, from-once (g .variables) j);

@@ -12,10 +12,10 @@ use Rattle.graph.specs.declared.Graph.{Graph}
 use Rattle.graph.specs.declared.Outcome.{Outcome}
 use Rattle.graph.specs.declared.Outcome.the-variants.{Key, Number, Refused}
 use Rattle.graph.specs.declared.refusal.Refusal.the-variants.{CountedTwice}
-use Rattle.schedule.specs.Count.{count, In}
+use Rattle.schedule.specs.Count.{count, In, joined}
 use Rattle.schedule.specs.Pass.{ClosedFactor, at}
 use Rattle.schedule.specs.Gather.{Gathered, leaves}
-use Rattle.schedule.specs.Once.{behind, clearedBy}
+use Rattle.schedule.specs.Once.{behind, AllUnder, clearedBy}
 use Rattle.schedule.specs.Plan as lists
 use Rattle.gaussian.specs.Elimination as gaussian
 use Rattle.messages.specs.Values.{none, values, stopFrom, finished, overlaid}
@@ -82,6 +82,10 @@ Covered factors messages is =
 
 -- the claim at the key k, where the plan p has gathered q
 pub record Rests (keys : List ℕ) (factors : List Accepted) (p : lists.Plan) (k : ℕ) (q : Gathered) : Type 0 where
+  -- the leaves are those of all that k gathers, in that order; `under` has found every message behind k
+  pub leaves-of : q .leaves ≡ joined (leaves (p .forward)) (q .forward) ++ joined (leaves (p .backward)) (q .backward) ++ q .originals
+  pub forward-under : AllUnder (p .forward) (behind (p .forward) (q .forward))
+  pub backward-under : AllUnder (p .backward) (behind (p .backward) (q .backward))
   -- the leaves list every accepted factor exactly once, and nothing else
   pub listed : (f : Accepted) → List·Memᴰ f factors → count (f .number) (q .leaves) ≡ 1
   pub no-other-leaf : (i : ℕ) → In i (q .leaves) → In i (numbers factors)

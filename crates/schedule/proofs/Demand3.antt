@@ -196,6 +196,9 @@ module _ (n : ℕ) (K : ℕ → List ℕ) (N : List ℕ) (P Q : List ℕ) (k : �
   met : Once n K N k fw bw (gathering n K N k fw bw (alive-messages (length P) fw) (alive-messages (length Q) bw) lv)
   unfolding gathering cF cB
   met = record {
+    leaves-of = refl;
+    forward-under = F .under;
+    backward-under = B .under;
     listed = listed;
     cleared = cleared;
     forward = F .covers;

@@ -11,11 +11,11 @@ use lib.Dec.{T, eqb, leb→le, le→leb, ltb→lt, nltb→le, T-not, not-T, eqb-
 use lib.ListN.{length, getD, length-append, List·getD-append}
 use Rattle.schedule.specs.Count.{count, In, mem, putIf, keep, sum, joined, from, rising}
 use Rattle.schedule.specs.Pass.{Slot, original, closed, ClosedFactor, State, noMessage, at, keysOf, coupled, stays, append, sending, closing, step, after}
-use Rattle.schedule.specs.Gather.{originalsIn, messagesIn, upTo, within, alive-among, alive-messages, under, leaves}
-use Rattle.schedule.specs.Once.{behind, clearedBy, Covers}
+use Rattle.schedule.specs.Gather.{originalsIn, messagesIn, upTo, within, alive-among, alive-messages, popped, under, leaves}
+use Rattle.schedule.specs.Once.{behind, AllUnder, clearedBy, Covers}
 use Rattle.schedule.proofs.Counts.{sure, and-l, and-i, and-no-r, or-l, not-not, hit-same, count-cons, count-nil, count-append, count-joined, mem-in, in-mem, sum-some, sum-same, from-in, from-above, keep-yes, rising-yes, rising-no, rising-in}
 use Rattle.schedule.proofs.Sums.{sum-le, sum-perm, sum-table, joined-append, length-sum, length-from}
-use Rattle.schedule.proofs.Trees.{Older, all, all-old, heavy, heavy-one, stack-all}
+use Rattle.schedule.proofs.Trees.{Older, all, all-old, heavy, heavy-one, turns-suffice, stack-all}
 use Rattle.schedule.proofs.Runs.{leafH, oneH, clearH, gone, Run, parts, singles, from-lt, running, stays-why, Later, later}
 
 -- ---- the stack gives what lies under
@@ -26,6 +26,10 @@ module _ (full : List ClosedFactor) (older : Older full) (small : (j : ℕ) → 
   by-stack : (h : ℕ → ClosedFactor → List ℕ) (j : ℕ) → j < length full → joined (λ i. h i (at full i)) (under full j) ≡ all h full j
   unfolding under joined
   by-stack h j l = stack-all h full older (length full) (j ∷ []) (light j l) ∙ append-nil (all h full j)
+
+  all-opened : (j more : ℕ) → j < length full → popped full (length full + more) (j ∷ []) ≡ under full j
+  unfolding under
+  all-opened j more l = turns-suffice full older (length full) (length full + more) (j ∷ []) (light j l) (omega arith)
 
   pub leaves-is : (j : ℕ) → j < length full → leaves full j ≡ all leafH full j
   unfolding leaves
@@ -182,6 +186,8 @@ pub record Side (K : ℕ → List ℕ) (N P : List ℕ) (k : ℕ) (full : List C
   -- the keys cleared behind are the cleared ones
   pub cleared : (j : ℕ) → count j (clearedBy full (behind full (alive-messages (length P) full))) ≡ count j gone
   pub covers : Covers K N full (behind full (alive-messages (length P) full))
+  -- as many turns as there are messages open all that lies behind
+  pub under : AllUnder full (behind full (alive-messages (length P) full))
 
 count-joined² : {A : Type 0} (x : ℕ) (g : ℕ → List ℕ) (h : A → List ℕ) (l : List A) → count x (joined g (joined h l)) ≡ sum (λ c. count x (joined g (h c))) l
 unfolding joined sum
@@ -259,6 +265,7 @@ module _ (K : ℕ → List ℕ) (N P : List ℕ) (k : ℕ) (st : State) (run : R
     why = why-k;
     cleared = cleared-sum;
     covers = λ i h f q x t u. let l = behind-lt i h in rw (leaves-is full older small i l) (full-covers i l f q x t u);
+    under = λ i h m. all-opened full older small i m (behind-lt i h);
   }
     where
       go-full : (f j : ℕ) → In j (K f) → (c : ℕ) × List·Memᴰ (closed c) (st .active) × In f (all leafH mz c) → In j (k ∷ P)

@@ -101,6 +101,17 @@ unfolding heavy sum
 heavy-length ms old [] = omega arith
 heavy-length ms old (j ∷ stack) = omega (arith, heavy-length ms old stack, ap length (all-eq one ms old j))
 
+-- more turns than the stack weighs change nothing
+pub turns-suffice : (ms : List ClosedFactor) → Older ms → (d e : ℕ) (stack : List ℕ) → heavy ms stack ≤ d → d ≤ e → popped ms e stack ≡ popped ms d stack
+unfolding popped
+turns-suffice ms old zero zero stack l m = refl
+turns-suffice ms old zero (suc e) [] l m = refl
+turns-suffice ms old zero (suc e) (j ∷ stack) l m = absurd (omega (arith, heavy-step ms old j stack))
+turns-suffice ms old (suc d) zero stack l m = absurd (omega arith)
+turns-suffice ms old (suc d) (suc e) [] l m = refl
+turns-suffice ms old (suc d) (suc e) (j ∷ stack) l m =
+    ap (λ (r : List ℕ). j ∷ r) (turns-suffice ms old d e (reverseAux (inner ms j) stack) (omega (arith, heavy-step ms old j stack)) (omega arith))
+
 pub stack-all : (h : ℕ → ClosedFactor → List ℕ) (ms : List ClosedFactor) → Older ms → (d : ℕ) (stack : List ℕ) → heavy ms stack ≤ d
     → joined (λ i. h i (at ms i)) (popped ms d stack) ≡ joined (all h ms) stack
 unfolding popped joined
