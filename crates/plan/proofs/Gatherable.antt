@@ -11,7 +11,7 @@ use lib.ListN.{length, take, length-append, List·getD-append, List·getD-eq-def
 use lib.Seq.{getD-append-seam, length-take-le}
 use Rattle.schedule.specs.Count.{count, In, mem, keep, joined, from, rising}
 use Rattle.schedule.specs.Pass.{ClosedFactor, noMessage, at, State, keysOf, Walked, walk, touches, coupled, stays, append, sending, closing, step, after, full-pass}
-use Rattle.schedule.specs.Gather.{gathering, gatherAt, gather}
+use Rattle.schedule.specs.Gather.{uncovered, gathering, gatherAt, gather}
 use Rattle.schedule.specs.Plan.{place}
 use Rattle.schedule.proofs.Counts.{count-nil, count-reverse, rising-in}
 use Rattle.schedule.proofs.Sums.{sum-perm, length-sum}
@@ -85,7 +85,7 @@ module _ (fw bw : Pass) (live : List ℕ) (count' n : ℕ) (K : ℕ → List ℕ
     (rf : Ready n fw) (rb : Ready n bw)
     (distinct : (f : ℕ) → count f (take count' live) ≤ 1) (registered : (f j : ℕ) → In j (K f) → j < n) (each : (j : ℕ) → count j order ≡ count j (from 0 n)) where
   pub gatherable : (k : ℕ) → k < n → Gatherable fw bw live count' (place k order) (n - 1 - place k order)
-  unfolding gather gatherAt gathering
+  unfolding gather gatherAt gathering uncovered
   gatherable k l = record {
     forward = ready-later n 32 fw (fw .active) few rf;
     backward = ready-later n 32 bw (bw .active) few rb;

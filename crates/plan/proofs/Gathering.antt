@@ -12,7 +12,7 @@ use lib.ListN.{length, getD, take, drop, length-append}
 use lib.Seq.{drop-at}
 use Rattle.schedule.specs.Count.{mem, any, keep, joined}
 use Rattle.schedule.specs.Pass.{at}
-use Rattle.schedule.specs.Gather.{alive-messages, leaves, keysLast, gathering, gatherAt}
+use Rattle.schedule.specs.Gather.{alive-messages, leaves, keysLast, uncovered, gathering, gatherAt}
 use Rattle.schedule.specs.Gather as lists
 use Rattle.schedule.proofs.Counts.{or-e, and-l, any-some}
 use Rattle.plan.specs.Mask.{has, keysIn, Union}
@@ -148,7 +148,7 @@ module _ (fw bw : Pass) (live : List ℕ) (count r s : ℕ) (pre : Gatherable fw
             made fa ba un ls la = record { forward = fa; backward = ba; originals = un; leaves = ls; last = la }
 
             pub gathers : gatheredOf answer ≡ gatherAt n K (take count live) (messagesOf fw) (messagesOf bw) r s k
-            unfolding gatheredOf gatherAt gathering
+            unfolding gatheredOf gatherAt gathering uncovered
             gathers =
                 ap₂ (λ (x y : List ℕ). made x y (drop (two .count) (itemsOf all)) (itemsOf all) (keysIn (answer .last))) (af .is) (ag .is)
                 ∙ ap₂ (λ (x y : List ℕ). made (alive-messages r (messagesOf fw)) (alive-messages s (messagesOf bw)) x y (keysIn (answer .last))) rest-items all-items

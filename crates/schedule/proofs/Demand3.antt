@@ -13,13 +13,22 @@ use lib.Dec.{T, eqb, ltb→lt, lt→ltb, nltb→le, eqb→eq, eqb-refl, not-T}
 use lib.ListN.{length, getD, length-append, length-reverse}
 use Rattle.schedule.specs.Count.{hit, count, In, mem, keep, joined, from}
 use Rattle.schedule.specs.Pass.{ClosedFactor, at, after, full-pass}
-use Rattle.schedule.specs.Gather.{alive-messages, leaves, Gathered, keysLast, gathering, gatherAt, gather}
+use Rattle.schedule.specs.Gather.{alive-messages, leaves, Gathered, keysLast, uncovered, gathering, gatherAt, gather}
 use Rattle.schedule.specs.Plan.{place, plan}
 use Rattle.schedule.specs.Once.{behind, clearedBy, Once}
 use Rattle.schedule.proofs.Counts.{sure, and-i, and-no-l, and-no-r, not-not, hit-other, hit-cases, count-cons, count-append, count-reverse, count-joined, from-in, from-above, mem-in, in-mem, sum-some, sum-member, keep-yes, keep-no, rising-yes, rising-no}
 use Rattle.schedule.proofs.Runs.{from-lt}
 use Rattle.schedule.proofs.Sums.{sum-perm, length-sum, length-from}
 use Rattle.schedule.proofs.Sides.{gatheredLeaves, Side, a-side}
+
+-- an original that lies under a gathered message is not uncovered; a live one that lies under none is, as often as it is live
+pub covered-not : (lv N : List ℕ) (f : ℕ) → In f lv → count f (uncovered lv N) ≡ 0
+unfolding uncovered
+covered-not lv N f h = keep-no (λ i. not (mem i lv)) f N (not-not (mem f lv) (lt→ltb 0 (count f lv) h))
+
+pub uncovered-all : (lv N : List ℕ) (f : ℕ) → count f lv ≡ 0 → count f (uncovered lv N) ≡ count f N
+unfolding uncovered
+uncovered-all lv N f z = keep-yes (λ i. not (mem i lv)) f N (not-T (mem f lv) (λ t. absurd (omega (arith, ltb→lt 0 (count f lv) t))))
 
 module _ (n : ℕ) (K : ℕ → List ℕ) (N : List ℕ) (P Q : List ℕ) (k : ℕ) (fw bw : List ClosedFactor) (akF goneF akB goneB : List ℕ)
     (F : Side K N P k fw akF goneF) (B : Side K N Q k bw akB goneB)
@@ -35,7 +44,7 @@ module _ (n : ℕ) (K : ℕ → List ℕ) (N : List ℕ) (P Q : List ℕ) (k : �
   lv = LF ++ LB
 
   abbrev un : List ℕ
-  un = keep (λ i. not (mem i lv)) N
+  un = uncovered lv N
 
   abbrev ks : List ℕ
   ks = joined (λ c. (at fw c) .kept) (alive-messages (length P) fw) ++ joined (λ c. (at bw c) .kept) (alive-messages (length Q) bw) ++ joined K un
@@ -68,23 +77,23 @@ module _ (n : ℕ) (K : ℕ → List ℕ) (N : List ℕ) (P Q : List ℕ) (k : �
   listed f = go (sure (mem f lv)) (sure (mem f LF)) (sure (mem f LB))
     where
       go : T (mem f lv) ⊎ T (not (mem f lv)) → T (mem f LF) ⊎ T (not (mem f LF)) → T (mem f LB) ⊎ T (not (mem f LB)) → count f (lv ++ un) ≡ count f N
-      go (inr t) a b = omega (arith, count-append f lv un, keep-yes (λ i. not (mem i lv)) f N t, nltb→le 0 (count f lv) t)
+      go (inr t) a b = let z : count f lv ≡ 0 = omega (arith, nltb→le 0 (count f lv) t) in omega (arith, count-append f lv un, uncovered-all lv N f z)
       go (inl t) (inl a) (inl b) = absurd (apart f (ltb→lt 0 (count f LF) a) (ltb→lt 0 (count f LB) b))
       go (inl t) (inl a) (inr b) =
-          omega (arith, count-append f lv un, keep-no (λ i. not (mem i lv)) f N (not-not (mem f lv) t), lv-count f, F .part f, distinct f, ltb→lt 0 (count f LF) a, nltb→le 0 (count f LB) b)
+          omega (arith, count-append f lv un, covered-not lv N f (ltb→lt 0 (count f lv) t), lv-count f, F .part f, distinct f, ltb→lt 0 (count f LF) a, nltb→le 0 (count f LB) b)
       go (inl t) (inr a) d =
-          omega (arith, count-append f lv un, keep-no (λ i. not (mem i lv)) f N (not-not (mem f lv) t), lv-count f, B .part f, distinct f, ltb→lt 0 (count f lv) t, nltb→le 0 (count f LF) a)
+          omega (arith, count-append f lv un, covered-not lv N f (ltb→lt 0 (count f lv) t), lv-count f, B .part f, distinct f, ltb→lt 0 (count f lv) t, nltb→le 0 (count f LF) a)
 
   -- an uncovered original
   un-in : (f : ℕ) → In f un → In f N × (count f lv ≡ 0)
   un-in f h = go (sure (mem f lv))
     where
       go : T (mem f lv) ⊎ T (not (mem f lv)) → In f N × (count f lv ≡ 0)
-      go (inl t) = absurd (omega (arith, keep-no (λ i. not (mem i lv)) f N (not-not (mem f lv) t)))
-      go (inr t) = (omega (arith, keep-yes (λ i. not (mem i lv)) f N t), omega (arith, nltb→le 0 (count f lv) t))
+      go (inl t) = absurd (omega (arith, covered-not lv N f (ltb→lt 0 (count f lv) t)))
+      go (inr t) = let z : count f lv ≡ 0 = omega (arith, nltb→le 0 (count f lv) t) in (omega (arith, uncovered-all lv N f z), z)
 
   in-un : (f : ℕ) → In f N → count f lv ≡ 0 → In f un
-  in-un f h z = omega (arith, keep-yes (λ i. not (mem i lv)) f N (not-T (mem f lv) (λ t. absurd (omega (arith, ltb→lt 0 (count f lv) t)))))
+  in-un f h z = omega (arith, uncovered-all lv N f z)
 
   in-ks : (j : ℕ) → count j ks ≡ count j (joined (λ c. (at fw c) .kept) (alive-messages (length P) fw)) + count j (joined (λ c. (at bw c) .kept) (alive-messages (length Q) bw)) + count j (joined K un)
   in-ks j =
@@ -309,7 +318,7 @@ module _ (n : ℕ) (K : ℕ → List ℕ) (N order : List ℕ) (distinct : (f : 
   keyless-meets f k none live pre q e d fw bw (akF, outF, F) (akB, outB, B) =
       let s : length q ≡ n - 1 - place k order = omega (arith, ap length e, length-append pre (k ∷ q), long) in
       subst₂ (λ (r s : ℕ). In f ((gatherAt n K N fw bw r s k) .originals)) (length-reverse pre ∙ d) s
-      (omega (arith, keep-yes (λ i. not (mem i (lf ++ lb))) f N (not-in (decLt 0 (count f (lf ++ lb))))))
+      (omega (arith, uncovered-all (lf ++ lb) N f (not-in (decLt 0 (count f (lf ++ lb))))))
     where
       lf : List ℕ
       lf = gatheredLeaves fw (length (reverse pre))
@@ -324,9 +333,9 @@ module _ (n : ℕ) (K : ℕ → List ℕ) (N order : List ℕ) (distinct : (f : 
           go (yes a) = let w = F .low f a in none (w .0) (w .1)
           go (no a) = let w = B .low f (omega (arith, count-append f lf lb)) in none (w .0) (w .1)
 
-      not-in : Dec (0 < count f (lf ++ lb)) → T (not (mem f (lf ++ lb)))
+      not-in : Dec (0 < count f (lf ++ lb)) → count f (lf ++ lb) ≡ 0
       not-in (yes a) = absurd (no-leaf a)
-      not-in (no a) = not-T (mem f (lf ++ lb)) (λ t. a (ltb→lt 0 (count f (lf ++ lb)) t))
+      not-in (no a) = omega arith
 
   keyless-at : (f k : ℕ) → k < n → ((j : ℕ) → In j (K f) → ⊥) → In f N → In f ((gather n K N (full-pass n K N order) (full-pass n K N (reverse order)) (place k order) k) .originals)
   unfolding full-pass

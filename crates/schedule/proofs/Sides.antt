@@ -23,13 +23,13 @@ module _ (full : List ClosedFactor) (older : Older full) (small : (j : ℕ) → 
   pub light : (j : ℕ) → j < length full → heavy full (j ∷ []) ≤ length full
   light j l = omega (arith, heavy-one full j, length-sum (all oneH full j), sum-le (λ x. 1) (all oneH full j) (from 0 (length full)) (small j l), length-sum (from 0 (length full)), length-from 0 (length full))
 
-  by-stack : (h : ℕ → ClosedFactor → List ℕ) (j : ℕ) → j < length full → joined (λ i. h i (at full i)) (under full j) ≡ all h full j
-  unfolding under joined
-  by-stack h j l = stack-all h full older (length full) (j ∷ []) (light j l) ∙ append-nil (all h full j)
-
   all-opened : (j more : ℕ) → j < length full → popped full (length full + more) (j ∷ []) ≡ under full j
   unfolding under
   all-opened j more l = turns-suffice full older (length full) (length full + more) (j ∷ []) (light j l) (omega arith)
+
+  by-stack : (h : ℕ → ClosedFactor → List ℕ) (j : ℕ) → j < length full → joined (λ i. h i (at full i)) (under full j) ≡ all h full j
+  unfolding under joined
+  by-stack h j l = stack-all h full older (length full) (j ∷ []) (light j l) ∙ append-nil (all h full j)
 
   pub leaves-is : (j : ℕ) → j < length full → leaves full j ≡ all leafH full j
   unfolding leaves
