@@ -1,4 +1,5 @@
 // The parts of a case, from standard input. Where the input ends early, zeros are read.
+ghost use mathlib.Core.Path.{_≡_};
 ghost use Prim.Native.Nat.{_<_, _≤_};
 ghost use lib.ListN.{length};
 
@@ -39,8 +40,9 @@ pub fn fill(out: &mut [u8], n: usize)
 }
 
 // How many there are, and then as many, each of one byte.
-pub fn list(out: &mut [usize; 256]) -> usize
-    ensures { λ r. ⌜ r < 256 ⌝ }
+pub fn list(out: &mut [usize]) -> usize
+    requires { ⌜ length (now out) ≡ 256 ⌝ }
+    ensures { λ r. ⌜ (r < 256) × (length (now (out .exit)) ≡ 256) ⌝ }
 {
     let n = byte();
     for i in 0..n {
@@ -49,13 +51,21 @@ pub fn list(out: &mut [usize; 256]) -> usize
     n
 }
 
+// The float of a bit pattern.
+fn float(bits: u64) -> f64 {
+    if 0x7FF0000000000000 < bits % 0x8000000000000000 {
+        return 0.0 / 0.0;
+    }
+    f64::from_bits(bits)
+}
+
 // A float by its bits, the lowest byte first.
 fn value() -> f64 {
     let a = two() as u64;
     let b = two() as u64;
     let c = two() as u64;
     let d = two() as u64;
-    f64::from_bits(a + 0x10000 * b + 0x100000000 * c + 0x1000000000000 * d)
+    float(a + 0x10000 * b + 0x100000000 * c + 0x1000000000000 * d)
 }
 
 // The first n floats.

@@ -92,7 +92,7 @@ fn direct_case(g: Graph, factors: &[f64]) {
         &mut work[0..works],
     );
     print_direct(answer);
-    print_store(&messages[0..room]);
+    print_store(&messages, room);
 }
 
 fn run_case(g: Graph, factors: &[f64]) {
@@ -110,6 +110,6 @@ fn run_case(g: Graph, factors: &[f64]) {
         &mut marginals[0..found],
     );
     print_ran(ran);
-    print_store(&messages[0..room]);
-    print_store(&marginals[0..found]);
+    print_store(&messages, room);
+    print_store(&marginals, found);
 }

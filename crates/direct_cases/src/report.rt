@@ -1,8 +1,10 @@
 // What is printed of an answer and of a store.
 use direct::Direct;
 use graph::refusal::code;
+use lines::bits_of;
 use solver::run::Ended;
 use solver::run::Ran;
+ghost use Prim.Native.Nat.{_≤_};
 
 pub fn print_direct(answer: Direct) {
     match answer {
@@ -37,13 +39,15 @@ pub fn print_ran(ran: Ran) {
     io::write_all(1, b"\n");
 }
 
-// The numbers of a store by their bits, those that were there before the call too.
-pub fn print_store(store: &[f64]) {
-    for i in 0..store.len() {
+// The first n numbers of a store by their bits, those that were there before the call too.
+pub fn print_store(store: &[f64; 512], n: usize)
+    requires { ⌜ n ≤ 512 ⌝ }
+{
+    for i in 0..n {
         if i != 0 {
             io::write_all(1, b" ");
         }
-        io::print_hex(1, f64::to_bits(store[i]), 16);
+        io::print_hex(1, bits_of(store[i]), 16);
     }
     io::write_all(1, b"\n");
 }

@@ -85,7 +85,7 @@ fn put_hex(out: &mut [u8], at: usize, bits: u64) -> usize
 }
 
 // The bits of a float, and for a NaN the ones that the definition takes.
-fn bits_of(x: f64) -> u64
+pub fn bits_of(x: f64) -> u64
     ensures { λ r. ⌜ r ≡ toBits binary64 x ⌝ }
 {
     if x != x {

@@ -30,6 +30,11 @@ pub uncovered-all : (lv N : List ℕ) (f : ℕ) → count f lv ≡ 0 → count f
 unfolding uncovered
 uncovered-all lv N f z = keep-yes (λ i. not (mem i lv)) f N (not-T (mem f lv) (λ t. absurd (omega (arith, ltb→lt 0 (count f lv) t))))
 
+-- the key itself is not among the keys cleared last
+own-never : (n k : ℕ) (keys : List ℕ) → count k (keysLast n k keys) ≡ 0
+unfolding keysLast
+own-never n k keys = rising-no n (λ j. mem j keys && not (eqb j k)) k (and-no-r (mem k keys) (not (eqb k k)) (not-not (eqb k k) (eqb-refl k)))
+
 module _ (n : ℕ) (K : ℕ → List ℕ) (N : List ℕ) (P Q : List ℕ) (k : ℕ) (fw bw : List ClosedFactor) (akF goneF akB goneB : List ℕ)
     (F : Side K N P k fw akF goneF) (B : Side K N Q k bw akB goneB)
     (distinct : (f : ℕ) → count f N ≤ 1) (registered : (f : ℕ) → In f N → (j : ℕ) → In j (K f) → j < n)
@@ -197,7 +202,8 @@ module _ (n : ℕ) (K : ℕ → List ℕ) (N : List ℕ) (P Q : List ℕ) (k : �
             F .own,
             ap (λ (x : ℕ). count x akB) (e .0),
             B .own,
-            rising-no n (λ i. mem i ks && not (eqb i k)) j (and-no-r (mem j ks) (not (eqb j k)) (not-not (eqb j k) (rw (e .0) (eqb-refl k)))),
+            ap (λ (x : ℕ). count x last) (e .0),
+            own-never n k ks,
           )
       go (inr e) = omega (arith, split, order j, at-F j, at-B j, last-is j (e .0))
 
