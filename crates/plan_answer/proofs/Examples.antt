@@ -29,3 +29,9 @@ pub content-message : _≡_ {A = Message} (messageOf (record { step = 3; content
     (record { step = 3; content = (0 ∷ 64 ∷ []) ++ replicate 94 0; slots = 2; kept = 8; cleared = 5 })
 unfolding messageOf padded code setOf sum
 content-message = refl
+
+-- the plan of no keys, which a refused call answers, is all zeros
+pub no-plan : answerOf (record { forward = []; backward = []; at-key = [] })
+    ≡ record { forward = replicate 32 noMessage; forwards = 0; backward = replicate 32 noMessage; backwards = 0; at = replicate 32 noKeyPlan }
+unfolding answerOf messagesOf keyPlansOf padded
+no-plan = refl
