@@ -73,7 +73,7 @@ pub key-at : (at : List Gathered) (n k : ℕ) → k < n → gatheredOf (getD at 
 key-at at n k h = ap gatheredOf (sym (getD-take n at k noGathered h)) ∙ sym (List·getD-map gatheredOf (take n at) k noGathered)
 
 pub answer-is : (n : ℕ) (p : arrays.Plan) (forward backward : List Message) (at : List KeyPlan)
-    → forward ≡ spec.messagesOf (messagesOf (p .forward)) → backward ≡ spec.messagesOf (messagesOf (p .backward)) → at ≡ spec.keyPlansOf (map gatheredOf (take n (p .at)))
+    → forward ≡ spec.messageTable (messagesOf (p .forward)) → backward ≡ spec.messageTable (messagesOf (p .backward)) → at ≡ spec.keyTable (map gatheredOf (take n (p .at)))
     → _≡_ {A = Plan} (record { forward = forward; forwards = p .forward .count; backward = backward; backwards = p .backward .count; at = at }) (answerOf (planOf n p))
 unfolding answerOf planOf
 answer-is n p forward backward at ef eb ea = rw (ef, eb, ea, messages-length (p .forward), messages-length (p .backward))

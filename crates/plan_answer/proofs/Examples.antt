@@ -6,7 +6,7 @@ use Rattle.schedule.specs.Count.{from, sum}
 use Rattle.schedule.specs.Pass.{original, closed}
 use Rattle.schedule.specs.Plan.{plan}
 use Rattle.schedule.specs.Examples.{p4-keys}
-use Rattle.plan_answer.specs.Answer.{padded, setOf, code, messageOf, noMessage, messagesOf, keyPlanOf, noKeyPlan, keyPlansOf, answerOf}
+use Rattle.plan_answer.specs.Answer.{padded, setOf, code, messageOf, noMessage, messageTable, keyPlanOf, noKeyPlan, keyTable, answerOf}
 use Rattle.plan_answer.specs.declared.Message.{Message}
 use Rattle.plan_answer.specs.declared.Plan.{Plan}
 
@@ -21,7 +21,7 @@ pub p4-answer : _≡_ {A = Plan} (answerOf (plan 2 p4-keys (from 0 4) (0 ∷ 1 �
       ∷ record { forward = 1; backward = 0; leaves = (0 ∷ 3 ∷ 2 ∷ 1 ∷ []) ++ replicate 60 0; covered = 4; count = 4; last = 0 }
       ∷ replicate 30 noKeyPlan;
 })
-unfolding answerOf messagesOf keyPlansOf padded messageOf keyPlanOf code setOf sum plan
+unfolding answerOf messageTable keyTable padded messageOf keyPlanOf code setOf sum plan
 p4-answer = refl
 
 -- a message in a content has the number of its place, after the 64 of the originals
@@ -33,5 +33,5 @@ content-message = refl
 -- the plan of no keys, which a refused call answers, is all zeros
 pub no-plan : answerOf (record { forward = []; backward = []; at-key = [] })
     ≡ record { forward = replicate 32 noMessage; forwards = 0; backward = replicate 32 noMessage; backwards = 0; at = replicate 32 noKeyPlan }
-unfolding answerOf messagesOf keyPlansOf padded
+unfolding answerOf messageTable keyTable padded
 no-plan = refl

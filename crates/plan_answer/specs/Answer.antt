@@ -1,4 +1,4 @@
--- The plan as it is told: the plan over lists, laid into arrays of fixed length. Definitions only.
+-- The plan as it is told: the plan over lists, in a struct of arrays of fixed length. Definitions only.
 use mathlib.Core.List.{List, _++_, map}
 use Prim.Native.Nat.{ℕ, _+_, _-_, _^_}
 use lib.ListN.{length, replicate}
@@ -15,7 +15,7 @@ use Rattle.plan_answer.specs.declared.Plan.{Plan}
 unfoldable pub padded : {A : Type 0} (blank : A) (n : ℕ) → List A → List A
 padded blank n l = l ++ replicate (n - length l) blank
 
--- a set of numbers as a mask: the bit j for the member j
+-- a set of numbers, none twice, as a mask: the bit j for the member j
 unfoldable pub setOf : List ℕ → ℕ
 setOf l = sum (λ j. 2 ^ j) l
 
@@ -30,6 +30,7 @@ max-slots = max-factors + max-variables
 
 -- ---- messages
 
+-- the slots of the content by their numbers, the kept and the cleared keys as sets
 unfoldable pub messageOf : ClosedFactor → Message
 messageOf m = record {
   step = m .step;
@@ -39,11 +40,13 @@ messageOf m = record {
   cleared = setOf (m .cleared);
 }
 
+-- what an unused place holds
 abbrev pub noMessage : Message
 noMessage = record { step = 0; content = replicate max-slots 0; slots = 0; kept = 0; cleared = 0 }
 
-unfoldable pub messagesOf : List ClosedFactor → List Message
-messagesOf messages = padded noMessage max-variables (map messageOf messages)
+-- the messages of a pass in their order
+unfoldable pub messageTable : List ClosedFactor → List Message
+messageTable messages = padded noMessage max-variables (map messageOf messages)
 
 -- ---- keys
 
@@ -58,19 +61,21 @@ keyPlanOf q = record {
   last = setOf (q .last);
 }
 
+-- what an unused place holds
 abbrev pub noKeyPlan : KeyPlan
 noKeyPlan = record { forward = 0; backward = 0; leaves = replicate max-factors 0; covered = 0; count = 0; last = 0 }
 
-unfoldable pub keyPlansOf : List Gathered → List KeyPlan
-keyPlansOf keys = padded noKeyPlan max-variables (map keyPlanOf keys)
+-- what each key gathers, keys rising
+unfoldable pub keyTable : List Gathered → List KeyPlan
+keyTable keys = padded noKeyPlan max-variables (map keyPlanOf keys)
 
 -- ---- the whole
 
 unfoldable pub answerOf : lists.Plan → Plan
 answerOf p = record {
-  forward = messagesOf (p .forward);
+  forward = messageTable (p .forward);
   forwards = length (p .forward);
-  backward = messagesOf (p .backward);
+  backward = messageTable (p .backward);
   backwards = length (p .backward);
-  at = keyPlansOf (p .at-key);
+  at = keyTable (p .at-key);
 }

@@ -1,5 +1,5 @@
-// The plan of a graph as it is told, without the arrays in which it was made.
-// A set of keys, or of messages, is a mask whose bit j says whether j is in it. Places past a count hold zeros.
+// The plan of a graph as it is told: what a plan says, copied out of the arrays in which it was made.
+// A set of keys, or of messages, is a mask whose bit j says whether j is in it. Unused places hold zeros.
 use factor::limits::FACTORS;
 use factor::limits::VARIABLES;
 use plan::PASS_SLOTS;
@@ -16,8 +16,9 @@ ghost use Rattle.plan.specs.Gather.{Held, gatheredOf};
 ghost use Rattle.plan.specs.Plan.{Bounded, planOf, noGathered};
 ghost use Rattle.plan_answer.specs.Answer as spec;
 
-// A message. Its content is the first `slots` of content, in the order in which the slots were taken: an original by its number,
-// the message j of the same pass as FACTORS + j.
+// A message: the step of its pass that made it, counted from 0; its content, the first `slots` of content, in the order in which
+// the slots were taken; the set of the keys that it keeps, and of those that it clears. A slot is an original by its number, which
+// is below FACTORS, or the message j of the same pass as FACTORS + j.
 pub struct Message {
     pub step: usize,
     pub content: [u8; PASS_SLOTS],
@@ -26,8 +27,9 @@ pub struct Message {
     pub cleared: u32,
 }
 
-// What a key gathers: a set of forward and a set of backward messages, and originals. Its leaves are the first `count` of leaves:
-// up to `covered` those under the messages, and from there on the originals gathered. The keys of `last` are cleared last.
+// What a key gathers: the set of the forward and of the backward messages gathered; its leaves, the first `count` of leaves; and
+// the set of the keys cleared last. The leaves before the place `covered` are those under the messages gathered, and those from it
+// on are the originals gathered.
 pub struct KeyPlan {
     pub forward: u32,
     pub backward: u32,
@@ -37,8 +39,8 @@ pub struct KeyPlan {
     pub last: u32,
 }
 
-// The messages of the forward pass, the first `forwards` of forward; those of the backward pass, the first `backwards` of
-// backward; and at[k] what the key k gathers.
+// The messages of the forward pass are the first `forwards` of forward, those of the backward pass the first `backwards` of
+// backward, each in the order in which they were made: the message j stands at j. What the key k gathers is at[k].
 pub struct Plan {
     pub forward: [Message; VARIABLES],
     pub forwards: usize,
@@ -85,10 +87,10 @@ fn message_of(p: Pass, j: usize) -> Message
     }
 }
 
-// All messages of a pass.
-fn messages_of(p: Pass) -> [Message; VARIABLES]
+// All messages of a pass, each at its number.
+fn message_table(p: Pass) -> [Message; VARIABLES]
     requires { ⌜ Ready 32 p ⌝ }
-    ensures { λ r. ⌜ r ≡ spec.messagesOf (messagesOf p) ⌝ }
+    ensures { λ r. ⌜ r ≡ spec.messageTable (messagesOf p) ⌝ }
 {
     let blank = Message {
         step: 0,
@@ -124,10 +126,10 @@ fn key_plan_of(q: Gathered) -> KeyPlan
     }
 }
 
-// What each of the first n keys gathers.
-fn key_plans_of(at: [Gathered; VARIABLES], n: usize) -> [KeyPlan; VARIABLES]
+// What each of the first n keys gathers, at its own place.
+fn key_table(at: [Gathered; VARIABLES], n: usize) -> [KeyPlan; VARIABLES]
     requires { ⌜ (n ≤ max-variables) × ((k : ℕ) → k < n → Held (getD at k noGathered)) ⌝ }
-    ensures { λ r. ⌜ r ≡ spec.keyPlansOf (map gatheredOf (take n at)) ⌝ }
+    ensures { λ r. ⌜ r ≡ spec.keyTable (map gatheredOf (take n at)) ⌝ }
 {
     let blank = KeyPlan {
         forward: 0,
@@ -154,10 +156,10 @@ pub fn copy_out(p: plan::plan::Plan, n: usize) -> Plan
     let bw = p.backward;
     let at = p.at;
     Plan {
-        forward: messages_of(fw),
+        forward: message_table(fw),
         forwards: fw.count,
-        backward: messages_of(bw),
+        backward: message_table(bw),
         backwards: bw.count,
-        at: key_plans_of(at, n),
+        at: key_table(at, n),
     }
 }

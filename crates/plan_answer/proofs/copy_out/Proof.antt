@@ -4,20 +4,20 @@ use borrow.Author.Needs.{needs}
 use Rattle.plan_answer.proofs.copy_out.Statement.{statement}
 use Rattle.plan_answer.proofs.copy_out.Tie as tie
 
-messages-of-requires : tie.Need-messages-of-requires
-messages-of-requires c κs = search needs
+message-table-requires : tie.Need-message-table-requires
+message-table-requires c κs = search needs
 
-messages-of-requires-2 : tie.Need-messages-of-requires-2
-messages-of-requires-2 c κs = search needs
+message-table-requires-2 : tie.Need-message-table-requires-2
+message-table-requires-2 c κs = search needs
 
-key-plans-of-requires : tie.Need-key-plans-of-requires
-key-plans-of-requires c κs = search needs
+key-table-requires : tie.Need-key-table-requires
+key-table-requires c κs = search needs
 
 returns : tie.Need-returns
 returns c =
     let args = c .before .before .before .before .before .before .args in
-    answer-is (args .n) (args .p) _ _ _ (c .before .before .messages-of .ensures) (c .before .messages-of2 .ensures) (c .key-plans-of .ensures)
+    answer-is (args .n) (args .p) _ _ _ (c .before .before .message-table .ensures) (c .before .message-table2 .ensures) (c .key-table .ensures)
 
 pub copy-out-spec : {M : Type 1} → statement M
 copy-out-spec =
-    tie.close (tie.spec messages-of-requires messages-of-requires-2 key-plans-of-requires returns)
+    tie.close (tie.spec message-table-requires message-table-requires-2 key-table-requires returns)

@@ -1,4 +1,4 @@
--- `plan_answer::key_plans_of` meets its contract. The loop's invariant: what the keys passed gather stands in the first places, the others are blank. Assumes nothing.
+-- `plan_answer::key_table` meets its contract. The loop's invariant: what the keys passed gather stands in the first places, the others are blank. Assumes nothing.
 use mathlib.Core.Path.{_≡_, refl, ap, _∙_}
 use mathlib.Core.List.{_++_, map}
 use Prim.Native.Nat.{_-_, _≤_}
@@ -11,8 +11,8 @@ use Rattle.plan_answer.specs.Answer.{keyPlanOf}
 use Rattle.plan_answer.specs.Answer as spec
 use Rattle.plan_answer.proofs.Filling.{map-more, map-done}
 use Rattle.plan_answer.proofs.Copies.{keys-length, key-at}
-use Rattle.plan_answer.proofs.key_plans_of.Statement.{statement}
-use Rattle.plan_answer.proofs.key_plans_of.Tie as tie
+use Rattle.plan_answer.proofs.key_table.Statement.{statement}
+use Rattle.plan_answer.proofs.key_table.Tie as tie
 
 abbrev Inv-loop : tie.InvT-loop
 Inv-loop n at keys₀ k₀ keys k = (k ≤ n) × (keys ≡ map keyPlanOf (take k (map gatheredOf (take n at))) ++ drop k keys₀)
@@ -51,14 +51,14 @@ loop-again c =
     (omega arith, map-more keyPlanOf (map gatheredOf (take (args .n) (args .t1))) _ (loop .keys) (loop .k) (gatheredOf noGathered) _ (omega (arith, keys-length (args .t1) (args .n) (omega arith))) (omega arith) (loop .inv .1) (c .key-plan-of .ensures ∙ ap keyPlanOf (key-at (args .t1) (args .n) (loop .k) (c .before .before .loop-test .taken))))
 
 returns : tie.Need-returns Inv-loop μ-loop
-unfolding spec.keyPlansOf
+unfolding spec.keyTable
 returns c =
     let args = c .before .before .args in
     let loop = c .before .loop in
     loop .inv .1 ∙ map-done keyPlanOf (map gatheredOf (take (args .n) (args .t1))) spec.noKeyPlan 32 (loop .k) (omega (arith, keys-length (args .t1) (args .n) (omega arith)))
 
-pub key-plans-of-spec : {M : Type 1} → statement M
-key-plans-of-spec =
+pub key-table-spec : {M : Type 1} → statement M
+key-table-spec =
     tie.close
     (tie.spec
     Inv-loop

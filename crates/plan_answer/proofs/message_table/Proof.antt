@@ -1,4 +1,4 @@
--- `plan_answer::messages_of` meets its contract. The loop's invariant: the messages passed stand in the first places, the others are blank. Assumes nothing.
+-- `plan_answer::message_table` meets its contract. The loop's invariant: the messages passed stand in the first places, the others are blank. Assumes nothing.
 use mathlib.Core.Path.{_≡_, refl, _∙_}
 use mathlib.Core.List.{_++_, map}
 use Prim.Native.Nat.{_-_, _≤_}
@@ -11,8 +11,8 @@ use Rattle.plan_answer.specs.Answer.{messageOf}
 use Rattle.plan_answer.specs.Answer as spec
 use Rattle.schedule.specs.Pass.{noMessage}
 use Rattle.plan_answer.proofs.Filling.{map-more, map-done}
-use Rattle.plan_answer.proofs.messages_of.Statement.{statement}
-use Rattle.plan_answer.proofs.messages_of.Tie as tie
+use Rattle.plan_answer.proofs.message_table.Statement.{statement}
+use Rattle.plan_answer.proofs.message_table.Tie as tie
 
 abbrev Inv-loop : tie.InvT-loop
 Inv-loop p messages₀ n j₀ messages j = (j ≤ n) × (messages ≡ map messageOf (take j (messagesOf p)) ++ drop j messages₀)
@@ -45,14 +45,14 @@ loop-again c =
     (omega arith, map-more messageOf (messagesOf (args .p)) _ (loop .messages) (loop .j) noMessage _ (omega (arith, messages-length (args .p))) (omega arith) (loop .inv .1) (c .message-of .ensures))
 
 returns : tie.Need-returns Inv-loop μ-loop
-unfolding spec.messagesOf
+unfolding spec.messageTable
 returns c =
     let args = c .before .before .args in
     let loop = c .before .loop in
     loop .inv .1 ∙ map-done messageOf (messagesOf (args .p)) spec.noMessage 32 (loop .j) (omega (arith, messages-length (args .p)))
 
-pub messages-of-spec : {M : Type 1} → statement M
-messages-of-spec =
+pub message-table-spec : {M : Type 1} → statement M
+message-table-spec =
     tie.close
     (tie.spec
     Inv-loop
