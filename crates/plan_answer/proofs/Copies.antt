@@ -7,7 +7,7 @@ use native.Mathlib.Omega.{arith}
 use borrow.Author.Tests.{ltb-false}
 use lib.Dec.{ltb}
 use lib.ListN.{length, getD, take, drop, replicate, length-map, length-drop, List·getD-map}
-use lib.Seq.{getD-drop, getD-take, length-take-le}
+use lib.Seq.{getD-drop, getD-take, length-take-le, length-slice}
 use Rattle.schedule.specs.Pass.{at}
 use Rattle.plan.specs.Pass.{pickSlot, slotOf, msgAt, messagesOf, Ready}
 use Rattle.plan.specs.Gather.{gatheredOf, Held}
@@ -38,10 +38,7 @@ codes : (l : List ℕ) → map code (map slotOf l) ≡ l
 codes [] = refl
 codes (x ∷ l) = rw (code-slot x, codes l) refl
 
--- the slots from one place to another
-part-length : (l : List ℕ) (a b : ℕ) → b ≤ length l → length (drop a (take b l)) ≡ b - a
-part-length l a b h = length-drop a (take b l) ∙ omega (arith, length-take-le b l h)
-
+-- the message j of a pass, from its laid content and its masks
 pub message-is : (p : Pass) (j : ℕ) (content : List ℕ) (kept cleared : ℕ) → Ready 32 p → j < p .count
     → content ≡ drop (getD (p .starts) j 0) (take (getD (p .ends) j 0) (p .board .content)) ++ drop (getD (p .ends) j 0 - getD (p .starts) j 0) (replicate 96 0)
     → kept ≡ getD (p .masks) (64 + j) 0 → kept < 2 ^ 32 → cleared ≡ getD (p .cleared) j 0 → cleared < 2 ^ 32
@@ -51,9 +48,10 @@ message-is p j content kept cleared ready h e ek hk ec hc =
     let a = getD (p .starts) j 0 in
     let b = getD (p .ends) j 0 in
     let l = drop a (take b (p .board .content)) in
-    let n : length l ≡ b - a = part-length (p .board .content) a b (omega (arith, ready .closed j h, ready .room .contents .few, ready .room .contents .long)) in
+    let n : length l ≡ b - a = length-slice a b (p .board .content) (omega (arith, ready .closed j h, ready .room .contents .few, ready .room .contents .long)) in
     rw (at-msg p j h, e, padded-is 0 96 (b - a) l n, codes l, length-map l slotOf, n, getD-drop 64 (p .masks) j 0, ← ek, ← ec, set-members kept hk, set-members cleared hc)
 
+-- what a key gathers, from its laid leaves
 pub key-plan-is : (q : Gathered) (leaves : List ℕ) → Held q → q .forward < 2 ^ 32 → q .backward < 2 ^ 32 → q .last < 2 ^ 32
     → leaves ≡ drop 0 (take (q .count) (q .items)) ++ drop (q .count - 0) (replicate 64 0)
     → _≡_ {A = KeyPlan} (record { forward = q .forward; backward = q .backward; leaves = leaves; covered = q .covered; count = q .count; last = q .last }) (keyPlanOf (gatheredOf q))
@@ -72,6 +70,7 @@ keys-length at n h = length-map (take n at) gatheredOf ∙ length-take-le n at h
 pub key-at : (at : List Gathered) (n k : ℕ) → k < n → gatheredOf (getD at k noGathered) ≡ getD (map gatheredOf (take n at)) k (gatheredOf noGathered)
 key-at at n k h = ap gatheredOf (sym (getD-take n at k noGathered h)) ∙ sym (List·getD-map gatheredOf (take n at) k noGathered)
 
+-- the whole plan, from the tables of both passes and of the keys
 pub answer-is : (n : ℕ) (p : arrays.Plan) (forward backward : List Message) (at : List KeyPlan)
     → forward ≡ spec.messageTable (messagesOf (p .forward)) → backward ≡ spec.messageTable (messagesOf (p .backward)) → at ≡ spec.keyTable (map gatheredOf (take n (p .at)))
     → _≡_ {A = Plan} (record { forward = forward; forwards = p .forward .count; backward = backward; backwards = p .backward .count; at = at }) (answerOf (planOf n p))

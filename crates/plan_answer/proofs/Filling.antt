@@ -4,18 +4,19 @@ use mathlib.Core.List.{List, [], _∷_, _++_, map}
 use Prim.Native.Nat.{ℕ, zero, suc, _+_, _-_, _≤_, _<_}
 use native.Mathlib.Numerals.{add-one}
 use native.Mathlib.Omega.{arith}
-use lib.ListN.{length, getD, take, drop, set, replicate, length-map, length-drop}
-use lib.Seq.{take-suc, take-all, drop-cons, set-at, append-snoc, length-take-le}
-use Rattle.plan.proofs.Prefixes.{map-append, part-snoc, drop-none}
+use lib.ListN.{length, getD, take, drop, set, replicate, length-map}
+use lib.Seq.{take-suc, take-all, drop-cons, set-at, append-snoc, length-take-le, slice-empty, length-slice}
+use Rattle.plan.proofs.Prefixes.{map-append, part-snoc}
 use Rattle.plan_answer.specs.Answer.{padded}
 
 module _ {A : Type 0} where
+  -- one place more
   grown : (done before : List A) (i : ℕ) (x : A) → length done ≡ i → i < length before → set (done ++ drop i before) i x ≡ done ++ (x ∷ []) ++ drop (i + 1) before
   grown done before i x e h = rw (add-one i, drop-cons before i x h) (set-at done (getD before i x) (drop (suc i) before) x i e ∙ sym (append-snoc done x (drop (suc i) before)))
 
   -- no turn yet
   pub part-none : (source before : List A) (from : ℕ) → before ≡ drop from (take from source) ++ drop (from - from) before
-  part-none source before from = let z : from - from ≡ 0 = omega arith in rw (drop-none from from source (omega arith), z) refl
+  part-none source before from = let z : from - from ≡ 0 = omega arith in rw (slice-empty from source, z) refl
 
   -- one turn more, from the place `from` of the source on
   pub part-more : (source before array : List A) (from i : ℕ) (d : A) → from ≤ i → i < length source → i - from < length before
@@ -23,7 +24,7 @@ module _ {A : Type 0} where
   part-more source before array from i d l h r e =
       let n : i + 1 - from ≡ i - from + 1 = omega arith in
       rw (e, n, add-one i, part-snoc source from i d l h)
-      (grown (drop from (take i source)) before (i - from) (getD source i d) (length-drop from (take i source) ∙ omega (arith, length-take-le i source (omega arith))) r)
+      (grown (drop from (take i source)) before (i - from) (getD source i d) (length-slice from i source (omega arith)) r)
 
   drop-replicate : (i n : ℕ) (blank : A) → drop i (replicate n blank) ≡ replicate (n - i) blank
   drop-replicate zero n blank = let e : n - 0 ≡ n = omega arith in rw e refl
