@@ -1,4 +1,4 @@
--- What the answer of `arrange` means, and what an outcome tells of the graph. Assumes nothing.
+-- What the answers of `arrange` and `plan` mean, and what an outcome tells of the graph. Assumes nothing.
 use mathlib.Core.Path.{_≡_, refl, sym, ap, _∙_}
 use mathlib.Core.Bool.{Bool, true, false, cond}
 use mathlib.Core.List.{List}
@@ -14,8 +14,11 @@ use Rattle.plan.specs.Factors.{keysAt}
 use Rattle.plan.specs.Plan.{planOf, risingPlan}
 use Rattle.plan.specs.declared.factors.FactorKeys.{FactorKeys}
 use Rattle.plan.specs.declared.plan.Plan.{Plan}
-use Rattle.solver.specs.Plan.{graphPlan, noPlan, Answer, planned, read, Table}
+use Rattle.plan_answer.specs.Answer.{answerOf}
+use Rattle.plan_answer.specs.declared.Plan as struct
+use Rattle.solver.specs.Plan.{graphPlan, noPlan, Answer, planned, answer, read, Table}
 use Rattle.solver.specs.declared.Arranged.{Arranged}
+use Rattle.solver.specs.declared.Planned.{Planned}
 use Rattle.solver.specs.declared.Outcome.the-variants.{Made, Refused}
 use Rattle.solver.proofs.Tables.{same-keys}
 
@@ -31,6 +34,10 @@ made g table p v t e = rw (v, e, same-keys g table v t)
 pub turned-back : (g : Graph) (table : List FactorKeys) (p : Plan) → valid g ≡ false → planOf 0 p ≡ risingPlan table 0 0 → read (record { outcome = Refused NoSuchGraph; keys = 0; plan = p }) ≡ planned g
 unfolding read planned
 turned-back g table p v e = rw (v, e ∙ empty-plan (keysAt table 0))
+
+pub told : (r : Arranged) (g : Graph) (p : struct.Plan) → read r ≡ planned g → p ≡ answerOf (planOf (r .keys) (r .plan)) → _≡_ {A = Planned} (record { outcome = r .outcome; keys = r .keys; plan = p }) (answer g)
+unfolding read answer
+told r g p e h = rw (h, ← e)
 
 -- ---- what an outcome tells of the graph
 

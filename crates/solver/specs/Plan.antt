@@ -12,10 +12,12 @@ use Rattle.graph.specs.declared.refusal.Refusal.the-variants.{NoSuchGraph}
 use Rattle.schedule.specs.Count.{from}
 use Rattle.schedule.specs.Plan as lists
 use Rattle.plan.specs.Plan.{planOf}
+use Rattle.plan_answer.specs.Answer.{answerOf}
 use Rattle.plan.specs.Factors.{noKeys}
 use Rattle.plan.specs.declared.factors.FactorKeys.{FactorKeys}
 use Rattle.messages.specs.Tables.{keysOf}
 use Rattle.solver.specs.declared.Arranged.{Arranged}
+use Rattle.solver.specs.declared.Planned.{Planned}
 use Rattle.solver.specs.declared.Outcome.{Outcome}
 use Rattle.solver.specs.declared.Outcome.the-variants.{Made, Refused}
 
@@ -26,7 +28,7 @@ graphPlan g = lists.plan (g .variables) (keysOf g) (from 0 (g .count)) (from 0 (
 abbrev pub noPlan : lists.Plan
 noPlan = record { forward = []; backward = []; at-key = [] }
 
--- What the call answers: whether a plan was made, for how many keys, and the plan.
+-- What a plan's call answers, with the plan over lists: whether a plan was made, for how many keys, and the plan.
 pub record Answer : Type 0 where
   pub outcome : Outcome
   pub keys : ℕ
@@ -38,6 +40,10 @@ planned g =
     cond (valid g)
     (record { outcome = Made; keys = g .variables; plan = graphPlan g })
     (record { outcome = Refused NoSuchGraph; keys = 0; plan = noPlan })
+
+-- the same with the plan in its struct: what the call `plan` answers
+unfoldable pub answer : Graph → Planned
+answer g = let a = planned g in record { outcome = a .outcome; keys = a .keys; plan = answerOf (a .plan) }
 
 -- what the arrays of an answer hold
 unfoldable pub read : Arranged → Answer

@@ -28,6 +28,13 @@ pub struct Arranged {
     pub plan: Plan,
 }
 
+// The outcome, how many keys the plan is for, and the plan. A refused one is for no keys and has no messages.
+pub struct Planned {
+    pub outcome: Outcome,
+    pub keys: usize,
+    pub plan: plan_answer::Plan,
+}
+
 // What a plan needs to know of a factor.
 fn touched_by(f: Factor) -> FactorKeys
     ensures { λ r. ⌜ (r ≡ spec.touchedBy f) × (length (f .keys) ≡ max-keys) ⌝ }
@@ -74,5 +81,21 @@ pub fn arrange(g: Graph) -> Arranged
         outcome: Outcome::Made,
         keys: n,
         plan: plan::plan::rising_plan(table, count, n),
+    }
+}
+
+// The plan of a graph: for each message its pass, step, content, kept and cleared keys; for each key the messages and originals
+// gathered, the leaves, and the keys cleared last.
+pub fn plan(g: Graph) -> Planned
+    ensures { λ r. ⌜ r ≡ spec.answer g ⌝ }
+{
+    let made = arrange(g);
+    let outcome = made.outcome;
+    let keys = made.keys;
+    let arrays = made.plan;
+    Planned {
+        outcome: outcome,
+        keys: keys,
+        plan: plan_answer::copy_out(arrays, keys),
     }
 }

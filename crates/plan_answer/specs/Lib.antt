@@ -1,0 +1,2 @@
+-- The definitions that the contracts of `plan_answer` cite.
+pub mod Answer
