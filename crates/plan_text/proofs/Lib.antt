@@ -1,2 +1,3 @@
--- Laws of laying text.
-pub mod Laying
+-- Laws of the text of a plan.
+pub mod Putting
+pub mod Growing

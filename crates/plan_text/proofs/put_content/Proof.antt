@@ -1,51 +1,59 @@
--- Before each turn the word and the slots before i are laid.
--- Assumes nothing.
-use borrow.Author.Needs.{needs}
-use native.Mathlib.Omega.{arith}
-use Prim.Native.Nat.{_-_}
-use Rattle.plan_text.specs.Text.{Wrote}
-use Rattle.plan_text.proofs.Laying.{onward, still}
 use Rattle.plan_text.proofs.put_content.Statement.{statement}
 use Rattle.plan_text.proofs.put_content.Tie as tie
+use Rattle.plan_text.proofs.put_content.Reads as reads
+use Rattle.plan_text.proofs.put_content.Lts as lts
+use Rattle.plan_text.proofs.put_slot.Reads as put-slot-reads
+use Rattle.plan_text.proofs.put_word.Reads as put-word-reads
 
 abbrev Inv-loop : tie.InvT-loop
-Inv-loop buffer₀ at from to content o₀ i₀ buffer o i = Wrote o₀ o buffer₀ buffer
+Inv-loop out₀ at from end content to₀ i₀ out to i = ?
 
 abbrev μ-loop : tie.MeasureT-loop
-μ-loop buffer₀ at from to content o₀ i₀ buffer o i = to - i
+μ-loop out₀ at from end content to₀ i₀ out to i = ?
 
+-- src/lib.rt:144:36
 slice-aggregate-put-word : tie.Need-slice-aggregate-put-word Inv-loop μ-loop
-slice-aggregate-put-word c = search needs
+slice-aggregate-put-word c = ?
 
+-- src/lib.rt:144:9
 put-word-requires : tie.Need-put-word-requires Inv-loop μ-loop
-put-word-requires c κs = search needs
+put-word-requires c κs = ?
 
+-- src/lib.rt:145:5
 loop-holds : tie.Need-loop-holds Inv-loop μ-loop
-loop-holds c = still
+loop-holds c = ?
 
+-- src/lib.rt:146:17
 array-read-s : tie.Need-array-read-s Inv-loop μ-loop
-array-read-s c = omega arith
+array-read-s c = ?
 
+-- src/lib.rt:146:17
 cast-s : tie.Need-cast-s Inv-loop μ-loop
-cast-s c = search needs
+cast-s c = ?
 
+-- src/lib.rt:147:9
 put-slot-requires : tie.Need-put-slot-requires Inv-loop μ-loop
-put-slot-requires c κs = search needs
+put-slot-requires c κs = ?
 
+-- src/lib.rt:145:9
 add-i : tie.Need-add-i Inv-loop μ-loop
-add-i c = search needs
+add-i c = ?
 
+-- src/lib.rt:145:5
 loop-less : tie.Need-loop-less Inv-loop μ-loop
-loop-less c = omega arith
+loop-less c = ?
 
+-- src/lib.rt:145:5
 loop-again : tie.Need-loop-again Inv-loop μ-loop
-loop-again c = onward (c .before .before .before .before .before .loop .inv) (c .before .before .put-slot .ensures)
+loop-again c = ?
 
+-- src/lib.rt:134:1
 same-length : tie.Need-same-length Inv-loop μ-loop
-same-length c = (onward (c .before .before .before .before .put-word .ensures) (c .before .loop .inv)) .same
+same-length c = ?
 
+-- src/lib.rt:134:1
 returns : tie.Need-returns Inv-loop μ-loop
-returns c = onward (c .before .before .before .before .put-word .ensures) (c .before .loop .inv)
+returns c = ?
 
 pub put-content-spec : {M : Type 1} → statement M
 put-content-spec =
