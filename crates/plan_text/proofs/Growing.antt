@@ -21,9 +21,14 @@ pub joined-nil : {A : Type 0} (f : A → List ℕ) → joined f [] ≡ []
 unfolding joined
 joined-nil f = refl
 
-joined-one : {A : Type 0} (f : A → List ℕ) (x : A) → joined f (x ∷ []) ≡ f x
+pub joined-one : {A : Type 0} (f : A → List ℕ) (x : A) → joined f (x ∷ []) ≡ f x
 unfolding joined
 joined-one f x = append-nil (f x)
+
+pub joined-map : {A : Type 0} (f : A → List ℕ) (g : ℕ → A) (l : List ℕ) → joined (λ x. f (g x)) l ≡ joined f (map g l)
+unfolding joined
+joined-map f g [] = refl
+joined-map f g (x ∷ l) = ap (λ (t : List ℕ). f (g x) ++ t) (joined-map f g l)
 
 -- the members of a set below k, and k if it is one
 pub member-none : (f : ℕ → List ℕ) (p : ℕ → Bool) → [] ≡ joined f (rising 0 p)
@@ -32,18 +37,17 @@ member-none f p = sym (ap (joined f) (rising-zero p) ∙ joined-nil f)
 pub member-more : (f : ℕ → List ℕ) (p : ℕ → Bool) (k : ℕ) → joined f (rising k p) ++ joined f (putIf (p k) k []) ≡ joined f (rising (k + 1) p)
 member-more f p k = sym (ap (joined f) (rising-more p k) ∙ joined-append f (rising k p) (putIf (p k) k []))
 
--- the entries of an array from a place on, and the one at i; an entry stands for a member
-module _ {A : Type 0} (f : A → List ℕ) (g : ℕ → A) (l : List ℕ) where
-  pub part-none : (a : ℕ) → [] ≡ joined f (map g (drop a (take a l)))
-  part-none a = sym (ap (λ (t : List ℕ). joined f (map g t)) (drop-none a a l (omega arith)) ∙ joined-nil f)
+-- the entries of an array from a place on, and the one at i
+module _ (f : ℕ → List ℕ) (l : List ℕ) where
+  pub part-none : (a : ℕ) → [] ≡ joined f (drop a (take a l))
+  part-none a = sym (ap (joined f) (drop-none a a l (omega arith)) ∙ joined-nil f)
 
-  pub part-more : (a i : ℕ) → a ≤ i → i < length l → joined f (map g (drop a (take i l))) ++ f (g (getD l i 0)) ≡ joined f (map g (drop a (take (i + 1) l)))
+  pub part-more : (a i : ℕ) → a ≤ i → i < length l → joined f (drop a (take i l)) ++ f (getD l i 0) ≡ joined f (drop a (take (i + 1) l))
   part-more a i h k =
-      sym (ap (λ (n : ℕ). joined f (map g (drop a (take n l)))) (add-one i)
-      ∙ ap (λ (t : List ℕ). joined f (map g t)) (part-snoc l a i 0 h k)
-      ∙ ap (joined f) (map-append g (drop a (take i l)) (getD l i 0 ∷ []))
-      ∙ joined-append f (map g (drop a (take i l))) (g (getD l i 0) ∷ [])
-      ∙ ap (λ (t : List ℕ). joined f (map g (drop a (take i l))) ++ t) (joined-one f (g (getD l i 0))))
+      sym (ap (λ (n : ℕ). joined f (drop a (take n l))) (add-one i)
+      ∙ ap (joined f) (part-snoc l a i 0 h k)
+      ∙ joined-append f (drop a (take i l)) (getD l i 0 ∷ [])
+      ∙ ap (λ (t : List ℕ). joined f (drop a (take i l)) ++ t) (joined-one f (getD l i 0)))
 
 -- ---- numbered lines
 
@@ -56,6 +60,10 @@ numbered-more line j (y ∷ l) x =
 
 module _ {A : Type 0} (line : ℕ → A → List ℕ) where
   -- of the first members that a function gives
+  pub given-none : (g : ℕ → A) → [] ≡ numbered line 0 (map g (from 0 0))
+  unfolding numbered from
+  given-none g = refl
+
   pub given-more : (g : ℕ → A) (j : ℕ) → numbered line 0 (map g (from 0 j)) ++ line j (g j) ≡ numbered line 0 (map g (from 0 (j + 1)))
   given-more g j =
       let n : 0 + length (map g (from 0 j)) ≡ j = omega (arith, length-map (from 0 j) g, length-from 0 j) in
@@ -67,6 +75,10 @@ module _ {A : Type 0} (line : ℕ → A → List ℕ) where
       ∙ ap (λ (k : ℕ). numbered line 0 (map g (from 0 j)) ++ line j (g k)) (zero-add j))
 
   -- of the first entries of an array
+  pub taken-none : {B : Type 0} (g : B → A) (l : List B) → [] ≡ numbered line 0 (map g (take 0 l))
+  unfolding numbered
+  taken-none g l = refl
+
   pub taken-more : {B : Type 0} (g : B → A) (l : List B) (k : ℕ) (d : B) → k < length l → numbered line 0 (map g (take k l)) ++ line k (g (getD l k d)) ≡ numbered line 0 (map g (take (k + 1) l))
   taken-more g l k d h =
       let n : 0 + length (map g (take k l)) ≡ k = omega (arith, length-map (take k l) g, length-take-le k l (omega arith)) in

@@ -1,59 +1,61 @@
+-- `plan_text::put_content` meets its contract. The loop's invariant: the slots passed are put behind the word. Assumes nothing.
+use Prim.Native.Nat.{ℕ, _-_, _≤_}
+use mathlib.Core.Path.{_≡_, ap, _∙_}
+use mathlib.Core.List.{List}
+use native.Mathlib.Omega.{arith}
+use lib.ListN.{take, drop}
+use Rattle.schedule.specs.Count.{joined}
+use Rattle.plan.specs.Pass.{slotOf}
+use Rattle.plan_text.specs.Putting.{Puts}
+use Rattle.plan_text.specs.Text.{slotText, contentText}
+use Rattle.plan_text.proofs.Putting.{none, both, same, long}
+use Rattle.plan_text.proofs.Growing.{joined-map, part-none, part-more}
+use borrow.Author.Needs.{needs}
 use Rattle.plan_text.proofs.put_content.Statement.{statement}
 use Rattle.plan_text.proofs.put_content.Tie as tie
-use Rattle.plan_text.proofs.put_content.Reads as reads
-use Rattle.plan_text.proofs.put_content.Lts as lts
-use Rattle.plan_text.proofs.put_slot.Reads as put-slot-reads
-use Rattle.plan_text.proofs.put_word.Reads as put-word-reads
+
+abbrev text : ℕ → List ℕ
+text s = slotText (slotOf s)
 
 abbrev Inv-loop : tie.InvT-loop
-Inv-loop out₀ at from end content to₀ i₀ out to i = ?
+Inv-loop out₀ at from end content to₀ i₀ out to i = (from ≤ i) × (i ≤ end) × Puts out₀ out to₀ to (joined text (drop from (take i content)))
 
 abbrev μ-loop : tie.MeasureT-loop
-μ-loop out₀ at from end content to₀ i₀ out to i = ?
+μ-loop out₀ at from end content to₀ i₀ out to i = end - i
 
--- src/lib.rt:144:36
 slice-aggregate-put-word : tie.Need-slice-aggregate-put-word Inv-loop μ-loop
-slice-aggregate-put-word c = ?
+slice-aggregate-put-word c = search needs
 
--- src/lib.rt:144:9
 put-word-requires : tie.Need-put-word-requires Inv-loop μ-loop
-put-word-requires c κs = ?
+put-word-requires c κs = search needs
 
--- src/lib.rt:145:5
 loop-holds : tie.Need-loop-holds Inv-loop μ-loop
-loop-holds c = ?
+loop-holds c = (omega arith, c .before .before .before .before .before .before .pre .0, same (part-none text (c .before .before .before .before .before .before .args .t3) (c .before .before .before .before .before .before .args .from)) none)
 
--- src/lib.rt:146:17
 array-read-s : tie.Need-array-read-s Inv-loop μ-loop
-array-read-s c = ?
+array-read-s c = search needs
 
--- src/lib.rt:146:17
 cast-s : tie.Need-cast-s Inv-loop μ-loop
-cast-s c = ?
+cast-s c = search needs
 
--- src/lib.rt:147:9
 put-slot-requires : tie.Need-put-slot-requires Inv-loop μ-loop
-put-slot-requires c κs = ?
+put-slot-requires c κs = search needs
 
--- src/lib.rt:145:9
 add-i : tie.Need-add-i Inv-loop μ-loop
-add-i c = ?
+add-i c = search needs
 
--- src/lib.rt:145:5
 loop-less : tie.Need-loop-less Inv-loop μ-loop
-loop-less c = ?
+loop-less c = search needs
 
--- src/lib.rt:145:5
 loop-again : tie.Need-loop-again Inv-loop μ-loop
-loop-again c = ?
+loop-again c = (omega arith, omega arith, same (part-more text (c .before .before .before .before .before .before .before .before .before .before .before .before .args .t3) (c .before .before .before .before .before .before .before .before .before .before .before .before .args .from) (c .before .before .before .before .before .loop .i) (c .before .before .before .before .before .loop .inv .0) (omega arith)) (both (c .before .before .before .before .before .loop .inv .2) (c .before .before .put-slot .ensures)))
 
--- src/lib.rt:134:1
 same-length : tie.Need-same-length Inv-loop μ-loop
-same-length c = ?
+same-length c = long (both (c .before .before .before .before .put-word .ensures) (c .before .loop .inv .2))
 
--- src/lib.rt:134:1
 returns : tie.Need-returns Inv-loop μ-loop
-returns c = ?
+unfolding contentText
+returns c = let e : c .before .loop .i ≡ c .before .before .before .before .before .before .before .before .args .end = omega arith in both (c .before .before .before .before .put-word .ensures) (same (ap (λ (i : ℕ). joined text (drop (c .before .before .before .before .before .before .before .before .args .from) (take i (c .before .before .before .before .before .before .before .before .args .t3)))) e ∙ joined-map slotText slotOf (drop (c .before .before .before .before .before .before .before .before .args .from) (take (c .before .before .before .before .before .before .before .before .args .end) (c .before .before .before .before .before .before .before .before .args .t3)))) (c .before .loop .inv .2))
 
 pub put-content-spec : {M : Type 1} → statement M
 put-content-spec =

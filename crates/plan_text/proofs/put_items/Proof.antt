@@ -1,55 +1,54 @@
+-- `plan_text::put_items` meets its contract. The loop's invariant: the items passed are put behind the word. Assumes nothing.
+use Prim.Native.Nat.{ℕ, _-_, _≤_}
+use mathlib.Core.Path.{_≡_, ap}
+use native.Mathlib.Omega.{arith}
+use lib.ListN.{take, drop}
+use Rattle.schedule.specs.Count.{joined}
+use Rattle.lines.specs.Lines.{fieldText}
+use Rattle.plan_text.specs.Putting.{Puts}
+use Rattle.plan_text.specs.Text.{listText}
+use Rattle.plan_text.proofs.Putting.{none, both, same, long}
+use Rattle.plan_text.proofs.Growing.{part-none, part-more}
+use borrow.Author.Needs.{needs}
 use Rattle.plan_text.proofs.put_items.Statement.{statement}
 use Rattle.plan_text.proofs.put_items.Tie as tie
-use Rattle.plan_text.proofs.put_items.Reads as reads
-use Rattle.plan_text.proofs.put_items.Lts as lts
-use Rattle.plan_text.proofs.put_number.Reads as put-number-reads
-use Rattle.plan_text.proofs.put_word.Reads as put-word-reads
 
 abbrev Inv-loop : tie.InvT-loop
-Inv-loop out₀ at name from end items to₀ i₀ out to i = ?
+Inv-loop out₀ at name from end items to₀ i₀ out to i = (from ≤ i) × (i ≤ end) × Puts out₀ out to₀ to (joined fieldText (drop from (take i items)))
 
 abbrev μ-loop : tie.MeasureT-loop
-μ-loop out₀ at name from end items to₀ i₀ out to i = ?
+μ-loop out₀ at name from end items to₀ i₀ out to i = end - i
 
--- src/lib.rt:164:9
 put-word-requires : tie.Need-put-word-requires Inv-loop μ-loop
-put-word-requires c κs = ?
+put-word-requires c κs = search needs
 
--- src/lib.rt:165:5
 loop-holds : tie.Need-loop-holds Inv-loop μ-loop
-loop-holds c = ?
+loop-holds c = (omega arith, c .before .before .before .before .before .before .pre .0, same (part-none fieldText (c .before .before .before .before .before .before .args .t4) (c .before .before .before .before .before .before .args .from)) none)
 
--- src/lib.rt:166:17
 array-read-x : tie.Need-array-read-x Inv-loop μ-loop
-array-read-x c = ?
+array-read-x c = search needs
 
--- src/lib.rt:166:17
 cast-x : tie.Need-cast-x Inv-loop μ-loop
-cast-x c = ?
+cast-x c = search needs
 
--- src/lib.rt:167:9
 put-number-requires : tie.Need-put-number-requires Inv-loop μ-loop
-put-number-requires c κs = ?
+put-number-requires c κs = search needs
 
--- src/lib.rt:165:9
 add-i : tie.Need-add-i Inv-loop μ-loop
-add-i c = ?
+add-i c = search needs
 
--- src/lib.rt:165:5
 loop-less : tie.Need-loop-less Inv-loop μ-loop
-loop-less c = ?
+loop-less c = search needs
 
--- src/lib.rt:165:5
 loop-again : tie.Need-loop-again Inv-loop μ-loop
-loop-again c = ?
+loop-again c = (omega arith, omega arith, same (part-more fieldText (c .before .before .before .before .before .before .before .before .before .before .before .before .args .t4) (c .before .before .before .before .before .before .before .before .before .before .before .before .args .from) (c .before .before .before .before .before .loop .i) (c .before .before .before .before .before .loop .inv .0) (omega arith)) (both (c .before .before .before .before .before .loop .inv .2) (c .before .before .put-number .ensures)))
 
--- src/lib.rt:153:1
 same-length : tie.Need-same-length Inv-loop μ-loop
-same-length c = ?
+same-length c = long (both (c .before .before .before .before .put-word .ensures) (c .before .loop .inv .2))
 
--- src/lib.rt:153:1
 returns : tie.Need-returns Inv-loop μ-loop
-returns c = ?
+unfolding listText
+returns c = let e : c .before .loop .i ≡ c .before .before .before .before .before .before .before .before .args .end = omega arith in both (c .before .before .before .before .put-word .ensures) (same (ap (λ (i : ℕ). joined fieldText (drop (c .before .before .before .before .before .before .before .before .args .from) (take i (c .before .before .before .before .before .before .before .before .args .t4)))) e) (c .before .loop .inv .2))
 
 pub put-items-spec : {M : Type 1} → statement M
 put-items-spec =

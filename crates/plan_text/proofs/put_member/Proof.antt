@@ -1,30 +1,30 @@
+-- `plan_text::put_member` meets its contract: by whether the digit of the set is 1. Assumes nothing.
+use mathlib.Core.Path.{sym, ap, _∙_}
+use mathlib.Core.Bool.{Bool}
+use mathlib.Core.List.{[]}
+use Rattle.schedule.specs.Count.{joined, putIf}
+use Rattle.plan.proofs.Unions.{in-set, off-set}
+use Rattle.lines.specs.Lines.{fieldText}
+use Rattle.plan_text.proofs.Putting.{none, same}
+use Rattle.plan_text.proofs.Growing.{joined-nil, joined-one}
 use borrow.Author.Needs.{needs}
 use Rattle.plan_text.proofs.put_member.Statement.{statement}
 use Rattle.plan_text.proofs.put_member.Tie as tie
-use Rattle.plan_text.proofs.put_member.Reads as reads
-use Rattle.plan_text.proofs.put_member.Lts as lts
-use Rattle.plan.proofs.masks.single.Reads as single-reads
-use Rattle.plan_text.proofs.put_number.Reads as put-number-reads
 
--- src/lib.rt:116:14
 single-requires : tie.Need-single-requires
 single-requires c κs = search needs
 
--- src/lib.rt:117:9
 returns : tie.Need-returns
-returns c = ?
+returns c = same (sym (ap (λ (b : Bool). joined fieldText (putIf b (c .before .before .before .args .k) [])) (off-set (c .before .before .before .args .set) (c .before .before .before .args .k) (c .before .single .result) (c .before .single .ensures) (c .if1 .taken)) ∙ joined-nil fieldText)) none
 
--- src/lib.rt:119:5
 put-number-requires : tie.Need-put-number-requires
 put-number-requires c κs = search needs
 
--- src/lib.rt:112:1
 same-length : tie.Need-same-length
 same-length c = search needs
 
--- src/lib.rt:112:1
 returns-2 : tie.Need-returns-2
-returns-2 c = ?
+returns-2 c = same (sym (ap (λ (b : Bool). joined fieldText (putIf b (c .before .before .before .before .before .before .before .args .k) [])) (in-set (c .before .before .before .before .before .before .before .args .set) (c .before .before .before .before .before .before .before .args .k) (c .before .before .before .before .before .single .result) (c .before .before .before .before .before .single .ensures) (c .before .before .before .before .if1 .left)) ∙ joined-one fieldText (c .before .before .before .before .before .before .before .args .k))) (c .before .before .put-number .ensures)
 
 pub put-member-spec : {M : Type 1} → statement M
 put-member-spec =

@@ -1,47 +1,48 @@
+-- `plan_text::put_set` meets its contract. The loop's invariant: the members below k are put behind the word. Assumes nothing.
+use Prim.Native.Nat.{ℕ, _-_, _≤_}
+use mathlib.Core.Path.{_≡_, ap}
+use native.Mathlib.Omega.{arith}
+use Rattle.schedule.specs.Count.{joined, rising}
+use Rattle.plan.specs.Mask.{has, keysIn}
+use Rattle.lines.specs.Lines.{fieldText}
+use Rattle.plan_text.specs.Putting.{Puts}
+use Rattle.plan_text.specs.Text.{listText}
+use Rattle.plan_text.proofs.Putting.{none, both, same, long}
+use Rattle.plan_text.proofs.Growing.{member-none, member-more}
+use borrow.Author.Needs.{needs}
 use Rattle.plan_text.proofs.put_set.Statement.{statement}
 use Rattle.plan_text.proofs.put_set.Tie as tie
-use Rattle.plan_text.proofs.put_set.Reads as reads
-use Rattle.plan_text.proofs.put_set.Lts as lts
-use Rattle.plan_text.proofs.put_member.Reads as put-member-reads
-use Rattle.plan_text.proofs.put_word.Reads as put-word-reads
 
 abbrev Inv-loop : tie.InvT-loop
-Inv-loop out₀ at name set to₀ k₀ out to k = ?
+Inv-loop out₀ at name set to₀ k₀ out to k = (k ≤ 32) × Puts out₀ out to₀ to (joined fieldText (rising k (λ i. has i set)))
 
 abbrev μ-loop : tie.MeasureT-loop
-μ-loop out₀ at name set to₀ k₀ out to k = ?
+μ-loop out₀ at name set to₀ k₀ out to k = 32 - k
 
--- src/lib.rt:126:9
 put-word-requires : tie.Need-put-word-requires Inv-loop μ-loop
-put-word-requires c κs = ?
+put-word-requires c κs = search needs
 
--- src/lib.rt:127:5
 loop-holds : tie.Need-loop-holds Inv-loop μ-loop
-loop-holds c = ?
+loop-holds c = (omega arith, same (member-none fieldText (λ i. has i (c .before .before .before .before .before .before .args .set))) none)
 
--- src/lib.rt:128:9
 put-member-requires : tie.Need-put-member-requires Inv-loop μ-loop
-put-member-requires c κs = ?
+put-member-requires c κs = search needs
 
--- src/lib.rt:127:9
 add-k : tie.Need-add-k Inv-loop μ-loop
-add-k c = ?
+add-k c = search needs
 
--- src/lib.rt:127:5
 loop-less : tie.Need-loop-less Inv-loop μ-loop
-loop-less c = ?
+loop-less c = search needs
 
--- src/lib.rt:127:5
 loop-again : tie.Need-loop-again Inv-loop μ-loop
-loop-again c = ?
+loop-again c = (omega arith, same (member-more fieldText (λ i. has i (c .before .before .before .before .before .before .before .before .before .before .before .before .args .set)) (c .before .before .before .before .before .loop .k)) (both (c .before .before .before .before .before .loop .inv .1) (c .before .before .put-member .ensures)))
 
--- src/lib.rt:123:1
 same-length : tie.Need-same-length Inv-loop μ-loop
-same-length c = ?
+same-length c = long (both (c .before .before .before .before .put-word .ensures) (c .before .loop .inv .1))
 
--- src/lib.rt:123:1
 returns : tie.Need-returns Inv-loop μ-loop
-returns c = ?
+unfolding listText keysIn
+returns c = let e : c .before .loop .k ≡ 32 = omega arith in both (c .before .before .before .before .put-word .ensures) (same (ap (λ (k : ℕ). joined fieldText (rising k (λ i. has i (c .before .before .before .before .before .before .before .before .args .set)))) e) (c .before .loop .inv .1))
 
 pub put-set-spec : {M : Type 1} → statement M
 put-set-spec =

@@ -1,0 +1,64 @@
+-- `plan_text::put_keys` meets its contract. The loop's invariant: the lines of the keys passed are put. Assumes nothing.
+use Prim.Native.Nat.{ℕ, _-_, _≤_}
+use mathlib.Core.Path.{_≡_, ap}
+use mathlib.Core.List.{map}
+use native.Mathlib.Omega.{arith}
+use lib.ListN.{take}
+use Rattle.plan.specs.Gather.{gatheredOf}
+use Rattle.plan.specs.Plan.{noGathered}
+use Rattle.plan_text.specs.Putting.{Puts}
+use Rattle.plan_text.specs.Text.{keyText, numbered}
+use Rattle.plan_text.proofs.Putting.{none, both, same, long}
+use Rattle.plan_text.proofs.Growing.{taken-none, taken-more}
+use borrow.Author.Needs.{needs}
+use Rattle.plan_text.proofs.put_keys.Statement.{statement}
+use Rattle.plan_text.proofs.put_keys.Tie as tie
+
+abbrev Inv-loop : tie.InvT-loop
+Inv-loop out₀ at n plan to₀ k₀ out to k = (k ≤ n) × Puts out₀ out at to (numbered keyText 0 (map gatheredOf (take k (plan .at))))
+
+abbrev μ-loop : tie.MeasureT-loop
+μ-loop out₀ at n plan to₀ k₀ out to k = n - k
+
+loop-holds : tie.Need-loop-holds Inv-loop μ-loop
+loop-holds c = (omega arith, same (taken-none keyText gatheredOf (c .before .args .t3 .at)) none)
+
+mul-q : tie.Need-mul-q Inv-loop μ-loop
+mul-q c = search needs
+
+element-copy-out-q : tie.Need-element-copy-out-q Inv-loop μ-loop
+element-copy-out-q c = omega (arith, c .before .before .before .pre .0)
+
+put-key-requires : tie.Need-put-key-requires Inv-loop μ-loop
+put-key-requires c κs = c .before .before .before .before .before .pre .1 .held (c .before .before .before .loop .k) (c .before .before .loop-test .taken)
+
+add-k : tie.Need-add-k Inv-loop μ-loop
+add-k c = record { fits = omega (arith, c .before .before .before .before .before .before .before .before .pre .0) }
+
+loop-less : tie.Need-loop-less Inv-loop μ-loop
+loop-less c = omega arith
+
+loop-again : tie.Need-loop-again Inv-loop μ-loop
+loop-again c = (omega arith, same (taken-more keyText gatheredOf (c .before .before .before .before .before .before .before .before .args .t3 .at) (c .before .before .before .before .before .before .loop .k) noGathered (omega (arith, c .before .before .before .before .before .before .before .before .pre .0, c .before .before .before .before .before .before .before .before .pre .1 .long))) (both (c .before .before .before .before .before .before .loop .inv .1) (c .before .before .put-key .ensures)))
+
+same-length : tie.Need-same-length Inv-loop μ-loop
+same-length c = long (c .before .loop .inv .1)
+
+returns : tie.Need-returns Inv-loop μ-loop
+returns c = let e : c .before .loop .k ≡ c .before .before .before .args .n = omega arith in same (ap (λ (k : ℕ). numbered keyText 0 (map gatheredOf (take k (c .before .before .before .args .t3 .at)))) e) (c .before .loop .inv .1)
+
+pub put-keys-spec : {M : Type 1} → statement M
+put-keys-spec =
+    tie.close
+    (tie.spec
+    Inv-loop
+    μ-loop
+    loop-holds
+    mul-q
+    element-copy-out-q
+    put-key-requires
+    add-k
+    loop-less
+    loop-again
+    same-length
+    returns)

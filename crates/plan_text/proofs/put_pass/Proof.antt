@@ -1,0 +1,56 @@
+-- `plan_text::put_pass` meets its contract. The loop's invariant: the lines of the messages passed are put. Assumes nothing.
+use Prim.Native.Nat.{ℕ, _-_, _≤_}
+use mathlib.Core.Path.{_≡_, refl, ap}
+use mathlib.Core.List.{map}
+use native.Mathlib.Omega.{arith}
+use Rattle.schedule.specs.Count.{from}
+use Rattle.plan.specs.Pass.{msgAt, messagesOf}
+use Rattle.plan_text.specs.Putting.{Puts}
+use Rattle.plan_text.specs.Text.{messageText, numbered}
+use Rattle.plan_text.proofs.Putting.{none, both, same, long}
+use Rattle.plan_text.proofs.Growing.{given-none, given-more}
+use borrow.Author.Needs.{needs}
+use Rattle.plan_text.proofs.put_pass.Statement.{statement}
+use Rattle.plan_text.proofs.put_pass.Tie as tie
+
+abbrev Inv-loop : tie.InvT-loop
+Inv-loop out₀ at name messages to₀ j₀ j-end out to j = (j-end ≡ messages .count) × (j ≤ j-end) × Puts out₀ out at to (numbered (messageText name) 0 (map (msgAt messages) (from 0 j)))
+
+abbrev μ-loop : tie.MeasureT-loop
+μ-loop out₀ at name messages to₀ j₀ j-end out to j = j-end - j
+
+loop-holds : tie.Need-loop-holds Inv-loop μ-loop
+loop-holds c = (refl, omega arith, same (given-none (messageText (c .before .before .args .name .now)) (msgAt (c .before .before .args .messages))) none)
+
+put-message-requires : tie.Need-put-message-requires Inv-loop μ-loop
+put-message-requires c κs = (c .before .before .before .before .before .pre, omega (arith, c .before .loop-test .taken))
+
+add-j : tie.Need-add-j Inv-loop μ-loop
+add-j c = record { fits = omega (arith, c .before .before .before .before .before .before .before .before .pre .few) }
+
+loop-less : tie.Need-loop-less Inv-loop μ-loop
+loop-less c = omega arith
+
+loop-again : tie.Need-loop-again Inv-loop μ-loop
+loop-again c = (c .before .before .before .before .before .loop .inv .0, omega arith, same (given-more (messageText (c .before .before .before .before .before .before .before .before .args .name .now)) (msgAt (c .before .before .before .before .before .before .before .before .args .messages)) (c .before .before .before .before .before .loop .j)) (both (c .before .before .before .before .before .loop .inv .2) (c .before .before .put-message .ensures)))
+
+same-length : tie.Need-same-length Inv-loop μ-loop
+same-length c = long (c .before .loop .inv .2)
+
+returns : tie.Need-returns Inv-loop μ-loop
+unfolding messagesOf
+returns c = let e : c .before .loop .j ≡ c .before .before .before .before .args .messages .count = omega arith in same (ap (λ (j : ℕ). numbered (messageText (c .before .before .before .before .args .name .now)) 0 (map (msgAt (c .before .before .before .before .args .messages)) (from 0 j))) e) (c .before .loop .inv .2)
+
+pub put-pass-spec : {M : Type 1} → statement M
+put-pass-spec =
+    tie.close
+    (tie.spec
+    Inv-loop
+    μ-loop
+    loop-holds
+    put-message-requires
+    add-j
+    loop-less
+    loop-again
+    same-length
+    returns)
