@@ -1,0 +1,42 @@
+-- `plan_text::put_plan` meets its contract: the forward lines, the backward lines, and the lines of the keys. Assumes nothing.
+use Rattle.plan.specs.Plan.{planOf}
+use Rattle.plan.proofs.Stepping.{ready-later}
+use Rattle.plan_text.specs.Text.{planText}
+use Rattle.plan_text.proofs.Putting.{both}
+use borrow.Author.Needs.{needs}
+use Rattle.plan_text.proofs.put_plan.Statement.{statement}
+use Rattle.plan_text.proofs.put_plan.Tie as tie
+
+slice-aggregate-put-pass : tie.Need-slice-aggregate-put-pass
+slice-aggregate-put-pass c = search needs
+
+put-pass-requires : tie.Need-put-pass-requires
+put-pass-requires c κs = ready-later (c .before .before .before .before .before .args .n) 32 (c .before .before .before .before .before .args .plan .forward) (c .before .before .before .before .before .args .plan .forward .active) (c .before .before .before .before .before .pre .0) (c .before .before .before .before .before .pre .1 .forward)
+
+slice-aggregate-put-pass-2 : tie.Need-slice-aggregate-put-pass-2
+slice-aggregate-put-pass-2 c = search needs
+
+put-pass-requires-2 : tie.Need-put-pass-requires-2
+put-pass-requires-2 c κs = ready-later (c .before .before .before .before .before .before .before .before .before .before .args .n) 32 (c .before .before .before .before .before .before .before .before .before .before .args .plan .backward) (c .before .before .before .before .before .before .before .before .before .before .args .plan .backward .active) (c .before .before .before .before .before .before .before .before .before .before .pre .0) (c .before .before .before .before .before .before .before .before .before .before .pre .1 .backward)
+
+put-keys-requires : tie.Need-put-keys-requires
+put-keys-requires c κs = search needs
+
+same-length : tie.Need-same-length
+same-length c = search needs
+
+returns : tie.Need-returns
+unfolding planText planOf
+returns c = both (both (c .before .before .before .before .before .before .before .before .before .before .before .put-pass .ensures) (c .before .before .before .before .before .before .put-pass2 .ensures)) (c .before .before .put-keys .ensures)
+
+pub put-plan-spec : {M : Type 1} → statement M
+put-plan-spec =
+    tie.close
+    (tie.spec
+    slice-aggregate-put-pass
+    put-pass-requires
+    slice-aggregate-put-pass-2
+    put-pass-requires-2
+    put-keys-requires
+    same-length
+    returns)
