@@ -2,3 +2,4 @@
 pub mod Putting
 pub mod Growing
 pub mod Answers
+pub mod Longest

@@ -51,3 +51,7 @@ readText (reading.Refused why place) g = refusalText (numberOf why) reading-stag
 
 unfoldable pub showText : List ℕ → List ℕ
 showText bytes = readText (readAll bytes (zeros factor-room) .answer .ended) (readAll bytes (zeros factor-room) .answer .graph)
+
+-- no text of a job's plan is longer
+abbrev pub text-room : ℕ
+text-room = 65536
