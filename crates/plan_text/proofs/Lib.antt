@@ -3,3 +3,4 @@ pub mod Putting
 pub mod Growing
 pub mod Answers
 pub mod Longest
+pub mod Examples

@@ -1,5 +1,5 @@
 -- How long the text of a plan can be, so that a caller can lend a buffer that is never too short. Assumes nothing.
-use Prim.Native.Nat.{ℕ, zero, suc, _+_, _-_, _*_, _≤_, _<_}
+use Prim.Native.Nat.{ℕ, zero, suc, _+_, _-_, _*_, _^_, _≤_, _<_}
 use mathlib.Core.Path.{_≡_, refl, sym, ap, _∙_}
 use mathlib.Core.Bool.{Bool, true, false}
 use mathlib.Core.List.{List, [], _∷_, _++_, map, reverse}
@@ -10,7 +10,9 @@ use lib.Dec.{ltb}
 use lib.ListN.{length, getD, take, drop, length-append, length-map, length-reverse}
 use Rattle.factor.specs.Limits.{max-variables}
 use Rattle.graph.specs.Record.{valid}
+use Rattle.graph.specs.Refusals.{numberOf}
 use Rattle.graph.specs.declared.Graph.{Graph}
+use Rattle.graph.specs.declared.refusal.Refusal.{Refusal}
 use Rattle.graph.proofs.Validity.{valid-variables}
 use Rattle.schedule.specs.Count.{count, joined, putIf, from, rising}
 use Rattle.schedule.specs.Pass.{ClosedFactor, at, full-pass}
@@ -32,8 +34,13 @@ use Rattle.messages.specs.Tables.{keysOf}
 use Rattle.solver.specs.Plan.{Answer, graphPlan, planned, read}
 use Rattle.solver.specs.declared.Arranged.{Arranged}
 use Rattle.solver.specs.declared.Outcome.the-variants.{Made}
-use Rattle.lines.specs.Lines.{space, fieldText}
+use Rattle.lines.specs.Lines.{space, fieldText, refusalText, written, laidIn}
+use Rattle.lines.specs.declared.Written.{Written}
+use Rattle.lines.proofs.Longest.{refusal-most}
 use Rattle.lines.proofs.Texts.{few-digits, field-length}
+use Rattle.job.specs.Job.{reading-stage}
+use Rattle.job.proofs.Endings.{Lays}
+use Rattle.job.proofs.Refusals.{number-most}
 use Rattle.plan_text.specs.Shown.{text-room}
 use Rattle.plan_text.specs.Text.{forwardWord, backwardWord, keyWord, stepWord, contentWord, keptWord, clearedWord, originalsWord, leavesWord, lastWord, slotText, namedText, listText, contentText, messageText, keyText, numbered, planText}
 use Rattle.plan_text.proofs.Answers.{arraysText}
@@ -160,3 +167,12 @@ arranged-most g made is v b =
     plan-most (made .keys) (made .plan) (omega arith) b
     (low-steps (made .plan .forward) _ n (ap (λ (x : Answer). x .plan .forward) e) few (λ j l. omega (arith, order-steps n (keysOf g) (from 0 (g .count)) (from 0 n) (λ i. refl) j l, length-from 0 n)))
     (low-steps (made .plan .backward) _ n (ap (λ (x : Answer). x .plan .backward) e) few (λ j l. omega (arith, order-steps n (keysOf g) (from 0 (g .count)) (reverse (from 0 n)) (λ i. count-reverse i (from 0 n)) j l, length-reverse (from 0 n), length-from 0 n)))
+
+-- ---- what a job shows
+
+pub refusal-within : (why : Refusal) (place : ℕ) → place < 2 ^ 64 → length (refusalText (numberOf why) reading-stage place) ≤ text-room
+refusal-within why place l = omega (arith, refusal-most (numberOf why) reading-stage place (omega (arith, number-most why)) (omega arith) l)
+
+-- an equal text is laid alike, and is as long
+pub all-same : (out s t : List ℕ) (r : Written) (after : List ℕ) → s ≡ t → Lays out s r after → length s ≤ text-room → (r ≡ written out t) × ((after ≡ laidIn out t) × (length t ≤ text-room))
+all-same out s t r after e p l = rw (← e) (p .0, (p .1, l))

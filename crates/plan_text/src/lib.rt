@@ -22,7 +22,7 @@ use solver::Outcome;
 ghost use mathlib.Core.Path.{_≡_};
 ghost use mathlib.Core.List.{[], _∷_, map};
 ghost use Prim.Native.Nat.{_≤_, _<_};
-ghost use lib.ListN.{take, drop};
+ghost use lib.ListN.{length, take, drop};
 ghost use Rattle.lines.specs.Lines.{decimal, fieldText, written, laidIn};
 ghost use Rattle.schedule.specs.Count.{joined, putIf};
 ghost use Rattle.plan.specs.Mask.{has, keysIn};
@@ -31,7 +31,10 @@ ghost use Rattle.plan.specs.Gather.{Held, gatheredOf};
 ghost use Rattle.plan.specs.Plan.{Bounded, planOf};
 ghost use Rattle.plan_text.specs.Putting.{Puts, next};
 ghost use Rattle.plan_text.specs.Text as spec;
-ghost use Rattle.plan_text.specs.Shown.{shown, shownIn, showText};
+ghost use Rattle.plan_text.specs.Shown.{shown, shownIn, showText, text-room};
+
+// Room for the text of any job's plan.
+pub const TEXT_ROOM: usize = 65536;
 
 // Places are counted so far.
 const LAST_PLACE: usize = 18446744073709551615;
@@ -277,10 +280,12 @@ pub fn lay_plan(g: Graph, out: &mut [u8]) -> Shown
     }
 }
 
-// The text of a job's plan, or the line of the refusal where reading the job is refused. A buffer that is too short for it is left as it was.
+// The text of a job's plan, or the line of the refusal where reading the job is refused, at the start of a lent buffer, and its length. A
+// buffer that is too short for it is left as it was. None of TEXT_ROOM bytes is.
 pub fn show(bytes: &[u8], out: &mut [u8]) -> Written
     ensures { λ r. ⌜ r ≡ written (now (out .entry)) (showText (now (bytes .entry))) ⌝ }
     ensures { λ _. ⌜ now (out .exit) ≡ laidIn (now (out .entry)) (showText (now (bytes .entry))) ⌝ }
+    ensures { λ _. ⌜ length (showText (now (bytes .entry))) ≤ text-room ⌝ }
 {
     let mut factors = [0.0; FACTOR_ROOM];
     let read = records::read(bytes, &mut factors);

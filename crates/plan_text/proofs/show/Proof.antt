@@ -1,7 +1,8 @@
 -- `plan_text::show` meets its contract: whichever way the reading ended, what is laid is the text of that ending. Assumes nothing.
+use native.Mathlib.Omega.{arith}
 use lib.Ieee.{ofBits}
-use Rattle.job.proofs.Endings.{lays-same}
 use Rattle.plan_text.proofs.Answers.{whole, refused}
+use Rattle.plan_text.proofs.Longest.{arranged-most, refusal-within, all-same}
 use borrow.Author.Needs.{needs}
 use Rattle.plan_text.proofs.show.Statement.{statement}
 use Rattle.plan_text.proofs.show.Tie as tie
@@ -32,14 +33,23 @@ same-length c = search needs
 
 returns : tie.Need-returns
 unfolding ofBits
-returns c = lays-same (c .before .before .before .before .before .before .before .before .before .before .before .before .before .before .args .out .now) _ _ _ _ (whole (c .before .before .before .before .before .before .before .before .before .before .before .before .before .before .args .bytes .now) (c .before .before .before .before .before .before .before .before .before .before .read .result) (c .before .before .before .before .before .before .before .before .before .before .read .ensures .0 .0) (c .before .before .before .before .before .arrange .result) (c .before .before .before .before .before .arrange .ensures .0) (c .before .before .before .before .before .before .before .before .before .before .read .ensures .0 .1) (c .before .before .before .before .before .before .enum-told .given .1)) (c .before .before .lay-arrays .ensures)
+returns c =
+    let args = c .before .before .before .before .before .before .before .before .before .before .before .before .before .before .args in
+    let read = c .before .before .before .before .before .before .before .before .before .before .read in
+    let arrange = c .before .before .before .before .before .arrange in
+    let text = whole (args .bytes .now) (read .result) (read .ensures .0 .0) (arrange .result) (arrange .ensures .0) (read .ensures .0 .1) (c .before .before .before .before .before .before .enum-told .given .1) in
+    all-same (args .out .now) _ _ _ _ text (c .before .before .lay-arrays .ensures) (arranged-most (read .result .graph) (arrange .result) (arrange .ensures .0) (read .ensures .0 .1) (arrange .ensures .1 .1))
 
 same-length-2 : tie.Need-same-length-2
 same-length-2 c = search needs
 
 returns-2 : tie.Need-returns-2
 unfolding ofBits
-returns-2 c = lays-same (c .before .before .before .before .before .before .before .before .before .before .before .before .before .args .out .now) _ _ _ _ (refused (c .before .before .before .before .before .before .before .before .before .before .before .before .before .args .bytes .now) (c .before .before .before .before .before .before .before .before .before .read .result) (c .before .before .before .before .before .before .before .before .before .read .ensures .0 .0) _ _ (c .before .before .before .before .before .ended .given .1)) (c .before .before .lay-refusal .ensures)
+returns-2 c =
+    let args = c .before .before .before .before .before .before .before .before .before .before .before .before .before .args in
+    let read = c .before .before .before .before .before .before .before .before .before .read in
+    let ended = c .before .before .before .before .before .ended .given in
+    all-same (args .out .now) _ _ _ _ (refused (args .bytes .now) (read .result) (read .ensures .0 .0) _ _ (ended .1)) (c .before .before .lay-refusal .ensures) (refusal-within (ended .0 .0) (ended .0 .1 .0) (omega arith))
 
 pub show-spec : {M : Type 1} → statement M
 show-spec =
