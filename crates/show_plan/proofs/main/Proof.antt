@@ -1,8 +1,8 @@
--- `show_plan::main` is safe: the input has room for the bytes that decide, the output for every text, and the length that is answered is within it. Assumes nothing.
+-- `show_plan::main` is safe: the input has room for the bytes that decide, the buffer for every text, and the length that is answered is within it. Assumes nothing.
 use mathlib.Core.Path.{sym, _∙_}
 use native.Mathlib.Omega.{arith}
 use borrow.Author.Tests.{le-leb}
-use Rattle.job.proofs.Endings.{written-within}
+use Rattle.job.proofs.Endings.{written-within, short-of}
 use borrow.Author.Needs.{needs}
 use Rattle.show_plan.proofs.main.Statement.{statement}
 use Rattle.show_plan.proofs.main.Tie as tie
@@ -53,7 +53,7 @@ enum-told : tie.Need-enum-told
 enum-told c = search needs
 
 expect-requires-2 : tie.Need-expect-requires-2
-expect-requires-2 c κs = absurd (omega (arith, told-short _ _ _ (c .before .before .before .show .ensures .0) (c .enum-told .given .1)))
+expect-requires-2 c κs = absurd (omega (arith, short-of _ _ _ (c .before .before .before .show .ensures .0) (c .enum-told .given .1), c .before .before .before .show .ensures .1 .1))
 
 returns : tie.Need-returns
 returns c = search needs
