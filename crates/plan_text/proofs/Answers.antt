@@ -13,11 +13,13 @@ use Rattle.records.specs.declared.answer.Ended.the-variants as reading
 use Rattle.plan.specs.Plan.{planOf}
 use Rattle.solver.specs.Plan.{Answer, graphPlan, planned, read}
 use Rattle.solver.specs.declared.Arranged.{Arranged}
-use Rattle.solver.specs.declared.Outcome.{Outcome}
+use Rattle.solver.specs.declared.Outcome.the-variants.{Made, Refused}
 use Rattle.lines.specs.Lines.{refusalText, written, laidIn}
 use Rattle.lines.specs.declared.Written.{Written}
 use Rattle.job.specs.Job.{factor-room, zeros, reading-stage}
+use Rattle.job.proofs.Endings.{Lays}
 use Rattle.plan_text.specs.Text.{planText}
+use Rattle.plan_text.specs.declared.Shown.the-variants as shows
 use Rattle.plan_text.specs.Shown.{endedAs, leftAs, shownOf, leftOf, shown, shownIn, readText, showText}
 
 -- the text of a plan in arrays
@@ -25,13 +27,21 @@ abbrev pub arraysText : Arranged → List ℕ
 arraysText made = planText (planOf (made .keys) (made .plan))
 
 module _ (g : Graph) (made : Arranged) (is : read made ≡ planned g) where
-  pub answered : (out : List ℕ) (o : Outcome) (w : Written) → made .outcome ≡ o → w ≡ written out (arraysText made) → endedAs o w ≡ shown g out
-  unfolding shown read
-  answered out o w e f = sym (ap₂ endedAs e (sym f)) ∙ ap (λ a. shownOf a out) is
+  -- the text is laid, or the buffer is too short for it
+  pub laid : (out : List ℕ) (w v : Written) (after : List ℕ) → made .outcome ≡ Made → w ≡ v → Lays out (arraysText made) w after → (endedAs Made v ≡ shown g out) × (after ≡ shownIn g out)
+  unfolding shown shownIn read
+  laid out w v after e f p = (
+    sym (ap₂ endedAs e (sym (p .0) ∙ f)) ∙ ap (λ a. shownOf a out) is,
+    p .1 ∙ sym (ap (λ o. leftAs o out (laidIn out (arraysText made))) e) ∙ ap (λ a. leftOf a out) is,
+  )
 
-  pub left : (out : List ℕ) (o : Outcome) → made .outcome ≡ o → leftAs o out (laidIn out (arraysText made)) ≡ shownIn g out
-  unfolding shownIn read
-  left out o e = sym (ap (λ x. leftAs x out (laidIn out (arraysText made))) e) ∙ ap (λ a. leftOf a out) is
+  -- the graph is refused
+  pub turned-back : (out : List ℕ) (why : Refusal) → made .outcome ≡ Refused why → (shows.Refused why ≡ shown g out) × (out ≡ shownIn g out)
+  unfolding shown shownIn read
+  turned-back out why e = (
+    sym (ap (λ o. endedAs o (written out (arraysText made))) e) ∙ ap (λ a. shownOf a out) is,
+    sym (ap (λ o. leftAs o out (laidIn out (arraysText made))) e) ∙ ap (λ a. leftOf a out) is,
+  )
 
   arrays-text : valid g ≡ true → arraysText made ≡ planText (graphPlan g)
   unfolding planned read

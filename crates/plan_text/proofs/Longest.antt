@@ -50,8 +50,14 @@ use Rattle.plan_text.proofs.Growing.{joined-nil, joined-one, joined-map
 grown-most : (t s : ℕ → List ℕ) (most n : ℕ) → [] ≡ t 0 → ((k : ℕ) → k < n → t k ++ s k ≡ t (k + 1)) → ((k : ℕ) → k < n → length (s k) ≤ most) → length (t n) ≤ most * n
 grown-most t s most zero e more few = omega (arith, ap length e)
 grown-most t s most (suc n) e more few =
-    omega (arith, ap length (more n (omega arith)), length-append (t n) (s n), few n (omega arith),
-    grown-most t s most n e (λ k l. more k (omega arith)) (λ k l. few k (omega arith)), ap (λ (k : ℕ). length (t k)) (add-one n))
+    omega (
+      arith,
+      ap length (more n (omega arith)),
+      length-append (t n) (s n),
+      few n (omega arith),
+      grown-most t s most n e (λ k l. more k (omega arith)) (λ k l. few k (omega arith)),
+      ap (λ (k : ℕ). length (t k)) (add-one n),
+    )
 
 -- ---- the parts of a line
 
@@ -84,8 +90,11 @@ member-most false k l = rw (joined-nil fieldText) (omega arith)
 set-most : (word : List ℕ) (set : ℕ) → length (listText word (keysIn set)) ≤ length word + 96
 unfolding listText keysIn
 set-most word set =
-    omega (arith, length-append word (joined fieldText (rising 32 (λ i. has i set))),
-    grown-most (λ k. joined fieldText (rising k (λ i. has i set))) (λ k. joined fieldText (putIf (has k set) k [])) 3 32 (member-none fieldText (λ i. has i set)) (λ k l. member-more fieldText (λ i. has i set) k) (λ k l. member-most (has k set) k (omega arith)))
+    omega (
+      arith,
+      length-append word (joined fieldText (rising 32 (λ i. has i set))),
+      grown-most (λ k. joined fieldText (rising k (λ i. has i set))) (λ k. joined fieldText (putIf (has k set) k [])) 3 32 (member-none fieldText (λ i. has i set)) (λ k l. member-more fieldText (λ i. has i set) k) (λ k l. member-most (has k set) k (omega arith)),
+    )
 
 named-most : (word : List ℕ) (x : ℕ) → x < 100 → length (namedText word x) ≤ length word + 3
 unfolding namedText
@@ -94,15 +103,24 @@ named-most word x l = omega (arith, length-append word (fieldText x), field-most
 items-most : (word items : List ℕ) (a b : ℕ) → a ≤ b → Items b items → length (listText word (drop a (take b items))) ≤ length word + 192
 unfolding listText
 items-most word items a b o h =
-    omega (arith, length-append word (joined fieldText (drop a (take b items))), h .few,
-    part-most fieldText items 3 a b o (omega (arith, h .few, h .long)) (λ i l. field-most (getD items i 0) (omega (arith, h .low i l))))
+    omega (
+      arith,
+      length-append word (joined fieldText (drop a (take b items))),
+      h .few,
+      part-most fieldText items 3 a b o (omega (arith, h .few, h .long)) (λ i l. field-most (getD items i 0) (omega (arith, h .low i l))),
+    )
 
 content-most : (content : List ℕ) (a b used : ℕ) → a ≤ b → b ≤ used → Codes used content → length (contentText (map slotOf (drop a (take b content)))) ≤ 392
 unfolding contentText
 content-most content a b used o u h =
     let e = joined-map slotText slotOf (drop a (take b content)) in
-    omega (arith, length-append contentWord (joined slotText (map slotOf (drop a (take b content)))), ap length e, h .few,
-    part-most (λ s. slotText (slotOf s)) content 4 a b o (omega (arith, h .few, h .long)) (λ i l. slot-most (getD content i 0) (h .low i (omega arith))))
+    omega (
+      arith,
+      length-append contentWord (joined slotText (map slotOf (drop a (take b content)))),
+      ap length e,
+      h .few,
+      part-most (λ s. slotText (slotOf s)) content 4 a b o (omega (arith, h .few, h .long)) (λ i l. slot-most (getD content i 0) (h .low i (omega arith))),
+    )
 
 -- ---- the lines
 
@@ -113,9 +131,14 @@ LowSteps p = (j : ℕ) → j < p .count → getD (p .steps) j 0 < 100
 message-most : (name : List ℕ) (p : Pass) (j : ℕ) → length name ≤ 8 → Ready 32 p → LowSteps p → j < p .count → length (messageText name j (msgAt p j)) ≤ 617
 unfolding messageText msgAt
 message-most name p j few ready low l =
-    simp length-append (omega (arith, named-most name j (omega (arith, ready .few)), named-most stepWord (getD (p .steps) j 0) (low j l),
-    content-most (p .board .content) (getD (p .starts) j 0) (getD (p .ends) j 0) (p .board .filled) (ready .ordered j l) (ready .closed j l) (ready .room .contents),
-    set-most keptWord (getD (drop 64 (p .masks)) j 0), set-most clearedWord (getD (p .cleared) j 0)))
+    simp length-append (omega (
+      arith,
+      named-most name j (omega (arith, ready .few)),
+      named-most stepWord (getD (p .steps) j 0) (low j l),
+      content-most (p .board .content) (getD (p .starts) j 0) (getD (p .ends) j 0) (p .board .filled) (ready .ordered j l) (ready .closed j l) (ready .room .contents),
+      set-most keptWord (getD (drop 64 (p .masks)) j 0),
+      set-most clearedWord (getD (p .cleared) j 0),
+    ))
 
 pass-most : (name : List ℕ) (p : Pass) → length name ≤ 8 → Ready 32 p → LowSteps p → length (numbered (messageText name) 0 (messagesOf p)) ≤ 617 * p .count
 unfolding messagesOf
@@ -125,9 +148,15 @@ pass-most name p few ready low =
 key-most : (k : ℕ) (q : Gathered) → k < 32 → Held q → length (keyText k (gatheredOf q)) ≤ 718
 unfolding keyText gatheredOf
 key-most k q l held =
-    simp length-append (omega (arith, named-most keyWord k (omega arith), set-most (space ∷ forwardWord) (q .forward), set-most (space ∷ backwardWord) (q .backward),
-    items-most originalsWord (q .items) (q .covered) (q .count) (held .covered) (held .items), items-most leavesWord (q .items) 0 (q .count) (omega arith) (held .items),
-    set-most lastWord (q .last)))
+    simp length-append (omega (
+      arith,
+      named-most keyWord k (omega arith),
+      set-most (space ∷ forwardWord) (q .forward),
+      set-most (space ∷ backwardWord) (q .backward),
+      items-most originalsWord (q .items) (q .covered) (q .count) (held .covered) (held .items),
+      items-most leavesWord (q .items) 0 (q .count) (omega arith) (held .items),
+      set-most lastWord (q .last),
+    ))
 
 keys-most : (n : ℕ) (p : Plan) → n ≤ 32 → Bounded n p → length (numbered keyText 0 (map gatheredOf (take n (p .at)))) ≤ 718 * n
 keys-most n p few b =

@@ -110,7 +110,9 @@ put-decimal-returns-2 : (t : ℕ) → put-decimal-lts.Need-returns-2 (
   put-decimal-below t,
   put-decimal.Post,
 ) (put-decimal-at t) put-decimal.Post
-put-decimal-returns-2 t c = same (sym (more-digits (c .before .before .before .before .before .before .before .before .before .before .args .x) (c .before .before .before .before .before .before .before .before .if1 .left))) (both (c .before .before .before .before .before .before .put-decimal .ensures) (c .before .before .put2 .ensures))
+put-decimal-returns-2 t c =
+    let args = c .before .before .before .before .before .before .before .before .before .before .args in
+    same (sym (more-digits (args .x) (c .before .before .before .before .before .before .before .before .if1 .left))) (both (c .before .before .before .before .before .before .put-decimal .ensures) (c .before .before .put2 .ensures))
 
 pub +put-decimal-spec : {M : Type 1} → statement M
 +put-decimal-spec = close μ-put-decimal λ t. put-decimal-lts.spec (

@@ -14,7 +14,10 @@ put-plan-requires : tie.Need-put-plan-requires
 put-plan-requires c κs = search needs
 
 returns : tie.Need-returns
-returns c = short (c .before .before .before .before .before .args .out .now) (planText (planOf (c .before .before .before .before .before .args .n) (c .before .before .before .before .before .args .plan))) (c .before .before .put-plan .result) (c .before .before .put-plan .ensures .place) (c .if1 .taken)
+returns c =
+    let args = c .before .before .before .before .before .args in
+    let first = c .before .before .put-plan in
+    short (args .out .now) (planText (planOf (args .n) (args .plan))) (first .result) (first .ensures .place) (c .if1 .taken)
 
 put-plan-requires-2 : tie.Need-put-plan-requires-2
 put-plan-requires-2 c κs = search needs
@@ -23,7 +26,10 @@ same-length : tie.Need-same-length
 same-length c = search needs
 
 returns-2 : tie.Need-returns-2
-returns-2 c = whole (c .before .before .before .before .before .before .before .before .before .args .out .now) _ (planText (planOf (c .before .before .before .before .before .before .before .before .before .args .n) (c .before .before .before .before .before .before .before .before .before .args .plan))) (c .before .before .before .before .before .before .put-plan .result) (c .before .before .before .before .before .before .put-plan .ensures .place) (omega arith) (omega arith) (c .before .before .put-plan2 .ensures .buffer)
+returns-2 c =
+    let args = c .before .before .before .before .before .before .before .before .before .args in
+    let first = c .before .before .before .before .before .before .put-plan in
+    whole (args .out .now) _ (planText (planOf (args .n) (args .plan))) (first .result) (first .ensures .place) (omega arith) (omega arith) (c .before .before .put-plan2 .ensures .buffer)
 
 pub lay-arrays-spec : {M : Type 1} → statement M
 lay-arrays-spec =

@@ -1,6 +1,5 @@
 -- `plan_text::lay_plan` meets its contract: by the plan's outcome, and then by that of the laying. Assumes nothing.
-use mathlib.Core.Path.{refl, sym, _∙_}
-use Rattle.plan_text.proofs.Answers.{answered, left}
+use Rattle.plan_text.proofs.Answers.{laid, turned-back}
 use borrow.Author.Needs.{needs}
 use Rattle.plan_text.proofs.lay_plan.Statement.{statement}
 use Rattle.plan_text.proofs.lay_plan.Tie as tie
@@ -27,16 +26,25 @@ same-length : tie.Need-same-length
 same-length c = search needs
 
 returns : tie.Need-returns
-returns c = (answered (c .before .before .before .before .before .before .before .before .before .before .before .before .args .g) (c .before .before .before .before .before .before .before .before .before .before .arrange .result) (c .before .before .before .before .before .before .before .before .before .before .arrange .ensures .0) (c .before .before .before .before .before .before .before .before .before .before .before .before .args .out .now) _ _ (c .before .before .before .before .before .before .before .enum-told .given .1) (sym (c .before .n .given .1) ∙ c .before .before .before .before .before .lay-arrays .ensures .0), c .before .before .before .before .before .lay-arrays .ensures .1 ∙ left (c .before .before .before .before .before .before .before .before .before .before .before .before .args .g) (c .before .before .before .before .before .before .before .before .before .before .arrange .result) (c .before .before .before .before .before .before .before .before .before .before .arrange .ensures .0) (c .before .before .before .before .before .before .before .before .before .before .before .before .args .out .now) _ (c .before .before .before .before .before .before .before .enum-told .given .1))
+returns c =
+    let args = c .before .before .before .before .before .before .before .before .before .before .before .before .args in
+    let arrange = c .before .before .before .before .before .before .before .before .before .before .arrange in
+    laid (args .g) (arrange .result) (arrange .ensures .0) (args .out .now) _ _ _ (c .before .before .before .before .before .before .before .enum-told .given .1) (c .before .n .given .1) (c .before .before .before .before .before .lay-arrays .ensures)
 
 same-length-2 : tie.Need-same-length-2
 same-length-2 c = search needs
 
 returns-2 : tie.Need-returns-2
-returns-2 c = (answered (c .before .before .before .before .before .before .before .before .before .before .before .args .g) (c .before .before .before .before .before .before .before .before .before .arrange .result) (c .before .before .before .before .before .before .before .before .before .arrange .ensures .0) (c .before .before .before .before .before .before .before .before .before .before .before .args .out .now) _ _ (c .before .before .before .before .before .before .enum-told .given .1) (sym (c .enum-told2 .given .1) ∙ c .before .before .before .before .lay-arrays .ensures .0), c .before .before .before .before .lay-arrays .ensures .1 ∙ left (c .before .before .before .before .before .before .before .before .before .before .before .args .g) (c .before .before .before .before .before .before .before .before .before .arrange .result) (c .before .before .before .before .before .before .before .before .before .arrange .ensures .0) (c .before .before .before .before .before .before .before .before .before .before .before .args .out .now) _ (c .before .before .before .before .before .before .enum-told .given .1))
+returns-2 c =
+    let args = c .before .before .before .before .before .before .before .before .before .before .before .args in
+    let arrange = c .before .before .before .before .before .before .before .before .before .arrange in
+    laid (args .g) (arrange .result) (arrange .ensures .0) (args .out .now) _ _ _ (c .before .before .before .before .before .before .enum-told .given .1) (c .enum-told2 .given .1) (c .before .before .before .before .lay-arrays .ensures)
 
 returns-3 : tie.Need-returns-3
-returns-3 c = (answered (c .before .before .before .before .before .before .args .g) (c .before .before .before .before .arrange .result) (c .before .before .before .before .arrange .ensures .0) (c .before .before .before .before .before .before .args .out .now) _ _ (c .before .outcome .given .1) refl, left (c .before .before .before .before .before .before .args .g) (c .before .before .before .before .arrange .result) (c .before .before .before .before .arrange .ensures .0) (c .before .before .before .before .before .before .args .out .now) _ (c .before .outcome .given .1))
+returns-3 c =
+    let args = c .before .before .before .before .before .before .args in
+    let arrange = c .before .before .before .before .arrange in
+    turned-back (args .g) (arrange .result) (arrange .ensures .0) (args .out .now) _ (c .before .outcome .given .1)
 
 pub lay-plan-spec : {M : Type 1} → statement M
 lay-plan-spec =

@@ -10,7 +10,9 @@ after-requires : tie.Need-after-requires
 after-requires c κs = search needs
 
 returns : tie.Need-returns
-returns c = one _ _ (c .before .before .before .args .at) _ (c .before .before .before .args .byte) (sym (set-out _ _ _ (c .before .if1 .taken))) (c .after .ensures)
+returns c =
+    let args = c .before .before .before .args in
+    one _ _ (args .at) _ (args .byte) (sym (set-out _ _ _ (c .before .if1 .taken))) (c .after .ensures)
 
 slice-write-out : tie.Need-slice-write-out
 slice-write-out c = search needs

@@ -30,7 +30,9 @@ put-word-requires : tie.Need-put-word-requires Inv-loop μ-loop
 put-word-requires c κs = search needs
 
 loop-holds : tie.Need-loop-holds Inv-loop μ-loop
-loop-holds c = (omega arith, c .before .before .before .before .before .before .pre .0, same (part-none text (c .before .before .before .before .before .before .args .t3) (c .before .before .before .before .before .before .args .from)) none)
+loop-holds c =
+    let args = c .before .before .before .before .before .before .args in
+    (omega arith, c .before .before .before .before .before .before .pre .0, same (part-none text (args .t3) (args .from)) none)
 
 array-read-s : tie.Need-array-read-s Inv-loop μ-loop
 array-read-s c = search needs
@@ -48,14 +50,21 @@ loop-less : tie.Need-loop-less Inv-loop μ-loop
 loop-less c = search needs
 
 loop-again : tie.Need-loop-again Inv-loop μ-loop
-loop-again c = (omega arith, omega arith, same (part-more text (c .before .before .before .before .before .before .before .before .before .before .before .before .args .t3) (c .before .before .before .before .before .before .before .before .before .before .before .before .args .from) (c .before .before .before .before .before .loop .i) (c .before .before .before .before .before .loop .inv .0) (omega arith)) (both (c .before .before .before .before .before .loop .inv .2) (c .before .before .put-slot .ensures)))
+loop-again c =
+    let args = c .before .before .before .before .before .before .before .before .before .before .before .before .args in
+    let loop = c .before .before .before .before .before .loop in
+    (omega arith, omega arith, same (part-more text (args .t3) (args .from) (loop .i) (loop .inv .0) (omega arith)) (both (loop .inv .2) (c .before .before .put-slot .ensures)))
 
 same-length : tie.Need-same-length Inv-loop μ-loop
 same-length c = long (both (c .before .before .before .before .put-word .ensures) (c .before .loop .inv .2))
 
 returns : tie.Need-returns Inv-loop μ-loop
 unfolding contentText
-returns c = let e : c .before .loop .i ≡ c .before .before .before .before .before .before .before .before .args .end = omega arith in both (c .before .before .before .before .put-word .ensures) (same (ap (λ (i : ℕ). joined text (drop (c .before .before .before .before .before .before .before .before .args .from) (take i (c .before .before .before .before .before .before .before .before .args .t3)))) e ∙ joined-map slotText slotOf (drop (c .before .before .before .before .before .before .before .before .args .from) (take (c .before .before .before .before .before .before .before .before .args .end) (c .before .before .before .before .before .before .before .before .args .t3)))) (c .before .loop .inv .2))
+returns c =
+    let args = c .before .before .before .before .before .before .before .before .args in
+    let loop = c .before .loop in
+    let e : loop .i ≡ args .end = omega arith in
+    both (c .before .before .before .before .put-word .ensures) (same (ap (λ (i : ℕ). joined text (drop (args .from) (take i (args .t3)))) e ∙ joined-map slotText slotOf (drop (args .from) (take (args .end) (args .t3)))) (loop .inv .2))
 
 pub put-content-spec : {M : Type 1} → statement M
 put-content-spec =

@@ -23,7 +23,9 @@ put-word-requires : tie.Need-put-word-requires Inv-loop μ-loop
 put-word-requires c κs = search needs
 
 loop-holds : tie.Need-loop-holds Inv-loop μ-loop
-loop-holds c = (omega arith, c .before .before .before .before .before .before .pre .0, same (part-none fieldText (c .before .before .before .before .before .before .args .t4) (c .before .before .before .before .before .before .args .from)) none)
+loop-holds c =
+    let args = c .before .before .before .before .before .before .args in
+    (omega arith, c .before .before .before .before .before .before .pre .0, same (part-none fieldText (args .t4) (args .from)) none)
 
 array-read-x : tie.Need-array-read-x Inv-loop μ-loop
 array-read-x c = search needs
@@ -41,14 +43,21 @@ loop-less : tie.Need-loop-less Inv-loop μ-loop
 loop-less c = search needs
 
 loop-again : tie.Need-loop-again Inv-loop μ-loop
-loop-again c = (omega arith, omega arith, same (part-more fieldText (c .before .before .before .before .before .before .before .before .before .before .before .before .args .t4) (c .before .before .before .before .before .before .before .before .before .before .before .before .args .from) (c .before .before .before .before .before .loop .i) (c .before .before .before .before .before .loop .inv .0) (omega arith)) (both (c .before .before .before .before .before .loop .inv .2) (c .before .before .put-number .ensures)))
+loop-again c =
+    let args = c .before .before .before .before .before .before .before .before .before .before .before .before .args in
+    let loop = c .before .before .before .before .before .loop in
+    (omega arith, omega arith, same (part-more fieldText (args .t4) (args .from) (loop .i) (loop .inv .0) (omega arith)) (both (loop .inv .2) (c .before .before .put-number .ensures)))
 
 same-length : tie.Need-same-length Inv-loop μ-loop
 same-length c = long (both (c .before .before .before .before .put-word .ensures) (c .before .loop .inv .2))
 
 returns : tie.Need-returns Inv-loop μ-loop
 unfolding listText
-returns c = let e : c .before .loop .i ≡ c .before .before .before .before .before .before .before .before .args .end = omega arith in both (c .before .before .before .before .put-word .ensures) (same (ap (λ (i : ℕ). joined fieldText (drop (c .before .before .before .before .before .before .before .before .args .from) (take i (c .before .before .before .before .before .before .before .before .args .t4)))) e) (c .before .loop .inv .2))
+returns c =
+    let args = c .before .before .before .before .before .before .before .before .args in
+    let loop = c .before .loop in
+    let e : loop .i ≡ args .end = omega arith in
+    both (c .before .before .before .before .put-word .ensures) (same (ap (λ (i : ℕ). joined fieldText (drop (args .from) (take i (args .t4)))) e) (loop .inv .2))
 
 pub put-items-spec : {M : Type 1} → statement M
 put-items-spec =

@@ -45,12 +45,20 @@ put-set-requires-3 c κs = search needs
 put-requires : tie.Need-put-requires
 put-requires c κs = search needs
 
-same-length : tie.Need-same-length
-same-length c = long (both (both (both (both (both (both (c .before .before .before .before .before .before .before .before .before .before .before .before .before .before .before .before .before .before .before .before .before .before .before .before .before .before .before .before .before .before .before .put-named .ensures) (c .before .before .before .before .before .before .before .before .before .before .before .before .before .before .before .before .before .before .before .before .before .before .before .before .before .before .put-set .ensures)) (c .before .before .before .before .before .before .before .before .before .before .before .before .before .before .before .before .before .before .before .before .before .put-set2 .ensures)) (c .before .before .before .before .before .before .before .before .before .before .before .before .before .before .before .before .put-items .ensures)) (c .before .before .before .before .before .before .before .before .before .before .before .put-items2 .ensures)) (c .before .before .before .before .before .before .put-set3 .ensures)) (c .before .before .put .ensures))
-
 returns : tie.Need-returns
 unfolding keyText gatheredOf
-returns c = both (both (both (both (both (both (c .before .before .before .before .before .before .before .before .before .before .before .before .before .before .before .before .before .before .before .before .before .before .before .before .before .before .before .before .before .before .before .put-named .ensures) (c .before .before .before .before .before .before .before .before .before .before .before .before .before .before .before .before .before .before .before .before .before .before .before .before .before .before .put-set .ensures)) (c .before .before .before .before .before .before .before .before .before .before .before .before .before .before .before .before .before .before .before .before .before .put-set2 .ensures)) (c .before .before .before .before .before .before .before .before .before .before .before .before .before .before .before .before .put-items .ensures)) (c .before .before .before .before .before .before .before .before .before .before .before .put-items2 .ensures)) (c .before .before .before .before .before .before .put-set3 .ensures)) (c .before .before .put .ensures)
+returns c =
+    let lead = c .before .before .before .before .before .before .before .before .before .before .before .before .before .before .before .before .before .before .before .before .before .before .before .before .before .before .before .before .before .before .before .put-named .ensures in
+    let forward = c .before .before .before .before .before .before .before .before .before .before .before .before .before .before .before .before .before .before .before .before .before .before .before .before .before .before .put-set .ensures in
+    let backward = c .before .before .before .before .before .before .before .before .before .before .before .before .before .before .before .before .before .before .before .before .before .put-set2 .ensures in
+    let originals = c .before .before .before .before .before .before .before .before .before .before .before .before .before .before .before .before .put-items .ensures in
+    let leaves = c .before .before .before .before .before .before .before .before .before .before .before .put-items2 .ensures in
+    let last = c .before .before .before .before .before .before .put-set3 .ensures in
+    let end = c .before .before .put .ensures in
+    both (both (both (both (both (both lead forward) backward) originals) leaves) last) end
+
+same-length : tie.Need-same-length
+same-length c = long (returns c)
 
 pub put-key-spec : {M : Type 1} → statement M
 put-key-spec =

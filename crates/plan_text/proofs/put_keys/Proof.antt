@@ -39,13 +39,21 @@ loop-less : tie.Need-loop-less Inv-loop μ-loop
 loop-less c = omega arith
 
 loop-again : tie.Need-loop-again Inv-loop μ-loop
-loop-again c = (omega arith, same (taken-more keyText gatheredOf (c .before .before .before .before .before .before .before .before .args .t3 .at) (c .before .before .before .before .before .before .loop .k) noGathered (omega (arith, c .before .before .before .before .before .before .before .before .pre .0, c .before .before .before .before .before .before .before .before .pre .1 .long))) (both (c .before .before .before .before .before .before .loop .inv .1) (c .before .before .put-key .ensures)))
+loop-again c =
+    let args = c .before .before .before .before .before .before .before .before .args in
+    let pre = c .before .before .before .before .before .before .before .before .pre in
+    let loop = c .before .before .before .before .before .before .loop in
+    (omega arith, same (taken-more keyText gatheredOf (args .t3 .at) (loop .k) noGathered (omega (arith, pre .0, pre .1 .long))) (both (loop .inv .1) (c .before .before .put-key .ensures)))
 
 same-length : tie.Need-same-length Inv-loop μ-loop
 same-length c = long (c .before .loop .inv .1)
 
 returns : tie.Need-returns Inv-loop μ-loop
-returns c = let e : c .before .loop .k ≡ c .before .before .before .args .n = omega arith in same (ap (λ (k : ℕ). numbered keyText 0 (map gatheredOf (take k (c .before .before .before .args .t3 .at)))) e) (c .before .loop .inv .1)
+returns c =
+    let args = c .before .before .before .args in
+    let loop = c .before .loop in
+    let e : loop .k ≡ args .n = omega arith in
+    same (ap (λ (k : ℕ). numbered keyText 0 (map gatheredOf (take k (args .t3 .at)))) e) (loop .inv .1)
 
 pub put-keys-spec : {M : Type 1} → statement M
 put-keys-spec =

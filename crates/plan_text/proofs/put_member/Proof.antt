@@ -15,7 +15,10 @@ single-requires : tie.Need-single-requires
 single-requires c κs = search needs
 
 returns : tie.Need-returns
-returns c = same (sym (ap (λ (b : Bool). joined fieldText (putIf b (c .before .before .before .args .k) [])) (off-set (c .before .before .before .args .set) (c .before .before .before .args .k) (c .before .single .result) (c .before .single .ensures) (c .if1 .taken)) ∙ joined-nil fieldText)) none
+returns c =
+    let args = c .before .before .before .args in
+    let single = c .before .single in
+    same (sym (ap (λ (b : Bool). joined fieldText (putIf b (args .k) [])) (off-set (args .set) (args .k) (single .result) (single .ensures) (c .if1 .taken)) ∙ joined-nil fieldText)) none
 
 put-number-requires : tie.Need-put-number-requires
 put-number-requires c κs = search needs
@@ -24,7 +27,10 @@ same-length : tie.Need-same-length
 same-length c = search needs
 
 returns-2 : tie.Need-returns-2
-returns-2 c = same (sym (ap (λ (b : Bool). joined fieldText (putIf b (c .before .before .before .before .before .before .before .args .k) [])) (in-set (c .before .before .before .before .before .before .before .args .set) (c .before .before .before .before .before .before .before .args .k) (c .before .before .before .before .before .single .result) (c .before .before .before .before .before .single .ensures) (c .before .before .before .before .if1 .left)) ∙ joined-one fieldText (c .before .before .before .before .before .before .before .args .k))) (c .before .before .put-number .ensures)
+returns-2 c =
+    let args = c .before .before .before .before .before .before .before .args in
+    let single = c .before .before .before .before .before .single in
+    same (sym (ap (λ (b : Bool). joined fieldText (putIf b (args .k) [])) (in-set (args .set) (args .k) (single .result) (single .ensures) (c .before .before .before .before .if1 .left)) ∙ joined-one fieldText (args .k))) (c .before .before .put-number .ensures)
 
 pub put-member-spec : {M : Type 1} → statement M
 put-member-spec =

@@ -15,7 +15,11 @@ use borrow.Author.Needs.{needs}
 use Rattle.plan_text.proofs.put_message.Statement.{statement}
 use Rattle.plan_text.proofs.put_message.Tie as tie
 
-line : (name : List ℕ) (p : Pass) (j : ℕ) → namedText name j ++ namedText stepWord (getD (p .steps) j 0) ++ contentText (map slotOf (drop (getD (p .starts) j 0) (take (getD (p .ends) j 0) (p .board .content)))) ++ listText keptWord (keysIn (getD (p .masks) (64 + j) 0)) ++ listText clearedWord (keysIn (getD (p .cleared) j 0)) ++ (feed ∷ []) ≡ messageText name j (msgAt p j)
+-- the parts of the line are those of the definition
+line : (name : List ℕ) (p : Pass) (j : ℕ) → namedText name j ++ namedText stepWord (getD (p .steps) j 0)
+    ++ contentText (map slotOf (drop (getD (p .starts) j 0) (take (getD (p .ends) j 0) (p .board .content))))
+    ++ listText keptWord (keysIn (getD (p .masks) (64 + j) 0)) ++ listText clearedWord (keysIn (getD (p .cleared) j 0)) ++ (feed ∷ [])
+    ≡ messageText name j (msgAt p j)
 unfolding messageText msgAt
 line name p j = rw (getD-drop 64 (p .masks) j 0)
 
@@ -62,7 +66,10 @@ put-named-requires-2 : tie.Need-put-named-requires-2
 put-named-requires-2 c κs = search needs
 
 put-content-requires : tie.Need-put-content-requires
-put-content-requires c κs = (c .before .before .before .before .before .before .before .before .before .before .before .before .before .before .before .before .before .before .before .pre .0 .ordered (c .before .before .before .before .before .before .before .before .before .before .before .before .before .before .before .before .before .before .before .args .j) (c .before .before .before .before .before .before .before .before .before .before .before .before .before .before .before .before .before .before .before .pre .1), omega (arith, c .before .before .before .before .before .before .before .before .before .before .before .before .before .before .before .before .before .before .before .pre .0 .closed (c .before .before .before .before .before .before .before .before .before .before .before .before .before .before .before .before .before .before .before .args .j) (c .before .before .before .before .before .before .before .before .before .before .before .before .before .before .before .before .before .before .before .pre .1), c .before .before .before .before .before .before .before .before .before .before .before .before .before .before .before .before .before .before .before .pre .0 .room .contents .few))
+put-content-requires c κs =
+    let args = c .before .before .before .before .before .before .before .before .before .before .before .before .before .before .before .before .before .before .before .args in
+    let pre = c .before .before .before .before .before .before .before .before .before .before .before .before .before .before .before .before .before .before .before .pre in
+    (pre .0 .ordered (args .j) (pre .1), omega (arith, pre .0 .closed (args .j) (pre .1), pre .0 .room .contents .few))
 
 slice-aggregate-put-set : tie.Need-slice-aggregate-put-set
 slice-aggregate-put-set c = search needs
@@ -83,7 +90,15 @@ same-length : tie.Need-same-length
 same-length c = search needs
 
 returns : tie.Need-returns
-returns c = same (line (c .before .before .before .before .before .before .before .before .before .before .before .before .before .before .before .before .before .before .before .before .before .before .before .before .before .before .before .before .before .before .before .before .before .before .before .before .args .name .now) (c .before .before .before .before .before .before .before .before .before .before .before .before .before .before .before .before .before .before .before .before .before .before .before .before .before .before .before .before .before .before .before .before .before .before .before .before .args .t4) (c .before .before .before .before .before .before .before .before .before .before .before .before .before .before .before .before .before .before .before .before .before .before .before .before .before .before .before .before .before .before .before .before .before .before .before .before .args .j)) (both (both (both (both (both (c .before .before .before .before .before .before .before .before .before .before .before .before .before .before .before .before .before .before .before .before .before .before .before .before .before .put-named .ensures) (c .before .before .before .before .before .before .before .before .before .before .before .before .before .before .before .before .before .before .before .before .put-named2 .ensures)) (c .before .before .before .before .before .before .before .before .before .before .before .before .before .before .before .before .put-content .ensures)) (c .before .before .before .before .before .before .before .before .before .before .before .put-set .ensures)) (c .before .before .before .before .before .before .put-set2 .ensures)) (c .before .before .put .ensures))
+returns c =
+    let args = c .before .before .before .before .before .before .before .before .before .before .before .before .before .before .before .before .before .before .before .before .before .before .before .before .before .before .before .before .before .before .before .before .before .before .before .before .args in
+    let lead = c .before .before .before .before .before .before .before .before .before .before .before .before .before .before .before .before .before .before .before .before .before .before .before .before .before .put-named .ensures in
+    let step = c .before .before .before .before .before .before .before .before .before .before .before .before .before .before .before .before .before .before .before .before .put-named2 .ensures in
+    let content = c .before .before .before .before .before .before .before .before .before .before .before .before .before .before .before .before .put-content .ensures in
+    let kept = c .before .before .before .before .before .before .before .before .before .before .before .put-set .ensures in
+    let cleared = c .before .before .before .before .before .before .put-set2 .ensures in
+    let end = c .before .before .put .ensures in
+    same (line (args .name .now) (args .t4) (args .j)) (both (both (both (both (both lead step) content) kept) cleared) end)
 
 pub put-message-spec : {M : Type 1} → statement M
 put-message-spec =

@@ -32,14 +32,21 @@ loop-less : tie.Need-loop-less Inv-loop μ-loop
 loop-less c = omega arith
 
 loop-again : tie.Need-loop-again Inv-loop μ-loop
-loop-again c = (c .before .before .before .before .before .loop .inv .0, omega arith, same (given-more (messageText (c .before .before .before .before .before .before .before .before .args .name .now)) (msgAt (c .before .before .before .before .before .before .before .before .args .messages)) (c .before .before .before .before .before .loop .j)) (both (c .before .before .before .before .before .loop .inv .2) (c .before .before .put-message .ensures)))
+loop-again c =
+    let args = c .before .before .before .before .before .before .before .before .args in
+    let loop = c .before .before .before .before .before .loop in
+    (loop .inv .0, omega arith, same (given-more (messageText (args .name .now)) (msgAt (args .messages)) (loop .j)) (both (loop .inv .2) (c .before .before .put-message .ensures)))
 
 same-length : tie.Need-same-length Inv-loop μ-loop
 same-length c = long (c .before .loop .inv .2)
 
 returns : tie.Need-returns Inv-loop μ-loop
 unfolding messagesOf
-returns c = let e : c .before .loop .j ≡ c .before .before .before .before .args .messages .count = omega arith in same (ap (λ (j : ℕ). numbered (messageText (c .before .before .before .before .args .name .now)) 0 (map (msgAt (c .before .before .before .before .args .messages)) (from 0 j))) e) (c .before .loop .inv .2)
+returns c =
+    let args = c .before .before .before .before .args in
+    let loop = c .before .loop in
+    let e : loop .j ≡ args .messages .count = omega arith in
+    same (ap (λ (j : ℕ). numbered (messageText (args .name .now)) 0 (map (msgAt (args .messages)) (from 0 j))) e) (loop .inv .2)
 
 pub put-pass-spec : {M : Type 1} → statement M
 put-pass-spec =

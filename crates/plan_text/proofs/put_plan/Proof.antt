@@ -11,13 +11,19 @@ slice-aggregate-put-pass : tie.Need-slice-aggregate-put-pass
 slice-aggregate-put-pass c = search needs
 
 put-pass-requires : tie.Need-put-pass-requires
-put-pass-requires c κs = ready-later (c .before .before .before .before .before .args .n) 32 (c .before .before .before .before .before .args .plan .forward) (c .before .before .before .before .before .args .plan .forward .active) (c .before .before .before .before .before .pre .0) (c .before .before .before .before .before .pre .1 .forward)
+put-pass-requires c κs =
+    let args = c .before .before .before .before .before .args in
+    let pre = c .before .before .before .before .before .pre in
+    ready-later (args .n) 32 (args .plan .forward) (args .plan .forward .active) (pre .0) (pre .1 .forward)
 
 slice-aggregate-put-pass-2 : tie.Need-slice-aggregate-put-pass-2
 slice-aggregate-put-pass-2 c = search needs
 
 put-pass-requires-2 : tie.Need-put-pass-requires-2
-put-pass-requires-2 c κs = ready-later (c .before .before .before .before .before .before .before .before .before .before .args .n) 32 (c .before .before .before .before .before .before .before .before .before .before .args .plan .backward) (c .before .before .before .before .before .before .before .before .before .before .args .plan .backward .active) (c .before .before .before .before .before .before .before .before .before .before .pre .0) (c .before .before .before .before .before .before .before .before .before .before .pre .1 .backward)
+put-pass-requires-2 c κs =
+    let args = c .before .before .before .before .before .before .before .before .before .before .args in
+    let pre = c .before .before .before .before .before .before .before .before .before .before .pre in
+    ready-later (args .n) 32 (args .plan .backward) (args .plan .backward .active) (pre .0) (pre .1 .backward)
 
 put-keys-requires : tie.Need-put-keys-requires
 put-keys-requires c κs = search needs
@@ -27,7 +33,11 @@ same-length c = search needs
 
 returns : tie.Need-returns
 unfolding planText planOf
-returns c = both (both (c .before .before .before .before .before .before .before .before .before .before .before .put-pass .ensures) (c .before .before .before .before .before .before .put-pass2 .ensures)) (c .before .before .put-keys .ensures)
+returns c =
+    let forward = c .before .before .before .before .before .before .before .before .before .before .before .put-pass .ensures in
+    let backward = c .before .before .before .before .before .before .put-pass2 .ensures in
+    let keys = c .before .before .put-keys .ensures in
+    both (both forward backward) keys
 
 pub put-plan-spec : {M : Type 1} → statement M
 put-plan-spec =

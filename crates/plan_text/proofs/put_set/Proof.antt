@@ -35,14 +35,21 @@ loop-less : tie.Need-loop-less Inv-loop μ-loop
 loop-less c = search needs
 
 loop-again : tie.Need-loop-again Inv-loop μ-loop
-loop-again c = (omega arith, same (member-more fieldText (λ i. has i (c .before .before .before .before .before .before .before .before .before .before .before .before .args .set)) (c .before .before .before .before .before .loop .k)) (both (c .before .before .before .before .before .loop .inv .1) (c .before .before .put-member .ensures)))
+loop-again c =
+    let args = c .before .before .before .before .before .before .before .before .before .before .before .before .args in
+    let loop = c .before .before .before .before .before .loop in
+    (omega arith, same (member-more fieldText (λ i. has i (args .set)) (loop .k)) (both (loop .inv .1) (c .before .before .put-member .ensures)))
 
 same-length : tie.Need-same-length Inv-loop μ-loop
 same-length c = long (both (c .before .before .before .before .put-word .ensures) (c .before .loop .inv .1))
 
 returns : tie.Need-returns Inv-loop μ-loop
 unfolding listText keysIn
-returns c = let e : c .before .loop .k ≡ 32 = omega arith in both (c .before .before .before .before .put-word .ensures) (same (ap (λ (k : ℕ). joined fieldText (rising k (λ i. has i (c .before .before .before .before .before .before .before .before .args .set)))) e) (c .before .loop .inv .1))
+returns c =
+    let args = c .before .before .before .before .before .before .before .before .args in
+    let loop = c .before .loop in
+    let e : loop .k ≡ 32 = omega arith in
+    both (c .before .before .before .before .put-word .ensures) (same (ap (λ (k : ℕ). joined fieldText (rising k (λ i. has i (args .set)))) e) (loop .inv .1))
 
 pub put-set-spec : {M : Type 1} → statement M
 put-set-spec =

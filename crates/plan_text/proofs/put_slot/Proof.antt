@@ -31,7 +31,9 @@ same-length-2 c = search needs
 
 returns-2 : tie.Need-returns-2
 unfolding slotText
-returns-2 c = same (sym (ap slotText (slot-high (c .before .before .before .before .before .before .before .before .before .before .before .args .s) (c .before .before .before .before .before .before .before .before .before .if1 .left)))) (both (c .before .before .before .before .before .before .put-word .ensures) (c .before .before .put-decimal .ensures))
+returns-2 c =
+    let args = c .before .before .before .before .before .before .before .before .before .before .before .args in
+    same (sym (ap slotText (slot-high (args .s) (c .before .before .before .before .before .before .before .before .before .if1 .left)))) (both (c .before .before .before .before .before .before .put-word .ensures) (c .before .before .put-decimal .ensures))
 
 pub put-slot-spec : {M : Type 1} → statement M
 put-slot-spec =

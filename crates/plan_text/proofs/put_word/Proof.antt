@@ -40,7 +40,10 @@ loop-less : tie.Need-loop-less Inv-loop μ-loop
 loop-less c = search needs
 
 loop-again : tie.Need-loop-again Inv-loop μ-loop
-loop-again c = (c .before .before .before .before .before .before .loop .inv .0, omega arith, same (taken-more (c .before .before .before .before .before .before .before .before .before .args .word .now) (c .before .before .before .before .before .before .loop .i) (omega arith)) (both (c .before .before .before .before .before .before .loop .inv .2) (c .before .before .put .ensures)))
+loop-again c =
+    let args = c .before .before .before .before .before .before .before .before .before .args in
+    let loop = c .before .before .before .before .before .before .loop in
+    (loop .inv .0, omega arith, same (taken-more (args .word .now) (loop .i) (omega arith)) (both (loop .inv .2) (c .before .before .put .ensures)))
 
 same-length : tie.Need-same-length Inv-loop μ-loop
 same-length c = long (c .before .loop .inv .2)
