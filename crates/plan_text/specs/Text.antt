@@ -19,7 +19,7 @@ backwardWord = 98 ∷ 97 ∷ 99 ∷ 107 ∷ 119 ∷ 97 ∷ 114 ∷ 100 ∷ []
 abbrev pub keyWord : List ℕ
 keyWord = 107 ∷ 101 ∷ 121 ∷ []
 
--- the lists of a line, each after a space
+-- what follows in a line, each word after a space
 abbrev pub stepWord : List ℕ
 stepWord = 32 ∷ 115 ∷ 116 ∷ 101 ∷ 112 ∷ []
 

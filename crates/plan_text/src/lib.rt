@@ -36,7 +36,7 @@ ghost use Rattle.plan_text.specs.Shown.{shown, shownIn, showText, text-r
 // Room for the text of any job's plan.
 pub const TEXT_ROOM: usize = 65536;
 
-// Places are counted so far.
+// Places are counted up to this one, the largest number of a machine word.
 const LAST_PLACE: usize = 18446744073709551615;
 
 // What came of showing a graph's plan: the length of its text, a buffer that is too short for it, or a graph that has no plan.
