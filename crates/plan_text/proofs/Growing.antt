@@ -12,7 +12,7 @@ use Rattle.schedule.specs.Count.{joined, putIf, from, rising}
 use Rattle.schedule.proofs.Sums.{joined-append, length-from}
 use Rattle.plan.proofs.Prefixes.{part-snoc, drop-none, map-append}
 use Rattle.plan.proofs.Membership.{from-snoc}
-use Rattle.plan.proofs.Unions.{rising-more, rising-zero}
+use Rattle.plan.proofs.Unions.{rising-more}
 use Rattle.plan_text.specs.Text.{numbered}
 
 -- ---- lists in a line
@@ -31,9 +31,6 @@ joined-map f g [] = refl
 joined-map f g (x ∷ l) = ap (λ (t : List ℕ). f (g x) ++ t) (joined-map f g l)
 
 -- the members of a set below k, and k if it is one
-pub member-none : (f : ℕ → List ℕ) (p : ℕ → Bool) → [] ≡ joined f (rising 0 p)
-member-none f p = sym (ap (joined f) (rising-zero p) ∙ joined-nil f)
-
 pub member-more : (f : ℕ → List ℕ) (p : ℕ → Bool) (k : ℕ) → joined f (rising k p) ++ joined f (putIf (p k) k []) ≡ joined f (rising (k + 1) p)
 member-more f p k = sym (ap (joined f) (rising-more p k) ∙ joined-append f (rising k p) (putIf (p k) k []))
 

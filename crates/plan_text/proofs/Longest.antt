@@ -29,7 +29,7 @@ use Rattle.plan.specs.declared.pass.Pass.{Pass}
 use Rattle.plan.specs.declared.gather.Gathered.{Gathered}
 use Rattle.plan.specs.declared.plan.Plan.{Plan}
 use Rattle.plan.proofs.Stepping.{ready-later}
-use Rattle.plan.proofs.Unions.{slot-low, slot-high, at-msg}
+use Rattle.plan.proofs.Unions.{slot-low, slot-high, at-msg, joined-zero}
 use Rattle.messages.specs.Tables.{keysOf}
 use Rattle.solver.specs.Plan.{Answer, graphPlan, planned, read}
 use Rattle.solver.specs.declared.Arranged.{Arranged}
@@ -44,7 +44,7 @@ use Rattle.job.proofs.Refusals.{number-most}
 use Rattle.plan_text.specs.Shown.{text-room}
 use Rattle.plan_text.specs.Text.{forwardWord, backwardWord, keyWord, stepWord, contentWord, keptWord, clearedWord, originalsWord, leavesWord, lastWord, slotText, namedText, listText, contentText, messageText, keyText, numbered, planText}
 use Rattle.plan_text.proofs.Answers.{arraysText}
-use Rattle.plan_text.proofs.Growing.{joined-nil, joined-one, joined-map, member-none, member-more, part-none, part-more, given-none, given-more, taken-none, taken-more}
+use Rattle.plan_text.proofs.Growing.{joined-nil, joined-one, joined-map, member-more, part-none, part-more, given-none, given-more, taken-none, taken-more}
 
 -- a text that grows by a piece a turn
 grown-most : (t s : ℕ → List ℕ) (most n : ℕ) → [] ≡ t 0 → ((k : ℕ) → k < n → t k ++ s k ≡ t (k + 1)) → ((k : ℕ) → k < n → length (s k) ≤ most) → length (t n) ≤ most * n
@@ -93,7 +93,7 @@ set-most word set =
     omega (
       arith,
       length-append word (joined fieldText (rising 32 (λ i. has i set))),
-      grown-most (λ k. joined fieldText (rising k (λ i. has i set))) (λ k. joined fieldText (putIf (has k set) k [])) 3 32 (member-none fieldText (λ i. has i set)) (λ k l. member-more fieldText (λ i. has i set) k) (λ k l. member-most (has k set) k (omega arith)),
+      grown-most (λ k. joined fieldText (rising k (λ i. has i set))) (λ k. joined fieldText (putIf (has k set) k [])) 3 32 (sym (joined-zero fieldText (λ i. has i set))) (λ k l. member-more fieldText (λ i. has i set) k) (λ k l. member-most (has k set) k (omega arith)),
     )
 
 named-most : (word : List ℕ) (x : ℕ) → x < 100 → length (namedText word x) ≤ length word + 3

@@ -1,7 +1,7 @@
 -- Text put in parts: one part after another is the two as one. A text that fits is laid, and the place after it tells whether it fits.
 -- Assumes nothing.
 use Prim.Native.Nat.{ℕ, suc, _+_, _≤_, _<_, min}
-use mathlib.Core.Path.{_≡_, refl, sym, ap, _∙_}
+use mathlib.Core.Path.{_≡_, refl, ap, _∙_}
 use mathlib.Core.Bool.{Bool, true, false, cond}
 use mathlib.Core.List.{List, [], _∷_, _++_}
 use native.Mathlib.Omega.{arith}
@@ -83,7 +83,7 @@ put-lays out at (x ∷ text) l h =
     let rest : put (set out at x) (at + 1) text ≡ lay (set out at x) (at + 1) text = put-lays (set out at x) (at + 1) text (omega arith) (omega arith) in
     rw e (puts-both out (set out at x) (put (set out at x) (at + 1) text) at (at + 1) (at + 1 + length text) (x ∷ []) text (omega arith) (puts-one out at x (omega arith)) (rest, refl) .0)
 
--- the two ways out, by the place that a text ends at: it tells the length wherever the buffer has it
+-- the two ways out: the place after a text that fits is its length, and that of a longer one lies past the buffer
 pub short : (out text : List ℕ) (n : ℕ) → n ≡ past 0 text → length out < n → (Short ≡ written out text) × (out ≡ laidIn out text)
 short out text n e l = too-short out text (length text) refl (omega (arith, past-is 0 text (omega arith)))
 

@@ -9,7 +9,6 @@ use Rattle.plan_text.specs.Putting.{Puts}
 use Rattle.plan_text.specs.Text.{messageText, numbered}
 use Rattle.plan_text.proofs.Putting.{none, both, same, long}
 use Rattle.plan_text.proofs.Growing.{given-none, given-more}
-use borrow.Author.Needs.{needs}
 use Rattle.plan_text.proofs.put_pass.Statement.{statement}
 use Rattle.plan_text.proofs.put_pass.Tie as tie
 

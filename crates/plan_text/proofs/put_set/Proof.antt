@@ -1,14 +1,15 @@
 -- `plan_text::put_set` meets its contract. The loop's invariant: the members below k are put behind the word. Assumes nothing.
 use Prim.Native.Nat.{ℕ, _-_, _≤_}
-use mathlib.Core.Path.{_≡_, ap}
+use mathlib.Core.Path.{_≡_, sym, ap}
 use native.Mathlib.Omega.{arith}
 use Rattle.schedule.specs.Count.{joined, rising}
 use Rattle.plan.specs.Mask.{has, keysIn}
+use Rattle.plan.proofs.Unions.{joined-zero}
 use Rattle.lines.specs.Lines.{fieldText}
 use Rattle.plan_text.specs.Putting.{Puts}
 use Rattle.plan_text.specs.Text.{listText}
 use Rattle.plan_text.proofs.Putting.{none, both, same, long}
-use Rattle.plan_text.proofs.Growing.{member-none, member-more}
+use Rattle.plan_text.proofs.Growing.{member-more}
 use borrow.Author.Needs.{needs}
 use Rattle.plan_text.proofs.put_set.Statement.{statement}
 use Rattle.plan_text.proofs.put_set.Tie as tie
@@ -23,7 +24,7 @@ put-word-requires : tie.Need-put-word-requires Inv-loop μ-loop
 put-word-requires c κs = search needs
 
 loop-holds : tie.Need-loop-holds Inv-loop μ-loop
-loop-holds c = (omega arith, same (member-none fieldText (λ i. has i (c .before .before .before .before .before .before .args .set))) none)
+loop-holds c = (omega arith, same (sym (joined-zero fieldText (λ i. has i (c .before .before .before .before .before .before .args .set)))) none)
 
 put-member-requires : tie.Need-put-member-requires Inv-loop μ-loop
 put-member-requires c κs = search needs
