@@ -1,2 +1,6 @@
--- Laws of laying text.
-pub mod Laying
+-- Laws of the text of a plan.
+pub mod Putting
+pub mod Growing
+pub mod Answers
+pub mod Longest
+pub mod Examples

@@ -1,2 +1,4 @@
--- What laying text into a buffer does.
+-- The definitions that the contracts of `plan_text` cite.
 pub mod Text
+pub mod Putting
+pub mod Shown

@@ -2,232 +2,301 @@
 //     forward 0 step 1 content 0 3 2 1 kept 1 cleared 0
 //     backward 0 step 1 content 3 kept 0 cleared 1
 //     key 0 forward backward 0 originals 0 1 2 leaves 3 0 1 2 last
-// A content names an original by its number and the message j as mj. All numbers are below 100.
-// While text is laid, the next place is handed on. A place one past the end of the buffer says that something did not fit.
+// A content names an original by its number and the message j as mj.
+// Each function that puts text answers the place after it. What lies past the buffer's end is dropped: the text goes twice through the
+// same functions, first to find its length, then to lay it where it fits.
+use factor::limits::FACTORS;
+use factor::limits::VARIABLES;
+use graph::Graph;
+use graph::refusal::Refusal;
+use job::FACTOR_ROOM;
+use job::READING;
+use lines::Written;
+use lines::lay_refusal;
+use plan::PASS_SLOTS;
 use plan::gather::Gathered;
 use plan::masks::single;
 use plan::pass::Pass;
 use plan::plan::Plan;
+use solver::Outcome;
+ghost use mathlib.Core.Path.{_≡_};
+ghost use mathlib.Core.List.{[], _∷_, map};
 ghost use Prim.Native.Nat.{_≤_, _<_};
-ghost use Rattle.plan.specs.Pass.{Ready};
-ghost use Rattle.plan.specs.Gather.{Held};
-ghost use Rattle.plan.specs.Plan.{Bounded};
-ghost use Rattle.plan_text.specs.Text.{Wrote, Laid};
+ghost use lib.ListN.{length, take, drop};
+ghost use Rattle.lines.specs.Lines.{decimal, fieldText, written, laidIn};
+ghost use Rattle.schedule.specs.Count.{joined, putIf};
+ghost use Rattle.plan.specs.Mask.{has, keysIn};
+ghost use Rattle.plan.specs.Pass.{Ready, slotOf, msgAt, messagesOf};
+ghost use Rattle.plan.specs.Gather.{Held, gatheredOf};
+ghost use Rattle.plan.specs.Plan.{Bounded, planOf};
+ghost use Rattle.plan_text.specs.Putting.{Puts, next};
+ghost use Rattle.plan_text.specs.Text as spec;
+ghost use Rattle.plan_text.specs.Shown.{shown, shownIn, showText, text-room};
 
-// How the laying ended: the length of the text, or that the buffer is too short for it.
-pub enum Written {
+// Room for the text of any job's plan.
+pub const TEXT_ROOM: usize = 65536;
+
+// Places are counted up to this one, the largest number of a machine word.
+const LAST_PLACE: usize = 18446744073709551615;
+
+// What came of showing a graph's plan: the length of its text, a buffer that is too short for it, or a graph that has no plan.
+pub enum Shown {
     Length(usize),
     Short,
+    Refused(Refusal),
 }
 
-// One byte, where there is room for it.
-fn put(buffer: &mut [u8], at: usize, byte: u8) -> usize
-    ensures { λ r. ⌜ Wrote at r (now (buffer .entry)) (now (buffer .exit)) ⌝ }
+// The place after one byte.
+fn after(at: usize) -> usize
+    ensures { λ r. ⌜ r ≡ next at ⌝ }
 {
-    let size = buffer.len();
-    if size <= at {
-        return size + 1;
+    if at < LAST_PLACE { at + 1 } else { at }
+}
+
+fn put(out: &mut [u8], at: usize, byte: u8) -> usize
+    ensures { λ r. ⌜ Puts (now (out .entry)) (now (out .exit)) at r (byte ∷ []) ⌝ }
+{
+    if out.len() <= at {
+        return after(at);
     }
-    buffer[at] = byte;
-    at + 1
+    out[at] = byte;
+    after(at)
 }
 
-// The bytes of a word.
-fn put_word(buffer: &mut [u8], at: usize, word: &[u8]) -> usize
-    ensures { λ r. ⌜ Wrote at r (now (buffer .entry)) (now (buffer .exit)) ⌝ }
+fn put_word(out: &mut [u8], at: usize, word: &[u8]) -> usize
+    ensures { λ r. ⌜ Puts (now (out .entry)) (now (out .exit)) at r (now (word .entry)) ⌝ }
 {
-    let mut o = at;
-    let mut i = 0;
-    while i < word.len() {
-        o = put(buffer, o, word[i]);
-        i += 1;
+    let mut to = at;
+    for i in 0..word.len() {
+        to = put(out, to, word[i]);
     }
-    o
+    to
 }
 
-// A number below 100 in decimal, without leading zeros.
-fn put_digits(buffer: &mut [u8], at: usize, x: usize) -> usize
-    ensures { λ r. ⌜ Wrote at r (now (buffer .entry)) (now (buffer .exit)) ⌝ }
+// A number in decimal: the last digit follows those before it.
+fn put_decimal(out: &mut [u8], at: usize, x: usize) -> usize
+    ensures { λ r. ⌜ Puts (now (out .entry)) (now (out .exit)) at r (decimal x) ⌝ }
 {
-    let ones = 48 + (x % 10) as u8;
     if x < 10 {
-        return put(buffer, at, ones);
+        return put(out, at, 48 + x as u8);
     }
-    let tens = 48 + (x / 10 % 10) as u8;
-    let o = put(buffer, at, tens);
-    put(buffer, o, ones)
+    let last = put_decimal(out, at, x / 10);
+    put(out, last, 48 + (x % 10) as u8)
 }
 
 // A space and a number.
-fn put_number(buffer: &mut [u8], at: usize, x: usize) -> usize
-    ensures { λ r. ⌜ Wrote at r (now (buffer .entry)) (now (buffer .exit)) ⌝ }
+fn put_number(out: &mut [u8], at: usize, x: usize) -> usize
+    ensures { λ r. ⌜ Puts (now (out .entry)) (now (out .exit)) at r (fieldText x) ⌝ }
 {
-    let o = put(buffer, at, b' ');
-    put_digits(buffer, o, x)
+    let digits = put(out, at, b' ');
+    put_decimal(out, digits, x)
 }
 
-// A space and a slot.
-fn put_slot(buffer: &mut [u8], at: usize, s: usize) -> usize
-    ensures { λ r. ⌜ Wrote at r (now (buffer .entry)) (now (buffer .exit)) ⌝ }
+// A slot by its number in the pass: an original, or a message.
+fn put_slot(out: &mut [u8], at: usize, s: usize) -> usize
+    ensures { λ r. ⌜ Puts (now (out .entry)) (now (out .exit)) at r (spec.slotText (slotOf s)) ⌝ }
 {
-    if s < 64 {
-        return put_number(buffer, at, s);
+    if s < FACTORS {
+        return put_number(out, at, s);
     }
-    let o = put_word(buffer, at, b" m");
-    put_digits(buffer, o, s - 64)
+    let digits = put_word(out, at, b" m");
+    put_decimal(out, digits, s - FACTORS)
 }
 
 // A word and a number.
-fn put_named(buffer: &mut [u8], at: usize, name: &[u8], x: usize) -> usize
-    ensures { λ r. ⌜ Wrote at r (now (buffer .entry)) (now (buffer .exit)) ⌝ }
+fn put_named(out: &mut [u8], at: usize, name: &[u8], x: usize) -> usize
+    ensures { λ r. ⌜ Puts (now (out .entry)) (now (out .exit)) at r (spec.namedText (now (name .entry)) x) ⌝ }
 {
-    let o = put_word(buffer, at, name);
-    put_number(buffer, o, x)
+    let to = put_word(out, at, name);
+    put_number(out, to, x)
+}
+
+// A number if it is a member of a set, and nothing if not.
+fn put_member(out: &mut [u8], at: usize, set: u32, k: usize) -> usize
+    requires { ⌜ k < 32 ⌝ }
+    ensures { λ r. ⌜ Puts (now (out .entry)) (now (out .exit)) at r (joined fieldText (putIf (has k set) k [])) ⌝ }
+{
+    if set & single(k) == 0 {
+        return at;
+    }
+    put_number(out, at, k)
 }
 
 // A word and the members of a set, rising.
-fn put_set(buffer: &mut [u8], at: usize, name: &[u8], set: u32) -> usize
-    ensures { λ r. ⌜ Wrote at r (now (buffer .entry)) (now (buffer .exit)) ⌝ }
+fn put_set(out: &mut [u8], at: usize, name: &[u8], set: u32) -> usize
+    ensures { λ r. ⌜ Puts (now (out .entry)) (now (out .exit)) at r (spec.listText (now (name .entry)) (keysIn set)) ⌝ }
 {
-    let mut o = put_word(buffer, at, name);
-    let mut j = 0;
-    while j < 32 {
-        let k = j;
-        j += 1;
-        if set & single(k) != 0 {
-            o = put_number(buffer, o, k);
-        }
+    let mut to = put_word(out, at, name);
+    for k in 0..VARIABLES {
+        to = put_member(out, to, set, k);
     }
-    o
+    to
 }
 
 // The slots of a content, from one place to another.
-fn put_content(buffer: &mut [u8], at: usize, content: [u8; 96], from: usize, to: usize) -> usize
-    requires { ⌜ to ≤ 96 ⌝ }
-    ensures { λ r. ⌜ Wrote at r (now (buffer .entry)) (now (buffer .exit)) ⌝ }
+fn put_content(
+    out: &mut [u8],
+    at: usize,
+    content: [u8; PASS_SLOTS],
+    from: usize,
+    end: usize,
+) -> usize
+    requires { ⌜ (from ≤ end) × (end ≤ 96) ⌝ }
+    ensures { λ r. ⌜ Puts (now (out .entry)) (now (out .exit)) at r (spec.contentText (map slotOf (drop from (take end content)))) ⌝ }
 {
-    let mut o = put_word(buffer, at, b" content");
-    let mut i = from;
-    while i < to {
+    let mut to = put_word(out, at, b" content");
+    for i in from..end {
         let s = content[i] as usize;
-        o = put_slot(buffer, o, s);
-        i += 1;
+        to = put_slot(out, to, s);
     }
-    o
+    to
 }
 
 // A word and the originals that are listed from one place to another.
 fn put_items(
-    buffer: &mut [u8],
+    out: &mut [u8],
     at: usize,
     name: &[u8],
-    items: [u8; 64],
+    items: [u8; FACTORS],
     from: usize,
-    to: usize,
+    end: usize,
 ) -> usize
-    requires { ⌜ to ≤ 64 ⌝ }
-    ensures { λ r. ⌜ Wrote at r (now (buffer .entry)) (now (buffer .exit)) ⌝ }
+    requires { ⌜ (from ≤ end) × (end ≤ 64) ⌝ }
+    ensures { λ r. ⌜ Puts (now (out .entry)) (now (out .exit)) at r (spec.listText (now (name .entry)) (drop from (take end items))) ⌝ }
 {
-    let mut o = put_word(buffer, at, name);
-    let mut i = from;
-    while i < to {
+    let mut to = put_word(out, at, name);
+    for i in from..end {
         let x = items[i] as usize;
-        o = put_number(buffer, o, x);
-        i += 1;
+        to = put_number(out, to, x);
     }
-    o
+    to
 }
 
 // The line of the message j, led by the name of its pass.
-fn put_message(buffer: &mut [u8], at: usize, name: &[u8], messages: Pass, j: usize) -> usize
+fn put_message(out: &mut [u8], at: usize, name: &[u8], messages: Pass, j: usize) -> usize
     requires { ⌜ Ready 32 messages ⌝ }
     requires { ⌜ j < messages .count ⌝ }
-    ensures { λ r. ⌜ Wrote at r (now (buffer .entry)) (now (buffer .exit)) ⌝ }
+    ensures { λ r. ⌜ Puts (now (out .entry)) (now (out .exit)) at r (spec.messageText (now (name .entry)) j (msgAt messages j)) ⌝ }
 {
     let b = messages.board;
     let content = b.content;
     let step = messages.steps[j] as usize;
     let from = messages.starts[j] as usize;
-    let to = messages.ends[j] as usize;
-    let kept = messages.masks[64 + j];
+    let end = messages.ends[j] as usize;
+    let kept = messages.masks[FACTORS + j];
     let cleared = messages.cleared[j];
-    let mut o = put_named(buffer, at, name, j);
-    o = put_named(buffer, o, b" step", step);
-    o = put_content(buffer, o, content, from, to);
-    o = put_set(buffer, o, b" kept", kept);
-    o = put_set(buffer, o, b" cleared", cleared);
-    put(buffer, o, b'\n')
+    let mut to = put_named(out, at, name, j);
+    to = put_named(out, to, b" step", step);
+    to = put_content(out, to, content, from, end);
+    to = put_set(out, to, b" kept", kept);
+    to = put_set(out, to, b" cleared", cleared);
+    put(out, to, b'\n')
 }
 
 // The lines of all messages of a pass.
-fn put_pass(buffer: &mut [u8], at: usize, name: &[u8], messages: Pass) -> usize
+fn put_pass(out: &mut [u8], at: usize, name: &[u8], messages: Pass) -> usize
     requires { ⌜ Ready 32 messages ⌝ }
-    ensures { λ r. ⌜ Wrote at r (now (buffer .entry)) (now (buffer .exit)) ⌝ }
+    ensures { λ r. ⌜ Puts (now (out .entry)) (now (out .exit)) at r (spec.numbered (spec.messageText (now (name .entry))) 0 (messagesOf messages)) ⌝ }
 {
-    let n = messages.count;
-    let mut o = at;
-    let mut j = 0;
-    while j < n {
-        o = put_message(buffer, o, name, messages, j);
-        j += 1;
+    let mut to = at;
+    for j in 0..messages.count {
+        to = put_message(out, to, name, messages, j);
     }
-    o
-}
-
-// What a key gathers, and its leaves.
-fn put_gathered(buffer: &mut [u8], at: usize, g: Gathered) -> usize
-    requires { ⌜ Held g ⌝ }
-    ensures { λ r. ⌜ Wrote at r (now (buffer .entry)) (now (buffer .exit)) ⌝ }
-{
-    let items = g.items;
-    let covered = g.covered;
-    let count = g.count;
-    let mut o = put_set(buffer, at, b" forward", g.forward);
-    o = put_set(buffer, o, b" backward", g.backward);
-    o = put_items(buffer, o, b" originals", items, covered, count);
-    put_items(buffer, o, b" leaves", items, 0, count)
+    to
 }
 
 // The line of the key k.
-fn put_key(buffer: &mut [u8], at: usize, g: Gathered, k: usize) -> usize
-    requires { ⌜ Held g ⌝ }
-    ensures { λ r. ⌜ Wrote at r (now (buffer .entry)) (now (buffer .exit)) ⌝ }
+fn put_key(out: &mut [u8], at: usize, k: usize, q: Gathered) -> usize
+    requires { ⌜ Held q ⌝ }
+    ensures { λ r. ⌜ Puts (now (out .entry)) (now (out .exit)) at r (spec.keyText k (gatheredOf q)) ⌝ }
 {
-    let mut o = put_named(buffer, at, b"key", k);
-    o = put_gathered(buffer, o, g);
-    o = put_set(buffer, o, b" last", g.last);
-    put(buffer, o, b'\n')
+    let items = q.items;
+    let covered = q.covered;
+    let count = q.count;
+    let mut to = put_named(out, at, b"key", k);
+    to = put_set(out, to, b" forward", q.forward);
+    to = put_set(out, to, b" backward", q.backward);
+    to = put_items(out, to, b" originals", items, covered, count);
+    to = put_items(out, to, b" leaves", items, 0, count);
+    to = put_set(out, to, b" last", q.last);
+    put(out, to, b'\n')
 }
 
 // The lines of the first n keys.
-fn put_keys(buffer: &mut [u8], at: usize, plan: Plan, n: usize) -> usize
-    requires { ⌜ n ≤ 32 ⌝ }
-    requires { ⌜ Bounded n plan ⌝ }
-    ensures { λ r. ⌜ Wrote at r (now (buffer .entry)) (now (buffer .exit)) ⌝ }
+fn put_keys(out: &mut [u8], at: usize, plan: Plan, n: usize) -> usize
+    requires { ⌜ (n ≤ 32) × Bounded n plan ⌝ }
+    ensures { λ r. ⌜ Puts (now (out .entry)) (now (out .exit)) at r (spec.numbered spec.keyText 0 (map gatheredOf (take n (plan .at)))) ⌝ }
 {
-    let mut o = at;
-    let mut k = 0;
-    while k < n {
-        let g = plan.at[k];
-        o = put_key(buffer, o, g, k);
-        k += 1;
+    let mut to = at;
+    for k in 0..n {
+        let q = plan.at[k];
+        to = put_key(out, to, k, q);
     }
-    o
+    to
 }
 
-// The whole plan of n keys. What is required is what `make_plan` ensures of its answer.
-pub fn lay_plan(plan: Plan, n: usize, buffer: &mut [u8]) -> Written
-    requires { ⌜ n ≤ 32 ⌝ }
-    requires { ⌜ Bounded n plan ⌝ }
-    ensures { λ r. ⌜ Laid (now (buffer .entry)) (now (buffer .exit)) r ⌝ }
+// The whole plan of n keys, from the buffer's start.
+fn put_plan(out: &mut [u8], plan: Plan, n: usize) -> usize
+    requires { ⌜ (n ≤ 32) × Bounded n plan ⌝ }
+    ensures { λ r. ⌜ Puts (now (out .entry)) (now (out .exit)) 0 r (spec.planText (planOf n plan)) ⌝ }
 {
     let fw = plan.forward;
     let bw = plan.backward;
-    let one = put_pass(buffer, 0, b"forward", fw);
-    let two = put_pass(buffer, one, b"backward", bw);
-    let end = put_keys(buffer, two, plan, n);
-    if end <= buffer.len() {
-        return Written::Length(end);
+    let one = put_pass(out, 0, b"forward", fw);
+    let two = put_pass(out, one, b"backward", bw);
+    put_keys(out, two, plan, n)
+}
+
+// The text of a plan at the buffer's start, where it fits. The first run is into one byte that nobody reads: it finds the length.
+fn lay_arrays(plan: Plan, n: usize, out: &mut [u8]) -> Written
+    requires { ⌜ (n ≤ 32) × Bounded n plan ⌝ }
+    ensures { λ r. ⌜ r ≡ written (now (out .entry)) (spec.planText (planOf n plan)) ⌝ }
+    ensures { λ _. ⌜ now (out .exit) ≡ laidIn (now (out .entry)) (spec.planText (planOf n plan)) ⌝ }
+{
+    let mut nowhere = [0u8; 1];
+    let length = put_plan(&mut nowhere, plan, n);
+    if out.len() < length {
+        return Written::Short;
     }
-    Written::Short
+    put_plan(out, plan, n);
+    Written::Length(length)
+}
+
+// The text of a graph's plan, at the start of a lent buffer, and its length. A buffer that is too short for it is left as it was, and so
+// is that of a refused graph.
+pub fn lay_plan(g: Graph, out: &mut [u8]) -> Shown
+    ensures { λ r. ⌜ r ≡ shown g (now (out .entry)) ⌝ }
+    ensures { λ _. ⌜ now (out .exit) ≡ shownIn g (now (out .entry)) ⌝ }
+{
+    let made = solver::arrange(g);
+    let p = made.plan;
+    let outcome = made.outcome;
+    match outcome {
+        Outcome::Made => match lay_arrays(p, made.keys, out) {
+            Written::Length(n) => Shown::Length(n),
+            Written::Short => Shown::Short,
+        },
+        Outcome::Refused(why) => Shown::Refused(why),
+    }
+}
+
+// The text of a job's plan, or the line of the refusal where reading the job is refused, at the start of a lent buffer, and its length. A
+// buffer that is too short for it is left as it was. None of TEXT_ROOM bytes is.
+pub fn show(bytes: &[u8], out: &mut [u8]) -> Written
+    ensures { λ r. ⌜ r ≡ written (now (out .entry)) (showText (now (bytes .entry))) ⌝ }
+    ensures { λ _. ⌜ now (out .exit) ≡ laidIn (now (out .entry)) (showText (now (bytes .entry))) ⌝ }
+    ensures { λ _. ⌜ length (showText (now (bytes .entry))) ≤ text-room ⌝ }
+{
+    let mut factors = [0.0; FACTOR_ROOM];
+    let read = records::read(bytes, &mut factors);
+    let g = read.graph;
+    let ended = read.ended;
+    match ended {
+        records::answer::Ended::Whole => {
+            let made = solver::arrange(g);
+            let p = made.plan;
+            lay_arrays(p, made.keys, out)
+        }
+        records::answer::Ended::Refused(why, place) => lay_refusal(why, READING, place, out),
+    }
 }

@@ -1,30 +1,30 @@
--- A byte is stored if there is room, and the place moves on by one.
--- Assumes nothing.
+-- `plan_text::put` meets its contract: past the buffer's end `set` changes nothing either. Assumes nothing.
+use mathlib.Core.Path.{refl, sym}
+use lib.Seq.{set-out}
+use Rattle.plan_text.proofs.Putting.{one}
 use borrow.Author.Needs.{needs}
-use denote.Ref.{now}
-use native.Mathlib.Omega.{arith}
-use Rattle.plan_text.proofs.Laying.{full, stored}
 use Rattle.plan_text.proofs.put.Statement.{statement}
 use Rattle.plan_text.proofs.put.Tie as tie
 
-add-result : tie.Need-add-result
-add-result c = search needs
+after-requires : tie.Need-after-requires
+after-requires c κs = search needs
 
 returns : tie.Need-returns
-returns c = full (c .before .args .at) (now (c .before .args .buffer)) (c .if1 .taken)
+returns c =
+    let args = c .before .before .before .args in
+    one _ _ (args .at) _ (args .byte) (sym (set-out _ _ _ (c .before .if1 .taken))) (c .after .ensures)
 
-slice-write-buffer : tie.Need-slice-write-buffer
-slice-write-buffer c = search needs
+slice-write-out : tie.Need-slice-write-out
+slice-write-out c = search needs
 
-add-result-2 : tie.Need-add-result-2
-add-result-2 c = search needs
+after-requires-2 : tie.Need-after-requires-2
+after-requires-2 c κs = search needs
 
 same-length : tie.Need-same-length
 same-length c = search needs
 
 returns-2 : tie.Need-returns-2
-returns-2 c = stored (c .before .args .at) (c .before .args .byte) (now (c .before .args .buffer)) (omega arith)
+returns-2 c = one _ _ (c .before .before .before .args .at) _ (c .before .before .before .args .byte) refl (c .after2 .ensures)
 
 pub put-spec : {M : Type 1} → statement M
-put-spec =
-    tie.close (tie.spec add-result returns slice-write-buffer add-result-2 same-length returns-2)
+put-spec = tie.close (tie.spec after-requires returns slice-write-out after-requires-2 same-length returns-2)

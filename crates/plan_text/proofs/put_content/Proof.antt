@@ -1,18 +1,27 @@
--- Before each turn the word and the slots before i are laid.
--- Assumes nothing.
-use borrow.Author.Needs.{needs}
+-- `plan_text::put_content` meets its contract. The loop's invariant: the slots passed are put behind the word. Assumes nothing.
+use Prim.Native.Nat.{ℕ, _-_, _≤_}
+use mathlib.Core.Path.{_≡_, ap, _∙_}
+use mathlib.Core.List.{List}
 use native.Mathlib.Omega.{arith}
-use Prim.Native.Nat.{_-_}
-use Rattle.plan_text.specs.Text.{Wrote}
-use Rattle.plan_text.proofs.Laying.{onward, still}
+use lib.ListN.{take, drop}
+use Rattle.schedule.specs.Count.{joined}
+use Rattle.plan.specs.Pass.{slotOf}
+use Rattle.plan_text.specs.Putting.{Puts}
+use Rattle.plan_text.specs.Text.{slotText, contentText}
+use Rattle.plan_text.proofs.Putting.{none, both, same, long}
+use Rattle.plan_text.proofs.Growing.{joined-map, part-none, part-more}
+use borrow.Author.Needs.{needs}
 use Rattle.plan_text.proofs.put_content.Statement.{statement}
 use Rattle.plan_text.proofs.put_content.Tie as tie
 
+abbrev text : ℕ → List ℕ
+text s = slotText (slotOf s)
+
 abbrev Inv-loop : tie.InvT-loop
-Inv-loop buffer₀ at from to content o₀ i₀ buffer o i = Wrote o₀ o buffer₀ buffer
+Inv-loop out₀ at from end content to₀ i₀ out to i = (from ≤ i) × (i ≤ end) × Puts out₀ out to₀ to (joined text (drop from (take i content)))
 
 abbrev μ-loop : tie.MeasureT-loop
-μ-loop buffer₀ at from to content o₀ i₀ buffer o i = to - i
+μ-loop out₀ at from end content to₀ i₀ out to i = end - i
 
 slice-aggregate-put-word : tie.Need-slice-aggregate-put-word Inv-loop μ-loop
 slice-aggregate-put-word c = search needs
@@ -21,10 +30,12 @@ put-word-requires : tie.Need-put-word-requires Inv-loop μ-loop
 put-word-requires c κs = search needs
 
 loop-holds : tie.Need-loop-holds Inv-loop μ-loop
-loop-holds c = still
+loop-holds c =
+    let args = c .before .before .before .before .before .before .args in
+    (omega arith, c .before .before .before .before .before .before .pre .0, same (part-none text (args .t3) (args .from)) none)
 
 array-read-s : tie.Need-array-read-s Inv-loop μ-loop
-array-read-s c = omega arith
+array-read-s c = search needs
 
 cast-s : tie.Need-cast-s Inv-loop μ-loop
 cast-s c = search needs
@@ -36,16 +47,24 @@ add-i : tie.Need-add-i Inv-loop μ-loop
 add-i c = search needs
 
 loop-less : tie.Need-loop-less Inv-loop μ-loop
-loop-less c = omega arith
+loop-less c = search needs
 
 loop-again : tie.Need-loop-again Inv-loop μ-loop
-loop-again c = onward (c .before .before .before .before .before .loop .inv) (c .before .before .put-slot .ensures)
+loop-again c =
+    let args = c .before .before .before .before .before .before .before .before .before .before .before .before .args in
+    let loop = c .before .before .before .before .before .loop in
+    (omega arith, omega arith, same (part-more text (args .t3) (args .from) (loop .i) (loop .inv .0) (omega arith)) (both (loop .inv .2) (c .before .before .put-slot .ensures)))
 
 same-length : tie.Need-same-length Inv-loop μ-loop
-same-length c = (onward (c .before .before .before .before .put-word .ensures) (c .before .loop .inv)) .same
+same-length c = long (both (c .before .before .before .before .put-word .ensures) (c .before .loop .inv .2))
 
 returns : tie.Need-returns Inv-loop μ-loop
-returns c = onward (c .before .before .before .before .put-word .ensures) (c .before .loop .inv)
+unfolding contentText
+returns c =
+    let args = c .before .before .before .before .before .before .before .before .args in
+    let loop = c .before .loop in
+    let e : loop .i ≡ args .end = omega arith in
+    both (c .before .before .before .before .put-word .ensures) (same (ap (λ (i : ℕ). joined text (drop (args .from) (take i (args .t3)))) e ∙ joined-map slotText slotOf (drop (args .from) (take (args .end) (args .t3)))) (loop .inv .2))
 
 pub put-content-spec : {M : Type 1} → statement M
 put-content-spec =

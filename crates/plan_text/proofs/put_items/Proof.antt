@@ -1,27 +1,34 @@
--- Before each turn the word and the items before i are laid.
--- Assumes nothing.
-use borrow.Author.Needs.{needs}
+-- `plan_text::put_items` meets its contract. The loop's invariant: the items passed are put behind the word. Assumes nothing.
+use Prim.Native.Nat.{ℕ, _-_, _≤_}
+use mathlib.Core.Path.{_≡_, ap}
 use native.Mathlib.Omega.{arith}
-use Prim.Native.Nat.{_-_}
-use Rattle.plan_text.specs.Text.{Wrote}
-use Rattle.plan_text.proofs.Laying.{onward, still}
+use lib.ListN.{take, drop}
+use Rattle.schedule.specs.Count.{joined}
+use Rattle.lines.specs.Lines.{fieldText}
+use Rattle.plan_text.specs.Putting.{Puts}
+use Rattle.plan_text.specs.Text.{listText}
+use Rattle.plan_text.proofs.Putting.{none, both, same, long}
+use Rattle.plan_text.proofs.Growing.{part-none, part-more}
+use borrow.Author.Needs.{needs}
 use Rattle.plan_text.proofs.put_items.Statement.{statement}
 use Rattle.plan_text.proofs.put_items.Tie as tie
 
 abbrev Inv-loop : tie.InvT-loop
-Inv-loop buffer₀ at name from to items o₀ i₀ buffer o i = Wrote o₀ o buffer₀ buffer
+Inv-loop out₀ at name from end items to₀ i₀ out to i = (from ≤ i) × (i ≤ end) × Puts out₀ out to₀ to (joined fieldText (drop from (take i items)))
 
 abbrev μ-loop : tie.MeasureT-loop
-μ-loop buffer₀ at name from to items o₀ i₀ buffer o i = to - i
+μ-loop out₀ at name from end items to₀ i₀ out to i = end - i
 
 put-word-requires : tie.Need-put-word-requires Inv-loop μ-loop
 put-word-requires c κs = search needs
 
 loop-holds : tie.Need-loop-holds Inv-loop μ-loop
-loop-holds c = still
+loop-holds c =
+    let args = c .before .before .before .before .before .before .args in
+    (omega arith, c .before .before .before .before .before .before .pre .0, same (part-none fieldText (args .t4) (args .from)) none)
 
 array-read-x : tie.Need-array-read-x Inv-loop μ-loop
-array-read-x c = omega arith
+array-read-x c = search needs
 
 cast-x : tie.Need-cast-x Inv-loop μ-loop
 cast-x c = search needs
@@ -33,16 +40,24 @@ add-i : tie.Need-add-i Inv-loop μ-loop
 add-i c = search needs
 
 loop-less : tie.Need-loop-less Inv-loop μ-loop
-loop-less c = omega arith
+loop-less c = search needs
 
 loop-again : tie.Need-loop-again Inv-loop μ-loop
-loop-again c = onward (c .before .before .before .before .before .loop .inv) (c .before .before .put-number .ensures)
+loop-again c =
+    let args = c .before .before .before .before .before .before .before .before .before .before .before .before .args in
+    let loop = c .before .before .before .before .before .loop in
+    (omega arith, omega arith, same (part-more fieldText (args .t4) (args .from) (loop .i) (loop .inv .0) (omega arith)) (both (loop .inv .2) (c .before .before .put-number .ensures)))
 
 same-length : tie.Need-same-length Inv-loop μ-loop
-same-length c = (onward (c .before .before .before .before .put-word .ensures) (c .before .loop .inv)) .same
+same-length c = long (both (c .before .before .before .before .put-word .ensures) (c .before .loop .inv .2))
 
 returns : tie.Need-returns Inv-loop μ-loop
-returns c = onward (c .before .before .before .before .put-word .ensures) (c .before .loop .inv)
+unfolding listText
+returns c =
+    let args = c .before .before .before .before .before .before .before .before .args in
+    let loop = c .before .loop in
+    let e : loop .i ≡ args .end = omega arith in
+    both (c .before .before .before .before .put-word .ensures) (same (ap (λ (i : ℕ). joined fieldText (drop (args .from) (take i (args .t4)))) e) (loop .inv .2))
 
 pub put-items-spec : {M : Type 1} → statement M
 put-items-spec =

@@ -1,26 +1,33 @@
--- Before each turn the lines of the keys before k are laid.
--- Assumes nothing.
+-- `plan_text::put_keys` meets its contract. The loop's invariant: the lines of the keys passed are put. Assumes nothing.
+use Prim.Native.Nat.{ℕ, _-_, _≤_}
+use mathlib.Core.Path.{_≡_, ap}
+use mathlib.Core.List.{map}
 use native.Mathlib.Omega.{arith}
-use Prim.Native.Nat.{_-_}
-use Rattle.plan_text.specs.Text.{Wrote}
-use Rattle.plan_text.proofs.Laying.{onward, still}
+use lib.ListN.{take}
+use Rattle.plan.specs.Gather.{gatheredOf}
+use Rattle.plan.specs.Plan.{noGathered}
+use Rattle.plan_text.specs.Putting.{Puts}
+use Rattle.plan_text.specs.Text.{keyText, numbered}
+use Rattle.plan_text.proofs.Putting.{none, both, same, long}
+use Rattle.plan_text.proofs.Growing.{taken-none, taken-more}
+use borrow.Author.Needs.{needs}
 use Rattle.plan_text.proofs.put_keys.Statement.{statement}
 use Rattle.plan_text.proofs.put_keys.Tie as tie
 
 abbrev Inv-loop : tie.InvT-loop
-Inv-loop buffer₀ at n plan o₀ k₀ buffer o k = Wrote at o buffer₀ buffer
+Inv-loop out₀ at n plan to₀ k₀ out to k = (k ≤ n) × Puts out₀ out at to (numbered keyText 0 (map gatheredOf (take k (plan .at))))
 
 abbrev μ-loop : tie.MeasureT-loop
-μ-loop buffer₀ at n plan o₀ k₀ buffer o k = n - k
+μ-loop out₀ at n plan to₀ k₀ out to k = n - k
 
 loop-holds : tie.Need-loop-holds Inv-loop μ-loop
-loop-holds c = still
+loop-holds c = (omega arith, same (taken-none keyText gatheredOf (c .before .args .t3 .at)) none)
 
-mul-g : tie.Need-mul-g Inv-loop μ-loop
-mul-g c = record { fits = omega (arith, c .before .before .before .pre .0) }
+mul-q : tie.Need-mul-q Inv-loop μ-loop
+mul-q c = search needs
 
-element-copy-out-g : tie.Need-element-copy-out-g Inv-loop μ-loop
-element-copy-out-g c = omega (arith, c .before .before .before .pre .0)
+element-copy-out-q : tie.Need-element-copy-out-q Inv-loop μ-loop
+element-copy-out-q c = omega (arith, c .before .before .before .pre .0)
 
 put-key-requires : tie.Need-put-key-requires Inv-loop μ-loop
 put-key-requires c κs = c .before .before .before .before .before .pre .1 .held (c .before .before .before .loop .k) (c .before .before .loop-test .taken)
@@ -32,13 +39,21 @@ loop-less : tie.Need-loop-less Inv-loop μ-loop
 loop-less c = omega arith
 
 loop-again : tie.Need-loop-again Inv-loop μ-loop
-loop-again c = onward (c .before .before .before .before .before .before .loop .inv) (c .before .before .put-key .ensures)
+loop-again c =
+    let args = c .before .before .before .before .before .before .before .before .args in
+    let pre = c .before .before .before .before .before .before .before .before .pre in
+    let loop = c .before .before .before .before .before .before .loop in
+    (omega arith, same (taken-more keyText gatheredOf (args .t3 .at) (loop .k) noGathered (omega (arith, pre .0, pre .1 .long))) (both (loop .inv .1) (c .before .before .put-key .ensures)))
 
 same-length : tie.Need-same-length Inv-loop μ-loop
-same-length c = c .before .loop .inv .same
+same-length c = long (c .before .loop .inv .1)
 
 returns : tie.Need-returns Inv-loop μ-loop
-returns c = c .before .loop .inv
+returns c =
+    let args = c .before .before .before .args in
+    let loop = c .before .loop in
+    let e : loop .k ≡ args .n = omega arith in
+    same (ap (λ (k : ℕ). numbered keyText 0 (map gatheredOf (take k (args .t3 .at)))) e) (loop .inv .1)
 
 pub put-keys-spec : {M : Type 1} → statement M
 put-keys-spec =
@@ -47,8 +62,8 @@ put-keys-spec =
     Inv-loop
     μ-loop
     loop-holds
-    mul-g
-    element-copy-out-g
+    mul-q
+    element-copy-out-q
     put-key-requires
     add-k
     loop-less

@@ -1,10 +1,27 @@
--- The parts of the line, one after another; the content stands within the array of all contents.
--- Assumes nothing.
-use borrow.Author.Needs.{needs}
+-- `plan_text::put_message` meets its contract: the parts of the line, one after another; the content stands within the array of all contents. Assumes nothing.
+use Prim.Native.Nat.{ℕ, _+_}
+use mathlib.Core.Path.{_≡_}
+use mathlib.Core.List.{List, [], _∷_, _++_, map}
 use native.Mathlib.Omega.{arith}
-use Rattle.plan_text.proofs.Laying.{onward}
+use lib.ListN.{getD, take, drop}
+use lib.Seq.{getD-drop}
+use Rattle.lines.specs.Lines.{feed}
+use Rattle.plan.specs.Mask.{keysIn}
+use Rattle.plan.specs.Pass.{slotOf, msgAt}
+use Rattle.plan.specs.declared.pass.Pass.{Pass}
+use Rattle.plan_text.specs.Text.{stepWord, keptWord, clearedWord, namedText, listText, contentText, messageText}
+use Rattle.plan_text.proofs.Putting.{both, same}
+use borrow.Author.Needs.{needs}
 use Rattle.plan_text.proofs.put_message.Statement.{statement}
 use Rattle.plan_text.proofs.put_message.Tie as tie
+
+-- the parts of the line are those of the definition
+line : (name : List ℕ) (p : Pass) (j : ℕ) → namedText name j ++ namedText stepWord (getD (p .steps) j 0)
+    ++ contentText (map slotOf (drop (getD (p .starts) j 0) (take (getD (p .ends) j 0) (p .board .content))))
+    ++ listText keptWord (keysIn (getD (p .masks) (64 + j) 0)) ++ listText clearedWord (keysIn (getD (p .cleared) j 0)) ++ (feed ∷ [])
+    ≡ messageText name j (msgAt p j)
+unfolding messageText msgAt
+line name p j = rw (getD-drop 64 (p .masks) j 0)
 
 element-copy-out-step : tie.Need-element-copy-out-step
 element-copy-out-step c = search needs
@@ -18,11 +35,11 @@ element-copy-out-from c = search needs
 cast-from : tie.Need-cast-from
 cast-from c = search needs
 
-element-copy-out-to : tie.Need-element-copy-out-to
-element-copy-out-to c = search needs
+element-copy-out-end : tie.Need-element-copy-out-end
+element-copy-out-end c = search needs
 
-cast-to : tie.Need-cast-to
-cast-to c = search needs
+cast-end : tie.Need-cast-end
+cast-end c = search needs
 
 add-kept : tie.Need-add-kept
 add-kept c = search needs
@@ -50,8 +67,9 @@ put-named-requires-2 c κs = search needs
 
 put-content-requires : tie.Need-put-content-requires
 put-content-requires c κs =
+    let args = c .before .before .before .before .before .before .before .before .before .before .before .before .before .before .before .before .before .before .before .args in
     let pre = c .before .before .before .before .before .before .before .before .before .before .before .before .before .before .before .before .before .before .before .pre in
-    omega (arith, pre .0 .closed (c .before .before .before .before .before .before .before .before .before .before .before .before .before .before .before .before .before .before .before .args .j) (pre .1), pre .0 .room .contents .few)
+    (pre .0 .ordered (args .j) (pre .1), omega (arith, pre .0 .closed (args .j) (pre .1), pre .0 .room .contents .few))
 
 slice-aggregate-put-set : tie.Need-slice-aggregate-put-set
 slice-aggregate-put-set c = search needs
@@ -73,13 +91,14 @@ same-length c = search needs
 
 returns : tie.Need-returns
 returns c =
+    let args = c .before .before .before .before .before .before .before .before .before .before .before .before .before .before .before .before .before .before .before .before .before .before .before .before .before .before .before .before .before .before .before .before .before .before .before .before .args in
     let lead = c .before .before .before .before .before .before .before .before .before .before .before .before .before .before .before .before .before .before .before .before .before .before .before .before .before .put-named .ensures in
     let step = c .before .before .before .before .before .before .before .before .before .before .before .before .before .before .before .before .before .before .before .before .put-named2 .ensures in
     let content = c .before .before .before .before .before .before .before .before .before .before .before .before .before .before .before .before .put-content .ensures in
     let kept = c .before .before .before .before .before .before .before .before .before .before .before .put-set .ensures in
     let cleared = c .before .before .before .before .before .before .put-set2 .ensures in
     let end = c .before .before .put .ensures in
-    onward (onward (onward (onward (onward lead step) content) kept) cleared) end
+    same (line (args .name .now) (args .t4) (args .j)) (both (both (both (both (both lead step) content) kept) cleared) end)
 
 pub put-message-spec : {M : Type 1} → statement M
 put-message-spec =
@@ -89,8 +108,8 @@ put-message-spec =
     cast-step
     element-copy-out-from
     cast-from
-    element-copy-out-to
-    cast-to
+    element-copy-out-end
+    cast-end
     add-kept
     mul-kept
     element-copy-out-kept

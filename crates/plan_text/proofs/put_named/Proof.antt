@@ -1,7 +1,7 @@
--- The word, and then the number.
--- Assumes nothing.
+-- `plan_text::put_named` meets its contract: the word, then the number. Assumes nothing.
+use Rattle.plan_text.specs.Text.{namedText}
+use Rattle.plan_text.proofs.Putting.{both}
 use borrow.Author.Needs.{needs}
-use Rattle.plan_text.proofs.Laying.{onward}
 use Rattle.plan_text.proofs.put_named.Statement.{statement}
 use Rattle.plan_text.proofs.put_named.Tie as tie
 
@@ -15,7 +15,14 @@ same-length : tie.Need-same-length
 same-length c = search needs
 
 returns : tie.Need-returns
-returns c = onward (c .before .before .before .before .before .before .put-word .ensures) (c .before .before .put-number .ensures)
+unfolding namedText
+returns c = both (c .before .before .before .before .before .before .put-word .ensures) (c .before .before .put-number .ensures)
 
 pub put-named-spec : {M : Type 1} → statement M
-put-named-spec = tie.close (tie.spec put-word-requires put-number-requires same-length returns)
+put-named-spec =
+    tie.close
+    (tie.spec
+    put-word-requires
+    put-number-requires
+    same-length
+    returns)

@@ -1,23 +1,28 @@
--- Before each turn the lines of the messages before j are laid.
--- Assumes nothing.
+-- `plan_text::put_pass` meets its contract. The loop's invariant: the lines of the messages passed are put. Assumes nothing.
+use Prim.Native.Nat.{ℕ, _-_, _≤_}
+use mathlib.Core.Path.{_≡_, refl, ap}
+use mathlib.Core.List.{map}
 use native.Mathlib.Omega.{arith}
-use Prim.Native.Nat.{_-_}
-use Rattle.plan_text.specs.Text.{Wrote}
-use Rattle.plan_text.proofs.Laying.{onward, still}
+use Rattle.schedule.specs.Count.{from}
+use Rattle.plan.specs.Pass.{msgAt, messagesOf}
+use Rattle.plan_text.specs.Putting.{Puts}
+use Rattle.plan_text.specs.Text.{messageText, numbered}
+use Rattle.plan_text.proofs.Putting.{none, both, same, long}
+use Rattle.plan_text.proofs.Growing.{given-none, given-more}
 use Rattle.plan_text.proofs.put_pass.Statement.{statement}
 use Rattle.plan_text.proofs.put_pass.Tie as tie
 
 abbrev Inv-loop : tie.InvT-loop
-Inv-loop buffer₀ at name messages n o₀ j₀ buffer o j = Wrote at o buffer₀ buffer
+Inv-loop out₀ at name messages to₀ j₀ j-end out to j = (j-end ≡ messages .count) × (j ≤ j-end) × Puts out₀ out at to (numbered (messageText name) 0 (map (msgAt messages) (from 0 j)))
 
 abbrev μ-loop : tie.MeasureT-loop
-μ-loop buffer₀ at name messages n o₀ j₀ buffer o j = n - j
+μ-loop out₀ at name messages to₀ j₀ j-end out to j = j-end - j
 
 loop-holds : tie.Need-loop-holds Inv-loop μ-loop
-loop-holds c = still
+loop-holds c = (refl, omega arith, same (given-none (messageText (c .before .before .args .name .now)) (msgAt (c .before .before .args .messages))) none)
 
 put-message-requires : tie.Need-put-message-requires Inv-loop μ-loop
-put-message-requires c κs = (c .before .before .before .before .before .pre, c .before .loop-test .taken)
+put-message-requires c κs = (c .before .before .before .before .before .pre, omega (arith, c .before .loop-test .taken))
 
 add-j : tie.Need-add-j Inv-loop μ-loop
 add-j c = record { fits = omega (arith, c .before .before .before .before .before .before .before .before .pre .few) }
@@ -26,13 +31,21 @@ loop-less : tie.Need-loop-less Inv-loop μ-loop
 loop-less c = omega arith
 
 loop-again : tie.Need-loop-again Inv-loop μ-loop
-loop-again c = onward (c .before .before .before .before .before .loop .inv) (c .before .before .put-message .ensures)
+loop-again c =
+    let args = c .before .before .before .before .before .before .before .before .args in
+    let loop = c .before .before .before .before .before .loop in
+    (loop .inv .0, omega arith, same (given-more (messageText (args .name .now)) (msgAt (args .messages)) (loop .j)) (both (loop .inv .2) (c .before .before .put-message .ensures)))
 
 same-length : tie.Need-same-length Inv-loop μ-loop
-same-length c = c .before .loop .inv .same
+same-length c = long (c .before .loop .inv .2)
 
 returns : tie.Need-returns Inv-loop μ-loop
-returns c = c .before .loop .inv
+unfolding messagesOf
+returns c =
+    let args = c .before .before .before .before .args in
+    let loop = c .before .loop in
+    let e : loop .j ≡ args .messages .count = omega arith in
+    same (ap (λ (j : ℕ). numbered (messageText (args .name .now)) 0 (map (msgAt (args .messages)) (from 0 j))) e) (loop .inv .2)
 
 pub put-pass-spec : {M : Type 1} → statement M
 put-pass-spec =

@@ -1,51 +1,56 @@
--- Before each turn the word and the members below j are laid.
--- Assumes nothing.
-use borrow.Author.Needs.{needs}
+-- `plan_text::put_set` meets its contract. The loop's invariant: the members below k are put behind the word. Assumes nothing.
+use Prim.Native.Nat.{ℕ, _-_, _≤_}
+use mathlib.Core.Path.{_≡_, sym, ap}
 use native.Mathlib.Omega.{arith}
-use Prim.Native.Nat.{_-_}
-use Rattle.plan_text.specs.Text.{Wrote}
-use Rattle.plan_text.proofs.Laying.{onward, still}
+use Rattle.schedule.specs.Count.{joined, rising}
+use Rattle.plan.specs.Mask.{has, keysIn}
+use Rattle.plan.proofs.Unions.{joined-zero}
+use Rattle.lines.specs.Lines.{fieldText}
+use Rattle.plan_text.specs.Putting.{Puts}
+use Rattle.plan_text.specs.Text.{listText}
+use Rattle.plan_text.proofs.Putting.{none, both, same, long}
+use Rattle.plan_text.proofs.Growing.{member-more}
+use borrow.Author.Needs.{needs}
 use Rattle.plan_text.proofs.put_set.Statement.{statement}
 use Rattle.plan_text.proofs.put_set.Tie as tie
 
 abbrev Inv-loop : tie.InvT-loop
-Inv-loop buffer₀ at name set o₀ j₀ buffer o j = Wrote o₀ o buffer₀ buffer
+Inv-loop out₀ at name set to₀ k₀ out to k = (k ≤ 32) × Puts out₀ out to₀ to (joined fieldText (rising k (λ i. has i set)))
 
 abbrev μ-loop : tie.MeasureT-loop
-μ-loop buffer₀ at name set o₀ j₀ buffer o j = 32 - j
+μ-loop out₀ at name set to₀ k₀ out to k = 32 - k
 
 put-word-requires : tie.Need-put-word-requires Inv-loop μ-loop
 put-word-requires c κs = search needs
 
 loop-holds : tie.Need-loop-holds Inv-loop μ-loop
-loop-holds c = still
+loop-holds c = (omega arith, same (sym (joined-zero fieldText (λ i. has i (c .before .before .before .before .before .before .args .set)))) none)
 
-add-j : tie.Need-add-j Inv-loop μ-loop
-add-j c = search needs
+put-member-requires : tie.Need-put-member-requires Inv-loop μ-loop
+put-member-requires c κs = search needs
 
-single-requires : tie.Need-single-requires Inv-loop μ-loop
-single-requires c κs = search needs
-
-put-number-requires : tie.Need-put-number-requires Inv-loop μ-loop
-put-number-requires c κs = search needs
+add-k : tie.Need-add-k Inv-loop μ-loop
+add-k c = search needs
 
 loop-less : tie.Need-loop-less Inv-loop μ-loop
-loop-less c = omega arith
+loop-less c = search needs
 
 loop-again : tie.Need-loop-again Inv-loop μ-loop
-loop-again c = onward (c .before .before .before .before .before .before .before .loop .inv) (c .before .before .put-number .ensures)
-
-loop-less-2 : tie.Need-loop-less-2 Inv-loop μ-loop
-loop-less-2 c = omega arith
-
-loop-again-2 : tie.Need-loop-again-2 Inv-loop μ-loop
-loop-again-2 c = c .before .before .before .loop .inv
+loop-again c =
+    let args = c .before .before .before .before .before .before .before .before .before .before .before .before .args in
+    let loop = c .before .before .before .before .before .loop in
+    (omega arith, same (member-more fieldText (λ i. has i (args .set)) (loop .k)) (both (loop .inv .1) (c .before .before .put-member .ensures)))
 
 same-length : tie.Need-same-length Inv-loop μ-loop
-same-length c = (onward (c .before .before .before .before .put-word .ensures) (c .before .loop .inv)) .same
+same-length c = long (both (c .before .before .before .before .put-word .ensures) (c .before .loop .inv .1))
 
 returns : tie.Need-returns Inv-loop μ-loop
-returns c = onward (c .before .before .before .before .put-word .ensures) (c .before .loop .inv)
+unfolding listText keysIn
+returns c =
+    let args = c .before .before .before .before .before .before .before .before .args in
+    let loop = c .before .loop in
+    let e : loop .k ≡ 32 = omega arith in
+    both (c .before .before .before .before .put-word .ensures) (same (ap (λ (k : ℕ). joined fieldText (rising k (λ i. has i (args .set)))) e) (loop .inv .1))
 
 pub put-set-spec : {M : Type 1} → statement M
 put-set-spec =
@@ -55,12 +60,9 @@ put-set-spec =
     μ-loop
     put-word-requires
     loop-holds
-    add-j
-    single-requires
-    put-number-requires
+    put-member-requires
+    add-k
     loop-less
     loop-again
-    loop-less-2
-    loop-again-2
     same-length
     returns)

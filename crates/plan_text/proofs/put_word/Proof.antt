@@ -1,25 +1,34 @@
--- Before each turn the first i bytes are laid.
--- Assumes nothing.
-use borrow.Author.Needs.{needs}
+-- `plan_text::put_word` meets its contract. The loop's invariant: the bytes passed are put. Assumes nothing.
+use Prim.Native.Nat.{ℕ, _+_, _-_, _≤_, _<_}
+use mathlib.Core.Path.{_≡_, refl, sym, ap, _∙_}
+use mathlib.Core.List.{List, [], _∷_, _++_}
 use native.Mathlib.Omega.{arith}
-use Prim.Native.Nat.{_-_}
-use lib.ListN.{length}
-use Rattle.plan_text.specs.Text.{Wrote}
-use Rattle.plan_text.proofs.Laying.{onward, still}
+use native.Mathlib.Numerals.{add-one}
+use lib.ListN.{length, getD, take}
+use lib.Seq.{take-suc, take-length}
+use Rattle.plan_text.specs.Putting.{Puts}
+use Rattle.plan_text.proofs.Putting.{none, both, same, long}
+use borrow.Author.Needs.{needs}
 use Rattle.plan_text.proofs.put_word.Statement.{statement}
 use Rattle.plan_text.proofs.put_word.Tie as tie
 
 abbrev Inv-loop : tie.InvT-loop
-Inv-loop buffer₀ at word o₀ i₀ buffer o i = Wrote at o buffer₀ buffer
+Inv-loop out₀ at word to₀ i₀ i-end out to i = (i-end ≡ length word) × (i ≤ i-end) × Puts out₀ out at to (take i word)
 
 abbrev μ-loop : tie.MeasureT-loop
-μ-loop buffer₀ at word o₀ i₀ buffer o i = length word - i
+μ-loop out₀ at word to₀ i₀ i-end out to i = i-end - i
+
+taken-more : (word : List ℕ) (i : ℕ) → i < length word → take i word ++ (getD word i 0 ∷ []) ≡ take (i + 1) word
+taken-more word i l = sym (ap (λ (k : ℕ). take k word) (add-one i) ∙ take-suc word i 0 l)
+
+taken-all : (word : List ℕ) (i : ℕ) → i ≡ length word → take i word ≡ word
+taken-all word i e = ap (λ (k : ℕ). take k word) e ∙ take-length word
 
 loop-holds : tie.Need-loop-holds Inv-loop μ-loop
-loop-holds c = still
+loop-holds c = (refl, omega arith, none)
 
 shared-slice-read-put : tie.Need-shared-slice-read-put Inv-loop μ-loop
-shared-slice-read-put c = omega arith
+shared-slice-read-put c = search needs
 
 put-requires : tie.Need-put-requires Inv-loop μ-loop
 put-requires c κs = search needs
@@ -28,16 +37,19 @@ add-i : tie.Need-add-i Inv-loop μ-loop
 add-i c = search needs
 
 loop-less : tie.Need-loop-less Inv-loop μ-loop
-loop-less c = omega arith
+loop-less c = search needs
 
 loop-again : tie.Need-loop-again Inv-loop μ-loop
-loop-again c = onward (c .before .before .before .before .before .before .loop .inv) (c .before .before .put .ensures)
+loop-again c =
+    let args = c .before .before .before .before .before .before .before .before .before .args in
+    let loop = c .before .before .before .before .before .before .loop in
+    (loop .inv .0, omega arith, same (taken-more (args .word .now) (loop .i) (omega arith)) (both (loop .inv .2) (c .before .before .put .ensures)))
 
 same-length : tie.Need-same-length Inv-loop μ-loop
-same-length c = c .before .loop .inv .same
+same-length c = long (c .before .loop .inv .2)
 
 returns : tie.Need-returns Inv-loop μ-loop
-returns c = c .before .loop .inv
+returns c = same (taken-all (c .before .before .before .before .args .word .now) (c .before .loop .i) (omega arith)) (c .before .loop .inv .2)
 
 pub put-word-spec : {M : Type 1} → statement M
 put-word-spec =

@@ -1,0 +1,207 @@
+-- How long the text of a plan can be, so that a caller can lend a buffer that is never too short. Assumes nothing.
+use Prim.Native.Nat.{ℕ, zero, suc, _+_, _-_, _*_, _^_, _≤_, _<_}
+use mathlib.Core.Path.{_≡_, refl, sym, ap, _∙_}
+use mathlib.Core.Bool.{Bool, true, false}
+use mathlib.Core.List.{List, [], _∷_, _++_, map, reverse}
+use native.Mathlib.Omega.{arith}
+use native.Mathlib.Numerals.{add-one}
+use borrow.Author.Tests.{ltb-true, ltb-false}
+use lib.Dec.{ltb}
+use lib.ListN.{length, getD, take, drop, length-append, length-map, length-reverse}
+use Rattle.factor.specs.Limits.{max-variables}
+use Rattle.graph.specs.Record.{valid}
+use Rattle.graph.specs.Refusals.{numberOf}
+use Rattle.graph.specs.declared.Graph.{Graph}
+use Rattle.graph.specs.declared.refusal.Refusal.{Refusal}
+use Rattle.graph.proofs.Validity.{valid-variables}
+use Rattle.schedule.specs.Count.{count, joined, putIf, from, rising}
+use Rattle.schedule.specs.Pass.{ClosedFactor, at, full-pass}
+use Rattle.schedule.specs.Plan as lists
+use Rattle.schedule.proofs.Counts.{count-reverse}
+use Rattle.schedule.proofs.Sums.{length-from}
+use Rattle.schedule.proofs.Runs.{from-lt, running}
+use Rattle.schedule.proofs.Demand3.{from-once}
+use Rattle.plan.specs.Mask.{has, keysIn}
+use Rattle.plan.specs.Pass.{slotOf, msgAt, messagesOf, Codes, Ready}
+use Rattle.plan.specs.Gather.{Items, Held, gatheredOf}
+use Rattle.plan.specs.Plan.{noGathered, Bounded, planOf}
+use Rattle.plan.specs.declared.pass.Pass.{Pass}
+use Rattle.plan.specs.declared.gather.Gathered.{Gathered}
+use Rattle.plan.specs.declared.plan.Plan.{Plan}
+use Rattle.plan.proofs.Stepping.{ready-later}
+use Rattle.plan.proofs.Unions.{slot-low, slot-high, at-msg, joined-zero}
+use Rattle.messages.specs.Tables.{keysOf}
+use Rattle.solver.specs.Plan.{Answer, graphPlan, planned, read}
+use Rattle.solver.specs.declared.Arranged.{Arranged}
+use Rattle.solver.specs.declared.Outcome.the-variants.{Made}
+use Rattle.lines.specs.Lines.{space, fieldText, refusalText, written, laidIn}
+use Rattle.lines.specs.declared.Written.{Written}
+use Rattle.lines.proofs.Longest.{refusal-most}
+use Rattle.lines.proofs.Texts.{few-digits, field-length}
+use Rattle.job.specs.Job.{reading-stage}
+use Rattle.job.proofs.Endings.{Lays}
+use Rattle.job.proofs.Refusals.{number-most}
+use Rattle.plan_text.specs.Shown.{text-room}
+use Rattle.plan_text.specs.Text.{forwardWord, backwardWord, keyWord, stepWord, contentWord, keptWord, clearedWord, originalsWord, leavesWord, lastWord, slotText, namedText, listText, contentText, messageText, keyText, numbered, planText}
+use Rattle.plan_text.proofs.Answers.{arraysText}
+use Rattle.plan_text.proofs.Growing.{joined-nil, joined-one, joined-map, member-more, part-none, part-more, given-none, given-more, taken-none, taken-more}
+
+-- a text that grows by a piece a turn
+grown-most : (t s : ℕ → List ℕ) (most n : ℕ) → [] ≡ t 0 → ((k : ℕ) → k < n → t k ++ s k ≡ t (k + 1)) → ((k : ℕ) → k < n → length (s k) ≤ most) → length (t n) ≤ most * n
+grown-most t s most zero e more few = omega (arith, ap length e)
+grown-most t s most (suc n) e more few =
+    omega (
+      arith,
+      ap length (more n (omega arith)),
+      length-append (t n) (s n),
+      few n (omega arith),
+      grown-most t s most n e (λ k l. more k (omega arith)) (λ k l. few k (omega arith)),
+      ap (λ (k : ℕ). length (t k)) (add-one n),
+    )
+
+-- ---- the parts of a line
+
+-- a number of two digits behind a space
+field-most : (x : ℕ) → x < 100 → length (fieldText x) ≤ 3
+field-most x l = omega (arith, field-length x, few-digits 1 x (omega arith))
+
+slot-most : (s : ℕ) → s < 96 → length (slotText (slotOf s)) ≤ 4
+unfolding slotText
+slot-most s l = by (ltb s 64) refl
+  where
+    by : (b : Bool) → ltb s 64 ≡ b → length (slotText (slotOf s)) ≤ 4
+    by true e = rw (slot-low s (ltb-true s 64 e)) (omega (arith, field-most s (omega arith)))
+    by false e = rw (slot-high s (ltb-false s 64 e)) (omega (arith, few-digits 1 (s - 64) (omega arith)))
+
+-- entries of an array, from one place to another
+part-most : (f : ℕ → List ℕ) (l : List ℕ) (most a b : ℕ) → a ≤ b → b ≤ length l → ((i : ℕ) → i < b → length (f (getD l i 0)) ≤ most) → length (joined f (drop a (take b l))) ≤ most * (b - a)
+part-most f l most a b o h few =
+    let e : a + (b - a) ≡ b = omega arith in
+    let z : a ≡ a + 0 = omega arith in
+    rw e at (grown-most (λ k. joined f (drop a (take (a + k) l))) (λ k. f (getD l (a + k) 0)) most (b - a)
+    (part-none f l a ∙ ap (λ (k : ℕ). joined f (drop a (take k l))) z)
+    (λ k i. let y : a + k + 1 ≡ a + (k + 1) = omega arith in part-more f l a (a + k) (omega arith) (omega arith) ∙ ap (λ (j : ℕ). joined f (drop a (take j l))) y)
+    (λ k i. few (a + k) (omega arith)))
+
+member-most : (b : Bool) (k : ℕ) → k < 100 → length (joined fieldText (putIf b k [])) ≤ 3
+member-most true k l = rw (joined-one fieldText k) (field-most k l)
+member-most false k l = rw (joined-nil fieldText) (omega arith)
+
+set-most : (word : List ℕ) (set : ℕ) → length (listText word (keysIn set)) ≤ length word + 96
+unfolding listText keysIn
+set-most word set =
+    omega (
+      arith,
+      length-append word (joined fieldText (rising 32 (λ i. has i set))),
+      grown-most (λ k. joined fieldText (rising k (λ i. has i set))) (λ k. joined fieldText (putIf (has k set) k [])) 3 32 (sym (joined-zero fieldText (λ i. has i set))) (λ k l. member-more fieldText (λ i. has i set) k) (λ k l. member-most (has k set) k (omega arith)),
+    )
+
+named-most : (word : List ℕ) (x : ℕ) → x < 100 → length (namedText word x) ≤ length word + 3
+unfolding namedText
+named-most word x l = omega (arith, length-append word (fieldText x), field-most x l)
+
+items-most : (word items : List ℕ) (a b : ℕ) → a ≤ b → Items b items → length (listText word (drop a (take b items))) ≤ length word + 192
+unfolding listText
+items-most word items a b o h =
+    omega (
+      arith,
+      length-append word (joined fieldText (drop a (take b items))),
+      h .few,
+      part-most fieldText items 3 a b o (omega (arith, h .few, h .long)) (λ i l. field-most (getD items i 0) (omega (arith, h .low i l))),
+    )
+
+content-most : (content : List ℕ) (a b used : ℕ) → a ≤ b → b ≤ used → Codes used content → length (contentText (map slotOf (drop a (take b content)))) ≤ 392
+unfolding contentText
+content-most content a b used o u h =
+    let e = joined-map slotText slotOf (drop a (take b content)) in
+    omega (
+      arith,
+      length-append contentWord (joined slotText (map slotOf (drop a (take b content)))),
+      ap length e,
+      h .few,
+      part-most (λ s. slotText (slotOf s)) content 4 a b o (omega (arith, h .few, h .long)) (λ i l. slot-most (getD content i 0) (h .low i (omega arith))),
+    )
+
+-- ---- the lines
+
+-- the steps of a pass are those of its keys
+abbrev pub LowSteps : Pass → Type 0
+LowSteps p = (j : ℕ) → j < p .count → getD (p .steps) j 0 < 100
+
+message-most : (name : List ℕ) (p : Pass) (j : ℕ) → length name ≤ 8 → Ready 32 p → LowSteps p → j < p .count → length (messageText name j (msgAt p j)) ≤ 617
+unfolding messageText msgAt
+message-most name p j few ready low l =
+    simp length-append (omega (
+      arith,
+      named-most name j (omega (arith, ready .few)),
+      named-most stepWord (getD (p .steps) j 0) (low j l),
+      content-most (p .board .content) (getD (p .starts) j 0) (getD (p .ends) j 0) (p .board .filled) (ready .ordered j l) (ready .closed j l) (ready .room .contents),
+      set-most keptWord (getD (drop 64 (p .masks)) j 0),
+      set-most clearedWord (getD (p .cleared) j 0),
+    ))
+
+pass-most : (name : List ℕ) (p : Pass) → length name ≤ 8 → Ready 32 p → LowSteps p → length (numbered (messageText name) 0 (messagesOf p)) ≤ 617 * p .count
+unfolding messagesOf
+pass-most name p few ready low =
+    grown-most (λ j. numbered (messageText name) 0 (map (msgAt p) (from 0 j))) (λ j. messageText name j (msgAt p j)) 617 (p .count) (given-none (messageText name) (msgAt p)) (λ j l. given-more (messageText name) (msgAt p) j) (λ j l. message-most name p j few ready low l)
+
+key-most : (k : ℕ) (q : Gathered) → k < 32 → Held q → length (keyText k (gatheredOf q)) ≤ 718
+unfolding keyText gatheredOf
+key-most k q l held =
+    simp length-append (omega (
+      arith,
+      named-most keyWord k (omega arith),
+      set-most (space ∷ forwardWord) (q .forward),
+      set-most (space ∷ backwardWord) (q .backward),
+      items-most originalsWord (q .items) (q .covered) (q .count) (held .covered) (held .items),
+      items-most leavesWord (q .items) 0 (q .count) (omega arith) (held .items),
+      set-most lastWord (q .last),
+    ))
+
+keys-most : (n : ℕ) (p : Plan) → n ≤ 32 → Bounded n p → length (numbered keyText 0 (map gatheredOf (take n (p .at)))) ≤ 718 * n
+keys-most n p few b =
+    grown-most (λ k. numbered keyText 0 (map gatheredOf (take k (p .at)))) (λ k. keyText k (gatheredOf (getD (p .at) k noGathered))) 718 n (taken-none keyText gatheredOf (p .at)) (λ k l. taken-more keyText gatheredOf (p .at) k noGathered (omega (arith, b .long))) (λ k l. key-most k (getD (p .at) k noGathered) (omega arith) (b .held k l))
+
+-- 32 messages a pass and 32 keys
+pub plan-most : (n : ℕ) (p : Plan) → n ≤ 32 → Bounded n p → LowSteps (p .forward) → LowSteps (p .backward) → length (planText (planOf n p)) ≤ text-room
+unfolding planText planOf
+plan-most n p few b fw bw =
+    let f : Ready 32 (p .forward) = ready-later n 32 (p .forward) (p .forward .active) few (b .forward) in
+    let g : Ready 32 (p .backward) = ready-later n 32 (p .backward) (p .backward .active) few (b .backward) in
+    simp length-append (omega (arith, f .few, g .few, pass-most forwardWord (p .forward) (omega arith) f fw, pass-most backwardWord (p .backward) (omega arith) g bw, keys-most n p few b))
+
+-- ---- the plan of a graph
+
+order-steps : (n : ℕ) (K : ℕ → List ℕ) (N order : List ℕ) → ((j : ℕ) → count j order ≡ count j (from 0 n)) → (j : ℕ) → j < length (full-pass n K N order) → at (full-pass n K N order) j .step < length order
+unfolding full-pass
+order-steps n K N order each =
+    let run = running n K N (reverse order) (λ j. omega (arith, count-reverse j order, each j, from-once n j)) (λ j h. from-lt j n (omega (arith, count-reverse j order, each j))) in
+    λ j l. omega (arith, run .steps j l, length-reverse order)
+
+low-steps : (p : Pass) (ms : List ClosedFactor) (most : ℕ) → messagesOf p ≡ ms → most ≤ 32 → ((j : ℕ) → j < length ms → at ms j .step < most) → LowSteps p
+unfolding msgAt messagesOf
+low-steps p ms most e few low j l =
+    let n : length ms ≡ p .count = sym (ap length e) ∙ length-map (from 0 (p .count)) (msgAt p) ∙ length-from 0 (p .count) in
+    let s : at ms j .step ≡ getD (p .steps) j 0 = sym (ap (λ x. at x j .step) e) ∙ ap (λ (m : ClosedFactor). m .step) (at-msg p j l) in
+    omega (arith, low j (omega arith))
+
+pub arranged-most : (g : Graph) (made : Arranged) → read made ≡ planned g → valid g ≡ true → Bounded (made .keys) (made .plan) → length (arraysText made) ≤ text-room
+unfolding planned read planOf graphPlan lists.plan
+arranged-most g made is v b =
+    let n = g .variables in
+    let few : n ≤ max-variables = valid-variables g v in
+    let a : Answer = record { outcome = Made; keys = n; plan = graphPlan g } in
+    let e : read made ≡ a = is ∙ rw v refl in
+    let k : made .keys ≡ n = ap (λ (x : Answer). x .keys) e in
+    plan-most (made .keys) (made .plan) (omega arith) b
+    (low-steps (made .plan .forward) _ n (ap (λ (x : Answer). x .plan .forward) e) few (λ j l. omega (arith, order-steps n (keysOf g) (from 0 (g .count)) (from 0 n) (λ i. refl) j l, length-from 0 n)))
+    (low-steps (made .plan .backward) _ n (ap (λ (x : Answer). x .plan .backward) e) few (λ j l. omega (arith, order-steps n (keysOf g) (from 0 (g .count)) (reverse (from 0 n)) (λ i. count-reverse i (from 0 n)) j l, length-reverse (from 0 n), length-from 0 n)))
+
+-- ---- what a job shows
+
+pub refusal-within : (why : Refusal) (place : ℕ) → place < 2 ^ 64 → length (refusalText (numberOf why) reading-stage place) ≤ text-room
+refusal-within why place l = omega (arith, refusal-most (numberOf why) reading-stage place (omega (arith, number-most why)) (omega arith) l)
+
+-- an equal text is laid alike, and is as long
+pub all-same : (out s t : List ℕ) (r : Written) (after : List ℕ) → s ≡ t → Lays out s r after → length s ≤ text-room → (r ≡ written out t) × ((after ≡ laidIn out t) × (length t ≤ text-room))
+all-same out s t r after e p l = rw (← e) (p .0, (p .1, l))

@@ -1,0 +1,52 @@
+-- `plan_text::put_plan` meets its contract: the forward lines, the backward lines, and the lines of the keys. Assumes nothing.
+use Rattle.plan.specs.Plan.{planOf}
+use Rattle.plan.proofs.Stepping.{ready-later}
+use Rattle.plan_text.specs.Text.{planText}
+use Rattle.plan_text.proofs.Putting.{both}
+use borrow.Author.Needs.{needs}
+use Rattle.plan_text.proofs.put_plan.Statement.{statement}
+use Rattle.plan_text.proofs.put_plan.Tie as tie
+
+slice-aggregate-put-pass : tie.Need-slice-aggregate-put-pass
+slice-aggregate-put-pass c = search needs
+
+put-pass-requires : tie.Need-put-pass-requires
+put-pass-requires c κs =
+    let args = c .before .before .before .before .before .args in
+    let pre = c .before .before .before .before .before .pre in
+    ready-later (args .n) 32 (args .plan .forward) (args .plan .forward .active) (pre .0) (pre .1 .forward)
+
+slice-aggregate-put-pass-2 : tie.Need-slice-aggregate-put-pass-2
+slice-aggregate-put-pass-2 c = search needs
+
+put-pass-requires-2 : tie.Need-put-pass-requires-2
+put-pass-requires-2 c κs =
+    let args = c .before .before .before .before .before .before .before .before .before .before .args in
+    let pre = c .before .before .before .before .before .before .before .before .before .before .pre in
+    ready-later (args .n) 32 (args .plan .backward) (args .plan .backward .active) (pre .0) (pre .1 .backward)
+
+put-keys-requires : tie.Need-put-keys-requires
+put-keys-requires c κs = search needs
+
+same-length : tie.Need-same-length
+same-length c = search needs
+
+returns : tie.Need-returns
+unfolding planText planOf
+returns c =
+    let forward = c .before .before .before .before .before .before .before .before .before .before .before .put-pass .ensures in
+    let backward = c .before .before .before .before .before .before .put-pass2 .ensures in
+    let keys = c .before .before .put-keys .ensures in
+    both (both forward backward) keys
+
+pub put-plan-spec : {M : Type 1} → statement M
+put-plan-spec =
+    tie.close
+    (tie.spec
+    slice-aggregate-put-pass
+    put-pass-requires
+    slice-aggregate-put-pass-2
+    put-pass-requires-2
+    put-keys-requires
+    same-length
+    returns)
