@@ -6,4 +6,6 @@ pub mod Filling
 pub mod Passing
 pub mod Exactness
 pub mod Verdicts
+pub mod Telling
+pub mod Numbers
 pub mod Examples
