@@ -57,7 +57,7 @@ same-length-2 : tie.Need-same-length-2
 same-length-2 c = search needs
 
 returns-2 : tie.Need-returns-2
-returns-2 c = verdict-tells _ _ _ _ (@eliminate-from .ensures)
+returns-2 c = verdict-tells _ _ _ _ (c .before .before .before .before .eliminate-from .ensures)
 
 pub eliminate-spec : {M : Type 1} → statement M
 eliminate-spec =
