@@ -4,12 +4,13 @@ use mathlib.Core.List.{List}
 use Prim.Native.Nat.{ℕ, _+_, _≤_}
 use native.Mathlib.Numerals.{add-one}
 use lib.Ieee.{Float}
-use lib.ListN.{length}
+use lib.ListN.{length, getD}
 use Rattle.matrix.specs.Sums.{plus-zero}
 use Rattle.root.specs.Root.{rootOf}
 use Rattle.root.specs.declared.Pivot.{Pivot}
 use Rattle.root.specs.declared.Pivot.the-variants as pivot
 use Rattle.workspace.specs.Frames.{work-numbers}
+use Rattle.factor.specs.Told.{Told, value, refusal}
 use Rattle.graph.specs.Refusals.{numberOf}
 use Rattle.graph.specs.declared.Graph.{Graph}
 use Rattle.graph.specs.declared.refusal.Refusal.{Refusal}
@@ -18,7 +19,9 @@ use Rattle.job.specs.Job.{factor-room, zeros}
 use Rattle.records.specs.Records.{readAll}
 use Rattle.records.specs.declared.answer.Read.{Read}
 use Rattle.direct.specs.Direct.{verdict, answerOf, storeOf}
+use Rattle.direct.specs.Told.{directTold}
 use Rattle.direct.specs.declared.Direct.{Direct}
+use Rattle.direct.specs.declared.Direct.the-variants.{Rows, Refused}
 use Rattle.plan.specs.Plan.{planOf}
 use Rattle.plan.proofs.Sending.{messages-length}
 use Rattle.solver.specs.Plan.{Answer, planned, read}
@@ -26,11 +29,21 @@ use Rattle.solver.specs.declared.Arranged.{Arranged}
 use Rattle.solver.specs.Run as solver
 use Rattle.solver.specs.Stages as stages
 use Rattle.solver.specs.declared.run.Ran.{Ran}
-use Rattle.measured.specs.Measured.{readJob, numberIn, eliminated, Stores, stores, storesIn, again, repeated, replanned, rootIn}
+use Rattle.measured.specs.Measured.{readJob, refused-mark, numberIn, eliminated, Stores, stores, storesIn, again, repeated, replanned, rootIn}
 
 -- no refusal's number is above 30
 pub few : (r : ℕ) (why : Refusal) → r ≡ numberOf why → r ≤ 30
 few r why e = rw e (number-most why)
+
+-- the number in an answer is what `direct` tells, a refusal marked
+abbrev marked : Told → ℕ
+marked (value values) = getD values 0 0
+marked (refusal number values) = refused-mark + number
+
+pub number-tells : (d : Direct) → numberIn d ≡ marked (directTold d)
+unfolding directTold
+number-tells (Rows rows) = refl
+number-tells (Refused why) = refl
 
 pub no-run : (g : Graph) (factors : List Float) (s : Stores) → s ≡ again g factors s 0
 unfolding again
