@@ -4,11 +4,11 @@ use Rattle.factor.specs.Weighing.{Weight, weight, noPivot, noNumber, ans
 use Rattle.factor.specs.Told.{weighedTold, weightTold}
 use Rattle.factor.specs.declared.Weighed.{Weighed}
 
-pub weighed-tells : (r : Weighed) (w : Weight) → r ≡ answerOf w → weighedTold r ≡ weightTold w
+answers : (w : Weight) → weighedTold (answerOf w) ≡ weightTold w
 unfolding weighedTold weightTold
-weighed-tells r w e = ap weighedTold e ∙ go w
-  where
-    go : (w : Weight) → weighedTold (answerOf w) ≡ weightTold w
-    go (weight xi w) = refl
-    go noPivot = refl
-    go noNumber = refl
+answers (weight xi w) = refl
+answers noPivot = refl
+answers noNumber = refl
+
+pub weighed-tells : (r : Weighed) (w : Weight) → r ≡ answerOf w → weighedTold r ≡ weightTold w
+weighed-tells r w e = ap weighedTold e ∙ answers w
