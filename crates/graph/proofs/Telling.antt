@@ -1,7 +1,7 @@
 -- An answer that is the definition's tells the definition's numbers. Assumes nothing.
 use Prim.Native.Nat.{ℕ}
 use mathlib.Core.Path.{_≡_, refl, ap, _∙_}
-use mathlib.Core.List.{List, [], _∷_}
+use mathlib.Core.List.{List}
 use lib.Ieee.{Float}
 use Rattle.factor.specs.Factor.{priorOf, observationOf}
 use Rattle.factor.specs.Weighing.{noPivot, noNumber}
