@@ -3,4 +3,5 @@ pub mod Checks
 pub mod Verdicts
 pub mod Asking
 pub mod Sending
+pub mod Telling
 pub mod Examples

@@ -30,6 +30,7 @@ ghost use Rattle.gaussian.specs.Asked.{messageRows};
 ghost use Rattle.tables.specs.Originals.{Originals};
 ghost use Rattle.direct.specs.Direct as spec;
 ghost use Rattle.direct.specs.Between.{early, Admitted};
+ghost use Rattle.direct.specs.Told.{directTold, verdictTold};
 
 // How long the tables of the originals are.
 const ALL_KEYS: usize = KEYS * FACTORS;
@@ -245,6 +246,7 @@ pub fn eliminate(
 ) -> Direct
     ensures { λ r. ⌜ r ≡ spec.answerOf (spec.verdict g (now (slots .entry)) (now (kept .entry)) (now (cleared .entry)) (now (factors .entry)) (length (now (messages .entry))) (length (now (work .entry)))) ⌝ }
     ensures { λ _. ⌜ now (messages .exit) ≡ spec.storeOf (now (messages .entry)) (spec.verdict g (now (slots .entry)) (now (kept .entry)) (now (cleared .entry)) (now (factors .entry)) (length (now (messages .entry))) (length (now (work .entry)))) ⌝ }
+    ensures { λ r. ⌜ directTold r ≡ verdictTold (spec.verdict g (now (slots .entry)) (now (kept .entry)) (now (cleared .entry)) (now (factors .entry)) (length (now (messages .entry))) (length (now (work .entry)))) ⌝ }
 {
     match check(g, slots, kept, cleared, factors) {
         Checked::Passed => {}

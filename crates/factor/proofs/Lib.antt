@@ -7,3 +7,4 @@ pub mod Storing
 pub mod Fitting
 pub mod Witness
 pub mod KeyOrder
+pub mod Telling

@@ -14,6 +14,7 @@ ghost use lib.ListN.{length};
 ghost use Rattle.factor.specs.Limits.{max-keys, max-variables, most-numbers};
 ghost use Rattle.factor.specs.Factor as spec;
 ghost use Rattle.factor.specs.Weighing.{Lent, Room, weighed, told, answerOf, laid};
+ghost use Rattle.factor.specs.Told.{weighedTold, weightTold};
 
 // A prior or an observation: its keys stand in the first places, rising, and unused places are 0. A prior has one key and that key's size as rows.
 pub struct Factor {
@@ -357,6 +358,7 @@ pub fn store_factor(
     requires { ⌜ Room n at (now a) (now mean) (now variance) (now store) ⌝ }
     ensures { λ r. ⌜ r ≡ answerOf (weighed n (now (mean .entry)) (now (variance .entry))) ⌝ }
     ensures { λ _. ⌜ now (store .exit) ≡ laid (weighed n (now (mean .entry)) (now (variance .entry))) (now (a .entry)) (now (store .entry)) at ⌝ }
+    ensures { λ r. ⌜ weighedTold r ≡ weightTold (weighed n (now (mean .entry)) (now (variance .entry))) ⌝ }
 {
     let square = n * n;
     let mut l = [0.0; SQUARE];

@@ -8,6 +8,7 @@ pub mod Listing
 pub mod Lengths
 pub mod Outcomes
 pub mod Moments
+pub mod Telling
 pub mod Computing
 pub mod Cases
 pub mod Random

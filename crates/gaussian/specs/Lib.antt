@@ -3,3 +3,4 @@ pub mod Elimination
 pub mod Answers
 pub mod Asked
 pub mod Marginals
+pub mod Told

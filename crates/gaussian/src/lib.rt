@@ -37,6 +37,7 @@ ghost use Rattle.slots.specs.Fitting.{Ready, Counted};
 ghost use Rattle.gaussian.specs.Elimination.{begun, lost, finished, run, eliminate};
 ghost use Rattle.gaussian.specs.Answers.{endedAs, answer, stored, numbersIn, leftIn, viewsOf, branchedAt};
 ghost use Rattle.gaussian.specs.Asked.{Asked, Roomy, Whole};
+ghost use Rattle.gaussian.specs.Told.{eliminatedTold, outcomeTold};
 
 // How an elimination ended: with a message of so many rows, at a refused pivot of the cleared block, or with a message that is not finite.
 pub enum Eliminated {
@@ -252,6 +253,7 @@ pub fn eliminate_slots(
     requires { ⌜ Roomy (now kept) (now cleared) sizes (now keys) (now heads) (now slots) to (length (now messages)) ⌝ }
     ensures { λ r. ⌜ r ≡ answer (eliminate (viewsOf (now (factors .entry)) (now (messages .entry)) (now (keys .entry)) (now (heads .entry)) (now (slots .entry))) (now (kept .entry)) (now (cleared .entry)) sizes) ⌝ }
     ensures { λ _. ⌜ now (messages .exit) ≡ stored (now (messages .entry)) to (eliminate (viewsOf (now (factors .entry)) (now (messages .entry)) (now (keys .entry)) (now (heads .entry)) (now (slots .entry))) (now (kept .entry)) (now (cleared .entry)) sizes) ⌝ }
+    ensures { λ r. ⌜ eliminatedTold r ≡ outcomeTold (eliminate (viewsOf (now (factors .entry)) (now (messages .entry)) (now (keys .entry)) (now (heads .entry)) (now (slots .entry))) (now (kept .entry)) (now (cleared .entry)) sizes) ⌝ }
 {
     match eliminate_in(
         factors,

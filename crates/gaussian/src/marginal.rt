@@ -19,7 +19,8 @@ ghost use Rattle.slots.specs.Tables.{numbersOf};
 ghost use Rattle.gaussian.specs.Elimination.{eliminate};
 ghost use Rattle.gaussian.specs.Answers.{viewsOf};
 ghost use Rattle.gaussian.specs.Asked.{Asked};
-ghost use Rattle.gaussian.specs.Marginals.{solvedMoments, momentsOf, told, Lent, refusedAs, marginalOf, marginalFrom};
+ghost use Rattle.gaussian.specs.Marginals.{solvedMoments, momentsOf, momentsIn, told, Lent, refusedAs, marginalOf, marginalFrom};
+ghost use Rattle.gaussian.specs.Told.{solvedTold, endingTold, momentsTold, lastTold};
 
 // The numbers of a matrix of as many rows and columns as the largest variable has.
 const SQUARE: usize = SIZE * SIZE;
@@ -93,6 +94,7 @@ fn moments(
     requires { ⌜ (y * s ≤ length (now a)) × (y ≤ length (now xi)) × (y * y ≤ length (now w)) × (y * s ≤ length (now t)) × (s ≤ max-size) ⌝ }
     requires { ⌜ (now mean ≡ replicate s plus-zero) × (now l ≡ replicate (s * s) plus-zero) × (now covariance ≡ replicate (s * s) plus-zero) ⌝ }
     ensures { λ r. ⌜ momentsOf y s (now (a .entry)) (now (xi .entry)) (now (w .entry)) ≡ told r (now (mean .exit)) (now (covariance .exit)) ⌝ }
+    ensures { λ r. ⌜ solvedTold r ≡ momentsTold (momentsOf y s (now (a .entry)) (now (xi .entry)) (now (w .entry))) ⌝ }
 {
     let tall = View {
         at: 0,
@@ -129,6 +131,7 @@ impl Marginal {
     pub fn from(key: usize, size: usize, rows: usize, message: &[f64]) -> Answer
         requires { ⌜ (size ≤ max-size) × (rows ≤ max-total) × (numbersOf rows size ≤ length (now message)) ⌝ }
         ensures { λ r. ⌜ r ≡ marginalOf key size rows (now (message .entry)) ⌝ }
+        ensures { λ r. ⌜ endingTold (r .ending) ≡ momentsTold (momentsIn rows size (now (message .entry))) ⌝ }
     {
         let o = 0;
         let p = rows * size;
@@ -181,6 +184,7 @@ pub fn marginalize<'a>(
     requires { ⌜ Asked (key ∷ []) (now cleared) sizes (now factors) (now messages) (length (now work)) (now keys) (now heads) (now slots) ⌝ }
     requires { ⌜ getD sizes key 0 ≤ max-size ⌝ }
     ensures { λ r. ⌜ r ≡ marginalFrom key (getD sizes key 0) (eliminate (viewsOf (now (factors .entry)) (now (messages .entry)) (now (keys .entry)) (now (heads .entry)) (now (slots .entry))) (key ∷ []) (now (cleared .entry)) sizes) ⌝ }
+    ensures { λ r. ⌜ endingTold (r .ending) ≡ lastTold (getD sizes key 0) (eliminate (viewsOf (now (factors .entry)) (now (messages .entry)) (now (keys .entry)) (now (heads .entry)) (now (slots .entry))) (key ∷ []) (now (cleared .entry)) sizes) ⌝ }
 {
     let kept = [key];
     let size = dim_of(&kept, sizes);

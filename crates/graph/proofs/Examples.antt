@@ -12,11 +12,11 @@ use Rattle.cholesky.specs.Solve.{solvedRow, solveLower, solveUpper, solved, uni
 use Rattle.factor.specs.Counting.{every, all, sum}
 use Rattle.factor.specs.Factor.{observationOf, above, isClear, firstColumn, aNumbers, numbers, lengthsFit, givenFinite}
 use Rattle.factor.specs.Weighing.{bounded, weighedBy, weighed}
-use Rattle.graph.specs.Refusals.{numberOf}
+use Rattle.factor.specs.Told.{value, refusal}
 use Rattle.graph.specs.Record.{fresh, scalar, sizeFits, same, free, total, registered, clear, place, variablesFit, factorPlace, factorsFit, offset, valid}
 use Rattle.graph.specs.Registration.{refused, settle, Verdict, refuse, addVariable, factorVerdict, priorVerdict, addPrior, priorStore, countsFit, observationVerdict, addObservation, observationStore}
+use Rattle.graph.specs.Told.{outcomeTold}
 use Rattle.graph.specs.declared.Graph.{Graph}
-use Rattle.graph.specs.declared.Outcome.the-variants.{Number}
 use Rattle.graph.specs.declared.refusal.Refusal.the-variants.{KeysNotRising, VariancePivot}
 
 abbrev float : ℕ → Float
@@ -46,6 +46,15 @@ unfoldable pair : Graph
 unfolding addVariable valid every all variablesFit factorsFit place registered clear same factorPlace isClear total sum scalar sizeFits free
 pair = addVariable (addVariable fresh (97, 0) 1 .graph) (97, 1) 1 .graph
 
+-- the second variable's key is 1, and its name is then taken
+key-told : outcomeTold (addVariable (addVariable fresh (97, 0) 1 .graph) (97, 1) 1 .outcome) ≡ value (1 ∷ [])
+unfolding pair outcomeTold
+key-told = refl
+
+name-taken-told : outcomeTold (addVariable pair (97, 1) 1 .outcome) ≡ refusal 10 []
+unfolding pair outcomeTold
+name-taken-told = refl
+
 -- the verdicts on calls with that graph, opened for computing
 unfoldable on-prior : List Float → List Float → List Float → Verdict
 unfolding pair priorVerdict factorVerdict lengthsFit givenFinite aNumbers numbers offset allFinite weighed weighedBy bounded factor column rooted below reduced pivotOf rootOf solved solveLower solveUpper solvedRow inverted unitColumn steps sweep deductOf deduct ofBits sub mul div
@@ -64,17 +73,18 @@ equal-keys : addObservation pair (1 ∷ 1 ∷ []) 1 (one ∷ one ∷ []) (one �
 unfolding addObservation
 equal-keys = ap (settle pair (observationOf (1 ∷ 1 ∷ []) 1)) equal-keys-refused
 
-number-three : numberOf KeysNotRising ≡ 3
-number-three = refl
+equal-keys-told : outcomeTold (addObservation pair (1 ∷ 1 ∷ []) 1 (one ∷ one ∷ []) (one ∷ []) (one ∷ []) (nan ∷ nan ∷ nan ∷ nan ∷ []) .outcome) ≡ refusal 3 []
+unfolding outcomeTold
+equal-keys-told = rw equal-keys
 
 -- mean 2 and variance 4 are stored as xi 0.5 and W 0.25
 prior-stored : priorStore pair 0 (two ∷ []) (four ∷ []) (nan ∷ nan ∷ nan ∷ []) ≡ half ∷ quarter ∷ nan ∷ []
 unfolding on-prior priorStore
 prior-stored = refl
 
-prior-numbered : addPrior pair 0 (two ∷ []) (four ∷ []) (nan ∷ nan ∷ nan ∷ []) .outcome ≡ Number 0
-unfolding on-prior addPrior
-prior-numbered = refl
+prior-told : outcomeTold (addPrior pair 0 (two ∷ []) (four ∷ []) (nan ∷ nan ∷ nan ∷ []) .outcome) ≡ value (0 ∷ [])
+unfolding on-prior addPrior outcomeTold
+prior-told = refl
 
 -- A = (-1 1), mean 4 and variance 1 are stored as they are
 observation-stored : observationStore pair (0 ∷ 1 ∷ []) 1 (minus-one ∷ one ∷ []) (four ∷ []) (one ∷ []) (nan ∷ nan ∷ nan ∷ nan ∷ nan ∷ []) ≡ minus-one ∷ one ∷ four ∷ one ∷ nan ∷ []

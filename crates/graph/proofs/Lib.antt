@@ -1,9 +1,11 @@
 -- Laws that several proofs cite.
-pub mod Verdicts
+pub mod CheckOrder
 pub mod Places
 pub mod Validity
 pub mod Keeping
 pub mod Filling
 pub mod Passing
 pub mod Exactness
+pub mod Telling
+pub mod Numbers
 pub mod Examples

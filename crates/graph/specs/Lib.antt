@@ -3,3 +3,4 @@ pub mod Refusals
 pub mod Record
 pub mod Registration
 pub mod Reached
+pub mod Told

@@ -1,11 +1,7 @@
 // The factor graph as a plain value, and the calls that register its variables and factors.
-pub mod answer;
 mod checks;
 pub mod refusal;
 
-use answer::KeySize;
-use answer::KeySymbol;
-use answer::SymbolKey;
 use checks::counts_fit;
 use checks::same;
 use checks::scalar;
@@ -30,6 +26,7 @@ ghost use Rattle.factor.specs.Factor.{fits, isClear};
 ghost use Rattle.graph.specs.Record as spec;
 ghost use Rattle.graph.specs.Registration as calls;
 ghost use Rattle.graph.specs.Reached.{Reached};
+ghost use Rattle.graph.specs.Told.{outcomeTold, verdictTold};
 
 // The name of a variable: a letter and an index.
 pub struct Symbol(pub u32, pub u32);
@@ -123,61 +120,6 @@ impl Graph {
             factors: [none; FACTORS],
             count: 0,
         }
-    }
-
-    pub fn n_keys(self) -> usize
-        ensures { λ r. ⌜ r ≡ self .variables ⌝ }
-    {
-        self.variables
-    }
-
-    pub fn n_factors(self) -> usize
-        ensures { λ r. ⌜ r ≡ self .count ⌝ }
-    {
-        self.count
-    }
-
-    // A key is a position of registration; no record has more than there is room for.
-    pub fn has_key(self, key: usize) -> bool
-        ensures { λ r. ⌜ r ≡ spec.hasKey self key ⌝ }
-    {
-        key < self.variables && key < VARIABLES
-    }
-
-    pub fn size(self, key: usize) -> KeySize
-        ensures { λ r. ⌜ r ≡ spec.sizeOfKey self key ⌝ }
-    {
-        if !self.has_key(key) {
-            return KeySize::Absent;
-        }
-        let sizes = self.sizes;
-        KeySize::Is(factor::size_of(sizes, key))
-    }
-
-    pub fn symbol(self, key: usize) -> KeySymbol
-        ensures { λ r. ⌜ r ≡ spec.symbolOfKey self key ⌝ }
-    {
-        if !self.has_key(key) {
-            return KeySymbol::Absent;
-        }
-        let name = self.symbols[key];
-        KeySymbol::Is(name)
-    }
-
-    // The key of a name.
-    pub fn key(self, name: Symbol) -> SymbolKey
-        ensures { λ r. ⌜ r ≡ spec.keyOf self name ⌝ }
-    {
-        for key in 0..VARIABLES {
-            if !self.has_key(key) {
-                return SymbolKey::Absent;
-            }
-            let here = self.symbols[key];
-            if same(here, name) {
-                return SymbolKey::Is(key);
-            }
-        }
-        SymbolKey::Absent
     }
 
     // None of the first n variables has the name.
@@ -314,6 +256,7 @@ impl Graph {
     // A variable gets the next key.
     pub fn add_variable(mut self, name: Symbol, size: usize) -> Added
         ensures { λ r. ⌜ r ≡ calls.addVariable self name size ⌝ }
+        ensures { λ r. ⌜ outcomeTold (r .outcome) ≡ outcomeTold (calls.addVariable self name size .outcome) ⌝ }
     {
         if !self.valid() {
             return self.refused(Refusal::NoSuchGraph);
@@ -392,6 +335,7 @@ impl Graph {
     ) -> Added
         ensures { λ r. ⌜ r ≡ calls.addPrior self key (now (mean .entry)) (now (variance .entry)) (now (store .entry)) ⌝ }
         ensures { λ _. ⌜ now (store .exit) ≡ calls.priorStore self key (now (mean .entry)) (now (variance .entry)) (now (store .entry)) ⌝ }
+        ensures { λ r. ⌜ outcomeTold (r .outcome) ≡ verdictTold self (calls.priorVerdict self key (now (mean .entry)) (now (variance .entry)) (now (store .entry))) ⌝ }
     {
         if !self.valid() {
             return self.refused(Refusal::NoSuchGraph);
@@ -438,6 +382,7 @@ impl Graph {
     ) -> Added
         ensures { λ r. ⌜ r ≡ calls.addObservation self (now (keys .entry)) rows (now (a .entry)) (now (mean .entry)) (now (variance .entry)) (now (store .entry)) ⌝ }
         ensures { λ _. ⌜ now (store .exit) ≡ calls.observationStore self (now (keys .entry)) rows (now (a .entry)) (now (mean .entry)) (now (variance .entry)) (now (store .entry)) ⌝ }
+        ensures { λ r. ⌜ outcomeTold (r .outcome) ≡ verdictTold self (calls.observationVerdict self (now (keys .entry)) rows (now (a .entry)) (now (mean .entry)) (now (variance .entry)) (now (store .entry))) ⌝ }
     {
         if !self.valid() {
             return self.refused(Refusal::NoSuchGraph);

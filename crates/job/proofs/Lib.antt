@@ -2,3 +2,4 @@
 pub mod Endings
 pub mod Refusals
 pub mod Longest
+pub mod Telling

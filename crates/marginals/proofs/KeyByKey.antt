@@ -17,6 +17,7 @@ use Rattle.gaussian.specs.Elimination.{Outcome, pivot, unbounded, message}
 use Rattle.gaussian.specs.Marginals.{Moments, moments, noPivot, noNumber, momentsOf}
 use Rattle.messages.specs.Values.{none, stopped}
 use Rattle.messages.specs.Asked.{stopOf}
+use Rattle.messages.proofs.Telling.{carried-tells}
 use Rattle.messages.specs.declared.Carried.{Carried}
 use Rattle.messages.specs.declared.Carried.the-variants.{Through, Halted}
 use Rattle.marginals.specs.Marginals.{twice, Found, found, missing, foundBy, foundIn, missingFrom, marginalsIn}
@@ -132,8 +133,10 @@ module _ (sizes : List ℕ) (factors messages : List Float) (keys heads : List �
 
       pub walk-halted : (numbers j : ℕ) (why : Refusal) (r : Carried) (results′ : List Float) → r ≡ Halted j why → stopOf r ≡ missingFrom k (f ∷ []) → Finds all numbers r results₀ results′
       walk-halted numbers j why r results′ er e =
+          let s : stopOf r ≡ missingFrom 0 all = rw er (sym (w .stop ∙ ap (missingFrom k) opened ∙ halted-first f (rest (k + 1)) k j why (sym e ∙ ap stopOf er))) in
           record {
-            tells = rw er (sym (w .stop ∙ ap (missingFrom k) opened ∙ halted-first f (rest (k + 1)) k j why (sym e ∙ ap stopOf er)));
+            tells = s;
+            told = carried-tells r (missingFrom 0 all) s;
             count = λ t. absurd (apart t);
             stand = λ t. absurd (apart t);
           }
@@ -148,8 +151,10 @@ module _ (sizes : List ℕ) (factors messages : List Float) (keys heads : List �
         let d : marginalsIn all ≡ take to results = w .done ∙ rw e (append-nil (take to results)) in
         let n : length (marginalsIn all) ≡ to = ap length d ∙ length-take-le to results (w .within) in
         let i : k ≡ length qs = omega (arith, w .low) in
+        let s : none ≡ missingFrom 0 all = sym (w .stop ∙ rw e refl) in
         record {
-          tells = sym (w .stop ∙ rw e refl);
+          tells = s;
+          told = carried-tells Through (missingFrom 0 all) s;
           count = λ t. n ∙ w .place ∙ ap (placeOf sizes) i;
           stand = λ t. rw (n, d) (sym (take-append-drop to results) ∙ ap (λ (l : List Float). take to results ++ l) (w .after));
         }

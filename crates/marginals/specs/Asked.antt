@@ -24,6 +24,7 @@ use Rattle.messages.specs.Figure.{need}
 use Rattle.messages.specs.Tables.{keysOf, Carriable, PlacedTo, Tables, Stored}
 use Rattle.messages.specs.Values.{values, overlaid}
 use Rattle.messages.specs.Asked.{stopOf}
+use Rattle.messages.specs.Told.{carriedTold, stopTold}
 use Rattle.messages.specs.declared.Carried.{Carried}
 use Rattle.messages.specs.declared.Carried.the-variants.{Through}
 use Rattle.marginals.specs.Marginals.{marginalNumbers, twice, Found, missing, foundIn, marginalsFrom, missingFrom, marginalsIn}
@@ -84,6 +85,7 @@ planned g factors p = marginalsFrom g factors p (values g factors (p .forward)) 
 -- the answer tells the first key without a marginal; where there is none, the marginals are so many numbers, and stand at the start of the results
 pub record Finds (all : List Found) (numbers : ℕ) (r : Carried) (before after : List Float) : Type 0 where
   pub tells : stopOf r ≡ missingFrom 0 all
+  pub told : carriedTold r ≡ stopTold (missingFrom 0 all)
   pub count : r ≡ Through → length (marginalsIn all) ≡ numbers
   pub stand : r ≡ Through → after ≡ overlaid before (marginalsIn all)
 

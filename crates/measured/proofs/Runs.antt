@@ -4,20 +4,24 @@ use mathlib.Core.List.{List}
 use Prim.Native.Nat.{ℕ, _+_, _≤_}
 use native.Mathlib.Numerals.{add-one}
 use lib.Ieee.{Float}
-use lib.ListN.{length, replicate}
+use lib.ListN.{length, getD}
 use Rattle.matrix.specs.Sums.{plus-zero}
 use Rattle.root.specs.Root.{rootOf}
 use Rattle.root.specs.declared.Pivot.{Pivot}
 use Rattle.root.specs.declared.Pivot.the-variants as pivot
 use Rattle.workspace.specs.Frames.{work-numbers}
+use Rattle.factor.specs.Told.{Told, value, refusal}
 use Rattle.graph.specs.Refusals.{numberOf}
 use Rattle.graph.specs.declared.Graph.{Graph}
 use Rattle.graph.specs.declared.refusal.Refusal.{Refusal}
 use Rattle.job.proofs.Refusals.{number-most}
+use Rattle.job.specs.Job.{factor-room, zeros}
 use Rattle.records.specs.Records.{readAll}
 use Rattle.records.specs.declared.answer.Read.{Read}
 use Rattle.direct.specs.Direct.{verdict, answerOf, storeOf}
+use Rattle.direct.specs.Told.{directTold}
 use Rattle.direct.specs.declared.Direct.{Direct}
+use Rattle.direct.specs.declared.Direct.the-variants.{Rows, Refused}
 use Rattle.plan.specs.Plan.{planOf}
 use Rattle.plan.proofs.Sending.{messages-length}
 use Rattle.solver.specs.Plan.{Answer, planned, read}
@@ -25,11 +29,21 @@ use Rattle.solver.specs.declared.Arranged.{Arranged}
 use Rattle.solver.specs.Run as solver
 use Rattle.solver.specs.Stages as stages
 use Rattle.solver.specs.declared.run.Ran.{Ran}
-use Rattle.measured.specs.Measured.{factor-room, readJob, numberIn, eliminated, Stores, stores, storesIn, again, repeated, replanned, rootIn}
+use Rattle.measured.specs.Measured.{readJob, refused-mark, numberIn, eliminated, Stores, stores, storesIn, again, repeated, replanned, rootIn}
 
 -- no refusal's number is above 30
 pub few : (r : ℕ) (why : Refusal) → r ≡ numberOf why → r ≤ 30
 few r why e = rw e (number-most why)
+
+-- the number in an answer is what `direct` tells, a refusal marked
+abbrev marked : Told → ℕ
+marked (value values) = getD values 0 0
+marked (refusal number values) = refused-mark + number
+
+pub number-tells : (d : Direct) → numberIn d ≡ marked (directTold d)
+unfolding directTold
+number-tells (Rows rows) = refl
+number-tells (Refused why) = refl
 
 pub no-run : (g : Graph) (factors : List Float) (s : Stores) → s ≡ again g factors s 0
 unfolding again
@@ -46,15 +60,15 @@ one-run g factors s n messages marginals work r messages′ marginals′ ew es e
 pub all-runs : (g : Graph) (factors : List Float) (s : Stores) (times n : ℕ) (t : Stores) → n ≡ times → t ≡ again g factors s n → t ≡ again g factors s times
 all-runs g factors s times n t en es = es ∙ ap (again g factors s) en
 
-pub eliminated-is : (bytes slots kept cleared : List ℕ) (messages : List Float) (read : Read) (factors messages′ : List Float) (d : Direct) (r : ℕ) → read ≡ readAll bytes (replicate factor-room plus-zero) .answer
-    → factors ≡ readAll bytes (replicate factor-room plus-zero) .store → d ≡ answerOf (verdict (read .graph) slots kept cleared factors (length messages) work-numbers)
+pub eliminated-is : (bytes slots kept cleared : List ℕ) (messages : List Float) (read : Read) (factors messages′ : List Float) (d : Direct) (r : ℕ) → read ≡ readAll bytes (zeros factor-room) .answer
+    → factors ≡ readAll bytes (zeros factor-room) .store → d ≡ answerOf (verdict (read .graph) slots kept cleared factors (length messages) work-numbers)
     → messages′ ≡ storeOf messages (verdict (read .graph) slots kept cleared factors (length messages) work-numbers) → r ≡ numberIn d
     → (r ≡ numberIn (answerOf (eliminated (readJob bytes) slots kept cleared (length messages)))) × (messages′ ≡ storeOf messages (eliminated (readJob bytes) slots kept cleared (length messages)))
 unfolding eliminated
 eliminated-is bytes slots kept cleared messages read factors messages′ d r er ef ed em en = (en ∙ rw (ed, er, ef) refl, em ∙ rw (er, ef) refl)
 
-pub repeated-is : (bytes : List ℕ) (s t : Stores) (times : ℕ) (read : Read) (factors : List Float) → read ≡ readAll bytes (replicate factor-room plus-zero) .answer
-    → factors ≡ readAll bytes (replicate factor-room plus-zero) .store → t ≡ again (read .graph) factors s times → t ≡ repeated (readJob bytes) s times
+pub repeated-is : (bytes : List ℕ) (s t : Stores) (times : ℕ) (read : Read) (factors : List Float) → read ≡ readAll bytes (zeros factor-room) .answer
+    → factors ≡ readAll bytes (zeros factor-room) .store → t ≡ again (read .graph) factors s times → t ≡ repeated (readJob bytes) s times
 unfolding repeated
 repeated-is bytes s t times read factors er ef e = e ∙ rw (er, ef) refl
 

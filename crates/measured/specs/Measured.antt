@@ -2,7 +2,7 @@
 use Prim.Native.Nat.{ℕ, zero, suc, _+_}
 use mathlib.Core.List.{List}
 use lib.Ieee.{Float}
-use lib.ListN.{length, replicate}
+use lib.ListN.{length}
 use Rattle.matrix.specs.Sums.{plus-zero}
 use Rattle.root.specs.declared.Pivot.{Pivot}
 use Rattle.root.specs.declared.Pivot.the-variants as pivot
@@ -10,19 +10,16 @@ use Rattle.workspace.specs.Frames.{work-numbers}
 use Rattle.graph.specs.Refusals.{numberOf}
 use Rattle.graph.specs.declared.Graph.{Graph}
 use Rattle.records.specs.Records.{Reading, readAll}
+use Rattle.job.specs.Job.{factor-room, zeros}
 use Rattle.direct.specs.Direct.{Verdict, verdict}
 use Rattle.direct.specs.declared.Direct.{Direct}
 use Rattle.direct.specs.declared.Direct.the-variants.{Rows, Refused}
 use Rattle.solver.specs.Plan.{planned}
 use Rattle.solver.specs.Run as solver
 
--- the numbers of the factor store, as in `job`
-abbrev pub factor-room : ℕ
-factor-room = 2048
-
--- what a job registers
+-- what a job registers, in the factor store that `job` lends
 abbrev pub readJob : List ℕ → Reading
-readJob bytes = readAll bytes (replicate factor-room plus-zero)
+readJob bytes = readAll bytes (zeros factor-room)
 
 -- a refusal is marked; no message has as many rows
 abbrev pub refused-mark : ℕ

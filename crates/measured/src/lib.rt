@@ -2,6 +2,7 @@
 use direct::Direct;
 use graph::Graph;
 use graph::refusal::code;
+use job::FACTOR_ROOM;
 use root::Pivot;
 use solver::run::run;
 use workspace::WORK;
@@ -12,9 +13,6 @@ ghost use Rattle.root.specs.Root.{rootOf};
 ghost use Rattle.records.specs.Records.{readAll};
 ghost use Rattle.direct.specs.Direct.{answerOf, storeOf};
 ghost use Rattle.measured.specs.Measured as spec;
-
-// The numbers of the factor store, as in `job`.
-const FACTOR_ROOM: usize = 2048;
 
 // The numbers of a job's factors, at the start of the lent store. The rest of the store is as it was.
 #[no_mangle]

@@ -6,3 +6,4 @@ pub mod Listed
 pub mod Placing
 pub mod Reading
 pub mod Carrying
+pub mod Telling

@@ -3,3 +3,4 @@ pub mod Values
 pub mod Figure
 pub mod Tables
 pub mod Asked
+pub mod Told

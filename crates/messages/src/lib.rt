@@ -33,6 +33,7 @@ ghost use Rattle.messages.specs.Figure.{need};
 ghost use Rattle.messages.specs.Tables.{Carriable, PlacedTo, Tables, Before, AllStored};
 ghost use Rattle.messages.specs.Values.{values, stopFrom, finished};
 ghost use Rattle.messages.specs.Asked.{firstOf, rowsBy, Placeable, Within, keptOf, clearedOf, slotsOf, most-start, stopOf};
+ghost use Rattle.messages.specs.Told.{carriedTold, stopTold};
 
 // How a pass ended: with all its messages, or at the message of a place, for a reason.
 pub enum Carried {
@@ -205,6 +206,7 @@ pub fn carry_pass(
     ensures { λ r. ⌜ stopOf r ≡ stopFrom 0 (values g (now (factors .entry)) (messagesOf p)) ⌝ }
     ensures { λ _. ⌜ now (messages .exit) ≡ lay (now (messages .entry)) start (finished (values g (now (factors .entry)) (messagesOf p))) ⌝ }
     ensures { λ r. ⌜ (r ≡ Carried.Through → AllStored g (now (factors .entry)) (messagesOf p) start (now (messages .exit))) ⌝ }
+    ensures { λ r. ⌜ carriedTold r ≡ stopTold (stopFrom 0 (values g (now (factors .entry)) (messagesOf p))) ⌝ }
 {
     let n = p.count;
     let mut to = start;

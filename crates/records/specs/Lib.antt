@@ -1,3 +1,4 @@
 -- The definitions that the contracts of `records` cite.
 pub mod Bytes
 pub mod Records
+pub mod Told

@@ -1,7 +1,7 @@
 // The numbers in a job's bytes. All stand with their lowest byte first.
 ghost use mathlib.Core.Path.{_≡_};
 ghost use mathlib.Core.List.{_++_};
-ghost use Prim.Native.Nat.{_+_, _*_, _<_, _≤_, _^_};
+ghost use Prim.Native.Nat.{_+_, _*_, _<_, _≤_};
 ghost use lib.Ieee.{binary64, ofBits};
 ghost use lib.ListN.{length, drop};
 ghost use Rattle.matrix.specs.Triangles.{identityOf};
@@ -34,7 +34,7 @@ pub fn byte(bytes: &[u8], at: usize) -> usize
 // An unsigned number of 32 bits.
 pub fn word(bytes: &[u8], at: usize) -> u32
     requires { ⌜ at + 4 ≤ length (now bytes) ⌝ }
-    ensures { λ r. ⌜ (r ≡ spec.wordAt (now (bytes .entry)) at) × (r < 2 ^ 32) ⌝ }
+    ensures { λ r. ⌜ r ≡ spec.wordAt (now (bytes .entry)) at ⌝ }
 {
     let a = byte(bytes, at) as u32;
     let b = byte(bytes, at + 1) as u32;

@@ -36,6 +36,7 @@ ghost use Rattle.graph.specs.Record.{valid};
 ghost use Rattle.graph.specs.Registration.{countsFit};
 ghost use Rattle.records.specs.Bytes.{float-bytes};
 ghost use Rattle.records.specs.Records as spec;
+ghost use Rattle.records.specs.Told.{endedTold};
 
 // The graph as it came, and why.
 fn stop(g: Graph, why: Refusal) -> Step
@@ -266,6 +267,7 @@ fn read_record(g: Graph, bytes: &[u8], at: usize, store: &mut [f64]) -> Step
 pub fn read(bytes: &[u8], store: &mut [f64]) -> Read
     ensures { λ r. ⌜ (r ≡ spec.readAll (now (bytes .entry)) (now (store .entry)) .answer) × (valid (r .graph) ≡ true) ⌝ }
     ensures { λ _. ⌜ now (store .exit) ≡ spec.readAll (now (bytes .entry)) (now (store .entry)) .store ⌝ }
+    ensures { λ r. ⌜ endedTold (r .ended) ≡ endedTold (spec.readAll (now (bytes .entry)) (now (store .entry)) .answer .ended) ⌝ }
 {
     let mut g = Graph::new();
     let mut at = 0;

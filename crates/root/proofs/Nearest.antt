@@ -1,7 +1,7 @@
 -- `rootOf` answers the float that is nearest to the root. Assumes nothing.
 use mathlib.Core.Path.{_≡_, refl, sym, ap, _∙_, subst}
 use mathlib.Core.Logic.{_⊎_, inl, inr}
-use mathlib.Core.Bool.{Bool, true, false, not}
+use mathlib.Core.Bool.{Bool, true, false, not, cond}
 use Prim.Native.Nat.{ℕ, _+_, _-_, _*_, _/_, _%_, _^_, _≤_, _<_}
 use native.Mathlib.Nat.{eq-zero-or-pos}
 use native.Mathlib.Omega.{arith}
@@ -13,6 +13,8 @@ use lib.Ieee.Bits.{toBits-ofBits, ofBits-toBits, nanBits-is}
 use lib.Ieee.Positive.{positive, value-pos}
 use Rattle.root.specs.Root.{isqrt, inUnits, rootBits, rootOf}
 use Rattle.root.specs.Nearest.{before, after, both, Nearest, Right}
+use Rattle.root.specs.Told as shown
+use Rattle.root.specs.Told.{pivotTold, rightTold}
 use Rattle.root.specs.declared.Pivot.{Pivot}
 use Rattle.root.proofs.Leading.{Found, found, bits-of}
 use Rattle.root.proofs.Midpoints.{pattern, low, high}
@@ -40,9 +42,13 @@ parts v f p = field (finite v f p) (eq-zero-or-pos (toBits binary64 v / 2 ^ 52))
     field h (inl z) = record { m = b % 2 ^ 52; e = 0; few = omega arith; far = omega arith; is = same ∙ subnormal b h z }
     field h (inr z) = record { m = b % 2 ^ 52 + 2 ^ 52; e = b / 2 ^ 52 - 1; few = omega arith; far = omega arith; is = same ∙ normal b h z }
 
+-- the float of a pattern is nearest to the root of v, and has just that pattern
+abbrev At : Float → ℕ → Type 0
+At v b = Nearest v (ofBits binary64 b) × (toBits binary64 (ofBits binary64 b) ≡ b)
+
 -- q is the root's 54 leading digits
-with-digits : (v : Float) (m e i q : ℕ) → T (positive v) → inUnits v ≡ m * 2 ^ e → m < 2 ^ 53 → i ≤ 1600 → Found (inUnits v * 2 ^ 1074) i q → Nearest v (ofBits binary64 (pattern i ((q + 1) / 2)))
-with-digits v m e i q p en sm range f = record { given = p; above-zero = positive-at; low = lower; high = higher }
+with-digits : (v : Float) (m e i q : ℕ) → T (positive v) → inUnits v ≡ m * 2 ^ e → m < 2 ^ 53 → i ≤ 1600 → Found (inUnits v * 2 ^ 1074) i q → At v (pattern i ((q + 1) / 2))
+with-digits v m e i q p en sm range f = (record { given = p; above-zero = positive-at; low = lower; high = higher }, there)
   where
     b : ℕ
     b = pattern i ((q + 1) / 2)
@@ -73,7 +79,7 @@ units-pos : (v : Float) → T (positive v) → (m e : ℕ) → v ≡ odd 53 fals
 units-pos v p m e is = subst (λ (x : ℕ). 0 < x) (sym (units-are v m e is)) (value-pos v (m * 2 ^ e) (2 ^ 1074) p (pow-pos 1074) (has-value v m e is))
 
 -- the float whose pattern is `rootBits` is nearest to the root
-nearest : (v : Float) → T (fits binary64 v) → T (positive v) → Nearest v (ofBits binary64 (rootBits (inUnits v)))
+nearest : (v : Float) → T (fits binary64 v) → T (positive v) → At v (rootBits (inUnits v))
 nearest v fit p =
     let k = parts v fit p in
     let n : ℕ = inUnits v in
@@ -81,12 +87,20 @@ nearest v fit p =
     let en = units-are v (k .m) (k .e) (k .is) in
     let pn = units-pos v p (k .m) (k .e) (k .is) in
     let f = found n i pn refl in
-    subst (λ (x : ℕ). Nearest v (ofBits binary64 x)) (sym (bits-of n i (isqrt 54 (n * 2 ^ 1074 / 2 ^ (2 * i))) pn f)) (with-digits v (k .m) (k .e) i (isqrt 54 (n * 2 ^ 1074 / 2 ^ (2 * i))) p en (k .few) (i-le n (k .m) (k .e) en (k .few) (k .far)) f)
+    subst (λ (x : ℕ). At v x) (sym (bits-of n i (isqrt 54 (n * 2 ^ 1074 / 2 ^ (2 * i))) pn f)) (with-digits v (k .m) (k .e) i (isqrt 54 (n * 2 ^ 1074 / 2 ^ (2 * i))) p en (k .few) (i-le n (k .m) (k .e) en (k .few) (k .far)) f)
 
--- an answer that is `rootOf v` is right
-pub right : (v : Float) (a : Pivot) → T (fits binary64 v) → a ≡ rootOf v → (a ≡ rootOf v) × Right v a
-right v a fit e = (e, subst (λ (x : Pivot). Right v x) (sym e) (go (positive v) refl))
+-- what is right to tell, by whether v has a root
+tells : (v : Float) {b : Bool} → positive v ≡ b → cond b (shown.pattern (rootBits (inUnits v))) shown.refusal ≡ rightTold v
+unfolding rightTold
+tells v g = sym (ap (λ (b : Bool). cond b (shown.pattern (rootBits (inUnits v))) shown.refusal) g)
+
+-- an answer that is `rootOf v` is right, and tells what is right
+pub right : (v : Float) (a : Pivot) → T (fits binary64 v) → a ≡ rootOf v → (a ≡ rootOf v) × (Right v a × (pivotTold a ≡ rightTold v))
+right v a fit e = (e, go (positive v) refl)
   where
-    go : (b : Bool) → positive v ≡ b → Right v (rootOf v)
-    go true g = subst (λ (x : Pivot). Right v x) (answer v g) (nearest v fit (subst T (sym g) tt))
-    go false g = subst (λ (x : Pivot). Right v x) (answer v g) (subst (λ (b : Bool). T (not b)) (sym g) tt)
+    Answered : Pivot → Type 0
+    Answered x = Right v x × (pivotTold x ≡ rightTold v)
+
+    go : (b : Bool) → positive v ≡ b → Answered a
+    go true g = let n = nearest v fit (subst T (sym g) tt) in subst Answered (answer v g ∙ sym e) (n .0, ap shown.pattern (n .1) ∙ tells v g)
+    go false g = subst Answered (answer v g ∙ sym e) (subst (λ (b : Bool). T (not b)) (sym g) tt, tells v g)

@@ -1,9 +1,10 @@
 -- What the answers of `arrange` and `plan` mean, and what an outcome tells of the graph. Assumes nothing.
 use mathlib.Core.Path.{_≡_, refl, sym, ap, _∙_}
 use mathlib.Core.Bool.{Bool, true, false, cond}
-use mathlib.Core.List.{List}
+use mathlib.Core.List.{List, []}
 use Prim.Native.Nat.{ℕ}
 use Rattle.factor.specs.Limits.{max-factors}
+use Rattle.factor.specs.Told.{value, refusal}
 use Rattle.graph.specs.Record.{valid}
 use Rattle.graph.specs.declared.Graph.{Graph}
 use Rattle.graph.specs.declared.refusal.Refusal.{Refusal}
@@ -20,6 +21,7 @@ use Rattle.solver.specs.Plan.{graphPlan, noPlan, Answer, planned, answer
 use Rattle.solver.specs.declared.Arranged.{Arranged}
 use Rattle.solver.specs.declared.Planned.{Planned}
 use Rattle.solver.specs.declared.Outcome.the-variants.{Made, Refused}
+use Rattle.solver.specs.Told.{outcomeTold, planTold}
 use Rattle.solver.proofs.Tables.{same-keys}
 
 empty-plan : (K : ℕ → List ℕ) → lists.plan 0 K (from 0 0) (from 0 0) ≡ noPlan
@@ -38,6 +40,16 @@ turned-back g table p v e = rw (v, e ∙ empty-plan (keysAt table 0))
 pub told : (r : Arranged) (g : Graph) (p : struct.Plan) → read r ≡ planned g → p ≡ answerOf (planOf (r .keys) (r .plan)) → _≡_ {A = Planned} (record { outcome = r .outcome; keys = r .keys; plan = p }) (answer g)
 unfolding read answer
 told r g p e h = rw (h, ← e)
+
+-- what it tells in the numbers of document 01
+pub plan-tells : (r : Planned) (g : Graph) → r ≡ answer g → outcomeTold (r .outcome) ≡ planTold g
+unfolding answer planned planTold outcomeTold
+plan-tells r g e = ap (λ (x : Planned). outcomeTold (x .outcome)) e ∙ go (valid g)
+  where
+    go : (b : Bool) → outcomeTold (cond {A = Answer} b (record { outcome = Made; keys = g .variables; plan = graphPlan g }) (record { outcome = Refused NoSuchGraph; keys = 0; plan = noPlan }) .outcome) ≡ cond b (value []) (refusal 30 [])
+    go true = refl
+    go false = refl
+
 
 -- ---- what an outcome tells of the graph
 

@@ -6,3 +6,4 @@ pub mod Carriable
 pub mod Stages
 pub mod Refused
 pub mod Figures
+pub mod Telling

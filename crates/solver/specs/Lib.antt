@@ -2,3 +2,4 @@
 pub mod Plan
 pub mod Run
 pub mod Stages
+pub mod Told

@@ -14,6 +14,7 @@ ghost use lib.ListN.{length};
 ghost use Rattle.factor.specs.Limits.{max-variables, max-factors, max-keys};
 ghost use Rattle.plan.specs.Plan.{Bounded};
 ghost use Rattle.solver.specs.Plan as spec;
+ghost use Rattle.solver.specs.Told.{outcomeTold, planTold};
 
 // Whether a plan was made.
 pub enum Outcome {
@@ -88,6 +89,7 @@ pub fn arrange(g: Graph) -> Arranged
 // gathered, the leaves, and the keys cleared last.
 pub fn plan(g: Graph) -> Planned
     ensures { λ r. ⌜ r ≡ spec.answer g ⌝ }
+    ensures { λ r. ⌜ outcomeTold (r .outcome) ≡ planTold g ⌝ }
 {
     let made = arrange(g);
     let outcome = made.outcome;

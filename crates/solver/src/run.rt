@@ -31,6 +31,7 @@ ghost use Rattle.marginals.specs.Marginals.{marginalNumbers};
 ghost use Rattle.solver.specs.Plan.{graphPlan};
 ghost use Rattle.solver.specs.Run as spec;
 ghost use Rattle.solver.specs.Stages as stages;
+ghost use Rattle.solver.specs.Told.{ranTold};
 
 // How a run ended: with a mean and a covariance for each key, or refused, with the stage and the key.
 pub enum Ended {
@@ -273,6 +274,7 @@ pub fn run(
     marginals: &mut [f64],
 ) -> Ran
     ensures { λ r. ⌜ stages.verdict r (now (messages .exit)) (now (marginals .exit)) ≡ spec.run g (now (factors .entry)) (now (messages .entry)) (length (now (work .entry))) (now (marginals .entry)) ⌝ }
+    ensures { λ r. ⌜ ranTold r ≡ ranTold (spec.run g (now (factors .entry)) (now (messages .entry)) (length (now (work .entry))) (now (marginals .entry)) .answer) ⌝ }
 {
     let made = crate::arrange(g);
     let outcome = made.outcome;

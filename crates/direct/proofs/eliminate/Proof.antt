@@ -4,6 +4,7 @@ use borrow.Author.Needs.{needs}
 use lib.ListN.{length}
 use Rattle.factor.proofs.Counting.{tells}
 use Rattle.direct.proofs.Sending.{turned-back}
+use Rattle.direct.proofs.Telling.{verdict-tells}
 use Rattle.direct.proofs.Verdicts.{admitted, stopped}
 use Rattle.direct.proofs.eliminate.Statement.{statement}
 use Rattle.direct.proofs.eliminate.Tie as tie
@@ -20,7 +21,8 @@ enum-known-why c = search needs
 returns : tie.Need-returns
 returns c =
     let args = c .before .before .before .before .before .before .before .before .before .before .args in
-    turned-back _ _ (args .messages .now) (stopped (args .g) (args .slots .now) (args .kept .now) (args .cleared .now) (args .factors .now) (length (args .messages .now)) (length (args .work .now)) _ (tells (c .before .why .given .1) (c .before .before .before .check .ensures)))
+    verdict-tells _ _ _ _
+    (turned-back _ _ (args .messages .now) (stopped (args .g) (args .slots .now) (args .kept .now) (args .cleared .now) (args .factors .now) (length (args .messages .now)) (length (args .work .now)) _ (tells (c .before .why .given .1) (c .before .before .before .check .ensures))))
 
 slice-aggregate-fill-originals : tie.Need-slice-aggregate-fill-originals
 slice-aggregate-fill-originals c = search needs
@@ -55,7 +57,7 @@ same-length-2 : tie.Need-same-length-2
 same-length-2 c = search needs
 
 returns-2 : tie.Need-returns-2
-returns-2 c = search needs
+returns-2 c = verdict-tells _ _ _ _ (c .before .before .before .before .eliminate-from .ensures)
 
 pub eliminate-spec : {M : Type 1} → statement M
 eliminate-spec =

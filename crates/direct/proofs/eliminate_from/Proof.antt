@@ -52,7 +52,7 @@ returns-3 c =
     let args = c .before .before .before .before .before .before .before .before .before .before .before .before .before .before .before .before .before .before .before .before .before .before .args in
     let pre = c .before .before .before .before .before .before .before .before .before .before .before .before .before .before .before .before .before .before .before .before .before .before .pre in
     let eliminate-slots = c .before .before .before .before .before .before .before .eliminate-slots in
-    of-rows (args .g) (args .slots .now) (args .kept .now) (args .cleared .now) (args .factors .now) (pre .0) (args .keys .now) (args .heads .now) (pre .1) (args .messages .now) (length (args .work .now)) _ (c .before .before .before .before .before .before .before .before .before .before .before .before .message-numbers .ensures) (c .before .before .before .before .before .before .before .before .before .before .before .if1 .left) (c .before .before .before .before .before .before .before .before .before .before .if2 .left) _ _ (eliminate-slots .ensures .0) (eliminate-slots .ensures .1) _ (c .before .rows .given .1)
+    of-rows (args .g) (args .slots .now) (args .kept .now) (args .cleared .now) (args .factors .now) (pre .0) (args .keys .now) (args .heads .now) (pre .1) (args .messages .now) (length (args .work .now)) _ (c .before .before .before .before .before .before .before .before .before .before .before .before .message-numbers .ensures) (c .before .before .before .before .before .before .before .before .before .before .before .if1 .left) (c .before .before .before .before .before .before .before .before .before .before .if2 .left) _ _ (eliminate-slots .ensures .0) (eliminate-slots .ensures .1 .0) _ (c .before .rows .given .1)
 
 same-length-3 : tie.Need-same-length-3
 same-length-3 c = search needs
@@ -65,7 +65,7 @@ returns-4 c =
     let args = c .before .before .before .before .before .before .before .before .before .before .before .before .before .before .before .before .before .before .before .before .before .args in
     let pre = c .before .before .before .before .before .before .before .before .before .before .before .before .before .before .before .before .before .before .before .before .before .pre in
     let eliminate-slots = c .before .before .before .before .before .before .eliminate-slots in
-    of-pivot (args .g) (args .slots .now) (args .kept .now) (args .cleared .now) (args .factors .now) (pre .0) (args .keys .now) (args .heads .now) (pre .1) (args .messages .now) (length (args .work .now)) _ (c .before .before .before .before .before .before .before .before .before .before .before .message-numbers .ensures) (c .before .before .before .before .before .before .before .before .before .before .if1 .left) (c .before .before .before .before .before .before .before .before .before .if2 .left) _ _ (eliminate-slots .ensures .0) (eliminate-slots .ensures .1) (c .enum-told .given .1)
+    of-pivot (args .g) (args .slots .now) (args .kept .now) (args .cleared .now) (args .factors .now) (pre .0) (args .keys .now) (args .heads .now) (pre .1) (args .messages .now) (length (args .work .now)) _ (c .before .before .before .before .before .before .before .before .before .before .before .message-numbers .ensures) (c .before .before .before .before .before .before .before .before .before .before .if1 .left) (c .before .before .before .before .before .before .before .before .before .if2 .left) _ _ (eliminate-slots .ensures .0) (eliminate-slots .ensures .1 .0) (c .enum-told .given .1)
 
 same-length-5 : tie.Need-same-length-5
 same-length-5 c = search needs
@@ -78,7 +78,7 @@ returns-5 c =
     let args = c .before .before .before .before .before .before .before .before .before .before .before .before .before .before .before .before .before .before .before .before .before .args in
     let pre = c .before .before .before .before .before .before .before .before .before .before .before .before .before .before .before .before .before .before .before .before .before .pre in
     let eliminate-slots = c .before .before .before .before .before .before .eliminate-slots in
-    of-overflow (args .g) (args .slots .now) (args .kept .now) (args .cleared .now) (args .factors .now) (pre .0) (args .keys .now) (args .heads .now) (pre .1) (args .messages .now) (length (args .work .now)) _ (c .before .before .before .before .before .before .before .before .before .before .before .message-numbers .ensures) (c .before .before .before .before .before .before .before .before .before .before .if1 .left) (c .before .before .before .before .before .before .before .before .before .if2 .left) _ _ (eliminate-slots .ensures .0) (eliminate-slots .ensures .1) (c .enum-told2 .given .1)
+    of-overflow (args .g) (args .slots .now) (args .kept .now) (args .cleared .now) (args .factors .now) (pre .0) (args .keys .now) (args .heads .now) (pre .1) (args .messages .now) (length (args .work .now)) _ (c .before .before .before .before .before .before .before .before .before .before .before .message-numbers .ensures) (c .before .before .before .before .before .before .before .before .before .before .if1 .left) (c .before .before .before .before .before .before .before .before .before .if2 .left) _ _ (eliminate-slots .ensures .0) (eliminate-slots .ensures .1 .0) (c .enum-told2 .given .1)
 
 pub eliminate-from-spec : {M : Type 1} → statement M
 eliminate-from-spec =

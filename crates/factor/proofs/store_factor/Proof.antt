@@ -8,6 +8,7 @@ use borrow.Author.Needs.{needs}
 use lib.Ieee.{Float, ofBits}
 use lib.ListN.{length-replicate, replicate}
 use Rattle.factor.proofs.Laying.{front-replicate}
+use Rattle.factor.proofs.Telling.{weighed-tells}
 use Rattle.factor.specs.Limits.{max-rows}
 use Rattle.factor.specs.Weighing.{Lent}
 use Rattle.matrix.specs.Sums.{plus-zero}
@@ -64,7 +65,7 @@ same-length : tie.Need-same-length
 same-length c = search needs
 
 returns : tie.Need-returns
-returns c = search needs
+returns c = let e = c .before .before .before .before .before .store-by .ensures in (e .0, (e .1, weighed-tells _ _ (e .0)))
 
 pub store-factor-spec : {M : Type 1} → statement M
 store-factor-spec =

@@ -6,6 +6,7 @@ use lib.ListN.{length}
 use Rattle.gaussian.specs.Elimination.{eliminate}
 use Rattle.gaussian.specs.Answers.{viewsOf}
 use Rattle.gaussian.proofs.Outcomes.{pivot-stored, unbounded-stored, few-rows, has-room, message-sent}
+use Rattle.gaussian.proofs.Telling.{stored-tells}
 use Rattle.gaussian.proofs.eliminate_slots.Statement.{statement}
 use Rattle.gaussian.proofs.eliminate_slots.Tie as tie
 
@@ -47,7 +48,8 @@ returns c =
     let eliminate-in = c .before .before .before .before .before .before .before .before .before .before .before .before .eliminate-in in
     let g = c .before .before .before .before .before .before .before .before .before .before .before .before .before .before .before .before .before .before .before .before .before .before .before .good in
     let n : length (args .sizes) ≡ 32 = omega arith in
-    message-sent n (c .before .before .before .before .before .before .before .before .before .before .before .before .before .before .before .before .before .before .before .before .before .before .before .pre .0) _ (eliminate-in .ensures .0) _ (c .before .before .before .before .before .before .before .before .rows .given .1) _ (eliminate-in .ensures .1) _ _ (args .to) (rw (← c .before .before .before .before .before .before .dim-of .ensures, ← c .before .before .before .before .before .dim-of2 .ensures) (c .before .before .send .ensures))
+    stored-tells _ _ _ _ _
+    (message-sent n (c .before .before .before .before .before .before .before .before .before .before .before .before .before .before .before .before .before .before .before .before .before .before .before .pre .0) _ (eliminate-in .ensures .0) _ (c .before .before .before .before .before .before .before .before .rows .given .1) _ (eliminate-in .ensures .1) _ _ (args .to) (rw (← c .before .before .before .before .before .before .dim-of .ensures, ← c .before .before .before .before .before .dim-of2 .ensures) (c .before .before .send .ensures)))
 
 same-length-3 : tie.Need-same-length-3
 same-length-3 c = search needs
@@ -58,7 +60,8 @@ same-length-4 c = search needs
 returns-2 : tie.Need-returns-2
 returns-2 c =
     let args = c .before .before .before .before .before .before .before .before .before .before .before .before .before .before .before .args in
-    pivot-stored (eliminate (viewsOf (args .factors .now) (args .messages .now) (args .keys .now) (args .heads .now) (args .slots .now)) (args .kept .now) (args .cleared .now) (args .sizes)) _ (c .before .before .before .before .eliminate-in .ensures .0) _ (args .to) (c .enum-told .given .1)
+    stored-tells _ _ _ _ _
+    (pivot-stored (eliminate (viewsOf (args .factors .now) (args .messages .now) (args .keys .now) (args .heads .now) (args .slots .now)) (args .kept .now) (args .cleared .now) (args .sizes)) _ (c .before .before .before .before .eliminate-in .ensures .0) _ (args .to) (c .enum-told .given .1))
 
 same-length-5 : tie.Need-same-length-5
 same-length-5 c = search needs
@@ -69,7 +72,8 @@ same-length-6 c = search needs
 returns-3 : tie.Need-returns-3
 returns-3 c =
     let args = c .before .before .before .before .before .before .before .before .before .before .before .before .before .before .before .args in
-    unbounded-stored (eliminate (viewsOf (args .factors .now) (args .messages .now) (args .keys .now) (args .heads .now) (args .slots .now)) (args .kept .now) (args .cleared .now) (args .sizes)) _ (c .before .before .before .before .eliminate-in .ensures .0) _ (args .to) (c .enum-told2 .given .1)
+    stored-tells _ _ _ _ _
+    (unbounded-stored (eliminate (viewsOf (args .factors .now) (args .messages .now) (args .keys .now) (args .heads .now) (args .slots .now)) (args .kept .now) (args .cleared .now) (args .sizes)) _ (c .before .before .before .before .eliminate-in .ensures .0) _ (args .to) (c .enum-told2 .given .1))
 
 pub eliminate-slots-spec : {M : Type 1} → statement M
 eliminate-slots-spec =

@@ -34,7 +34,7 @@ unfolding ofBits
 returns c =
     let args = c .before .before .before .before .before .before .before .before .before .before .before .before .before .args in
     let read = c .before .before .before .before .before .before .before .before .before .read in
-    lays-same (args .out .now) _ _ _ _ (whole (args .bytes .now) _ (read .result) (read .ensures .0 .0) (read .ensures .1) (c .before .before .before .before .before .enum-told .given .1)) (c .before .before .solve-graph .ensures)
+    lays-same (args .out .now) _ _ _ _ (whole (args .bytes .now) _ (read .result) (read .ensures .0 .0) (read .ensures .1 .0) (c .before .before .before .before .before .enum-told .given .1)) (c .before .before .solve-graph .ensures)
 
 same-length-2 : tie.Need-same-length-2
 same-length-2 c = search needs
@@ -44,7 +44,7 @@ unfolding ofBits
 returns-2 c =
     let args = c .before .before .before .before .before .before .before .before .before .before .before .before .before .args in
     let read = c .before .before .before .before .before .before .before .before .before .read in
-    lays-same (args .out .now) _ _ _ _ (reading-refused (args .bytes .now) _ (read .result) (read .ensures .0 .0) (read .ensures .1) _ _ (c .before .before .before .before .before .ended .given .1)) (c .before .before .lay-refusal .ensures)
+    lays-same (args .out .now) _ _ _ _ (reading-refused (args .bytes .now) _ (read .result) (read .ensures .0 .0) (read .ensures .1 .0) _ _ (c .before .before .before .before .before .ended .given .1)) (c .before .before .lay-refusal .ensures)
 
 pub solve-spec : {M : Type 1} → statement M
 solve-spec =

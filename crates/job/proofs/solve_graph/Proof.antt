@@ -45,7 +45,7 @@ unfolding ofBits
 returns c =
     let args = c .before .before .before .before .before .before .before .before .before .before .before .before .before .before .before .before .args in
     let run = c .before .before .before .before .before .before .before .before .before .before .run in
-    lays-same (args .out .now) _ _ _ _ (all-done (args .g) (args .factors .now) _ _ (run .result) (run .ensures) (c .before .before .before .before .before .enum-told .given .1)) (c .before .before .lay-lines .ensures)
+    lays-same (args .out .now) _ _ _ _ (all-done (args .g) (args .factors .now) _ _ (run .result) (run .ensures .0) (c .before .before .before .before .before .enum-told .given .1)) (c .before .before .lay-lines .ensures)
 
 same-length-2 : tie.Need-same-length-2
 same-length-2 c = search needs
@@ -55,7 +55,7 @@ unfolding ofBits
 returns-2 c =
     let args = c .before .before .before .before .before .before .before .before .before .before .before .before .before .before .before .before .args in
     let run = c .before .before .before .before .before .before .before .before .before .before .run in
-    lays-same (args .out .now) _ _ _ _ (run-refused (args .g) (args .factors .now) _ _ (run .result) (run .ensures) _ _ _ (c .before .before .before .before .before .ended .given .1)) (c .before .before .lay-refusal .ensures)
+    lays-same (args .out .now) _ _ _ _ (run-refused (args .g) (args .factors .now) _ _ (run .result) (run .ensures .0) _ _ _ (c .before .before .before .before .before .ended .given .1)) (c .before .before .lay-refusal .ensures)
 
 pub solve-graph-spec : {M : Type 1} → statement M
 solve-graph-spec =

@@ -38,7 +38,7 @@ same-length : tie.Need-same-length
 same-length c = search needs
 
 returns : tie.Need-returns
-returns c = search needs
+returns c = c .before .before .marginalize .ensures .0
 
 pub marginal-by-spec : {M : Type 1} → statement M
 marginal-by-spec =

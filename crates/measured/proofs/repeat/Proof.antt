@@ -42,7 +42,7 @@ loop-again c =
     let run = c .before .before .before .before .before .before .run in (
       omega arith,
       run .kept .1 .1 .1 .0 ∙ loop .inv .1,
-      one-run (args .g) (args .factors .now) (stores (args .messages .now) (args .marginals .now)) (loop .counter) (loop .messages) (loop .marginals) (length (loop .work)) _ _ _ (loop .inv .1) (loop .inv .2) (run .ensures),
+      one-run (args .g) (args .factors .now) (stores (args .messages .now) (args .marginals .now)) (loop .counter) (loop .messages) (loop .marginals) (length (loop .work)) _ _ _ (loop .inv .1) (loop .inv .2) (run .ensures .0),
       run .kept .1 .1 .0 ∙ loop .inv .3,
       run .kept .1 .1 .1 .1 .0 ∙ loop .inv .4,
     )

@@ -31,7 +31,7 @@ unfolding ofBits
 returns c =
     let args = c .before .before .before .before .before .before .before .before .before .before .before .before .before .before .before .before .before .args in
     let read = c .before .before .before .before .before .before .before .before .before .before .read in
-    eliminated-is (args .bytes .now) (args .slots .now) (args .kept .now) (args .cleared .now) (args .messages .now) _ _ _ _ _ (read .ensures .0 .0) (read .ensures .1) (c .before .before .before .before .eliminate .ensures .0) (c .before .before .before .before .eliminate .ensures .1) (c .number-in .ensures)
+    eliminated-is (args .bytes .now) (args .slots .now) (args .kept .now) (args .cleared .now) (args .messages .now) _ _ _ _ _ (read .ensures .0 .0) (read .ensures .1 .0) (c .before .before .before .before .eliminate .ensures .0) (c .before .before .before .before .eliminate .ensures .1 .0) (c .number-in .ensures)
 
 pub strips-eliminate-spec : {M : Type 1} → statement M
 strips-eliminate-spec =

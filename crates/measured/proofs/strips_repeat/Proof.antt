@@ -31,7 +31,7 @@ returns : tie.Need-returns
 unfolding ofBits
 returns c =
     let args = c .before .before .before .before .before .before .before .before .before .before .before .before .before .before .before .before .before .args in
-    repeated-is (args .bytes .now) (stores (args .messages .now) (args .marginals .now)) _ (args .times) _ _ (c .before .before .before .before .before .before .before .before .before .before .before .before .read .ensures .0 .0) (c .before .before .before .before .before .before .before .before .before .before .before .before .read .ensures .1) (c .before .before .before .before .before .repeat .ensures)
+    repeated-is (args .bytes .now) (stores (args .messages .now) (args .marginals .now)) _ (args .times) _ _ (c .before .before .before .before .before .before .before .before .before .before .before .before .read .ensures .0 .0) (c .before .before .before .before .before .before .before .before .before .before .before .before .read .ensures .1 .0) (c .before .before .before .before .before .repeat .ensures)
 
 pub strips-repeat-spec : {M : Type 1} → statement M
 strips-repeat-spec =

@@ -56,7 +56,7 @@ same-length-2 c = search needs
 returns : tie.Need-returns
 returns c =
     let args = c .before .before .before .before .before .before .before .before .before .before .before .before .before .before .before .before .before .before .before .before .before .args in
-    from-parts (args .l) (EliminatedBy (args .sizes) (args .factors .now) (args .messages .now) (args .keys .now) (args .heads .now) (args .to) _ _) (c .before .before .before .before .eliminate-slots .ensures .0, c .before .before .before .before .eliminate-slots .ensures .1)
+    from-parts (args .l) (EliminatedBy (args .sizes) (args .factors .now) (args .messages .now) (args .keys .now) (args .heads .now) (args .to) _ _) (c .before .before .before .before .eliminate-slots .ensures .0, c .before .before .before .before .eliminate-slots .ensures .1 .0)
 
 pub eliminate-listed-spec : {M : Type 1} → statement M
 eliminate-listed-spec =

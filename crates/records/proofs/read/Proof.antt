@@ -11,6 +11,7 @@ use Rattle.graph.specs.Record.{fresh, valid}
 use Rattle.graph.specs.Reached.{Reached}
 use Rattle.graph.specs.declared.Graph.{Graph}
 use Rattle.records.specs.Records.{Request, recordAt, stepOf, Reading, reading, readFrom, readAll}
+use Rattle.records.specs.Told.{endedTold}
 use Rattle.records.specs.declared.answer.Ended.{Ended}
 use Rattle.records.specs.declared.answer.Ended.the-variants.{Whole}
 use Rattle.records.specs.declared.answer.Read.{Read}
@@ -42,10 +43,10 @@ valid-step : (g : Graph) (q : Request) (step : Step) → step ≡ stepOf g q →
 valid-step g q step e r = good-of (step .graph) (reached-step g q step e r) .1
 
 -- the two ways out
-turned-back : (all : Reading) (g : Graph) (ended : Ended) (s : List Float) → all ≡ reading g ended s → valid g ≡ true → (_≡_ {A = Read} (record { graph = g; ended = ended }) (all .answer) × (valid g ≡ true)) × (s ≡ all .store)
-turned-back all g ended s e v = rw e ((refl, v), refl)
+turned-back : (all : Reading) (g : Graph) (ended : Ended) (s : List Float) → all ≡ reading g ended s → valid g ≡ true → (_≡_ {A = Read} (record { graph = g; ended = ended }) (all .answer) × (valid g ≡ true)) × ((s ≡ all .store) × (endedTold ended ≡ endedTold (all .answer .ended)))
+turned-back all g ended s e v = rw e ((refl, v), (refl, refl))
 
-taken-whole : (all : Reading) (g : Graph) (s : List Float) → all ≡ reading g Whole s → valid g ≡ true → (_≡_ {A = Read} (record { graph = g; ended = Whole }) (all .answer) × (valid g ≡ true)) × (s ≡ all .store)
+taken-whole : (all : Reading) (g : Graph) (s : List Float) → all ≡ reading g Whole s → valid g ≡ true → (_≡_ {A = Read} (record { graph = g; ended = Whole }) (all .answer) × (valid g ≡ true)) × ((s ≡ all .store) × (endedTold Whole ≡ endedTold (all .answer .ended)))
 taken-whole all g s e v = turned-back all g Whole s e v
 
 new-requires : tie.Need-new-requires Inv-loop μ-loop

@@ -67,7 +67,7 @@ went-requires c κs = search needs
 returns-2 : tie.Need-returns-2
 returns-2 c =
     let args = c .before .before .before .before .before .before .before .before .args in
-    taken (args .g) (args .bytes .now) (args .at) _ (tells (c .before .before .before .before .before .before .cut .ensures) (c .before .before .before .before .before .if1 .left)) (c .before .before .before .before .word .result) (c .before .before .before .word2 .result) (c .before .before .byte .result) (c .before .enter-variable .result) (c .before .before .before .before .word .ensures .0) (c .before .before .before .word2 .ensures .0) (c .before .before .byte .ensures .0) (c .before .enter-variable .ensures) (c .went .ensures)
+    taken (args .g) (args .bytes .now) (args .at) _ (tells (c .before .before .before .before .before .before .cut .ensures) (c .before .before .before .before .before .if1 .left)) (c .before .before .before .before .word .result) (c .before .before .before .word2 .result) (c .before .before .byte .result) (c .before .enter-variable .result) (c .before .before .before .before .word .ensures) (c .before .before .before .word2 .ensures) (c .before .before .byte .ensures .0) (c .before .enter-variable .ensures) (c .went .ensures)
 
 pub read-variable-spec : {M : Type 1} → statement M
 read-variable-spec =

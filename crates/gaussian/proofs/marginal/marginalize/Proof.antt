@@ -7,6 +7,7 @@ use lib.ListN.{length, getD}
 use Rattle.slots.specs.Tables.{numbersOf}
 use Rattle.slots.proofs.Adding.{fits-part}
 use Rattle.gaussian.specs.Elimination.{eliminate}
+use Rattle.gaussian.proofs.Telling.{last-tells}
 use Rattle.gaussian.specs.Answers.{viewsOf}
 use Rattle.gaussian.proofs.Branches.{spans}
 use Rattle.gaussian.proofs.Outcomes.{few-rows, marginal-pivot, marginal-unbounded, marginal-message}
@@ -124,7 +125,8 @@ returns c =
     let eliminate-in = c .before .before .before .before .before .before .before .before .before .before .eliminate-in in
     let g = c .before .before .before .before .before .before .before .before .before .before .before .before .before .before .before .before .before .before .before .before .before .before .good in
     let n : length (args .sizes) ≡ 32 = omega arith in
-    marginal-message n (c .before .before .before .before .before .before .before .before .before .before .before .before .before .before .before .before .before .before .before .before .before .before .pre .0) _ (eliminate-in .ensures .0) _ (c .before .before .before .before .before .before .rows .given .1) (eliminate-in .last .1 .1 .0) (eliminate-in .ensures .1) (args .key) (getD (args .sizes) (args .key) 0) (dim-of .result) _ _ _ (omega (arith, dim-of .ensures)) (dim-of .ensures) (c .before .before .before .before .dim-of2 .ensures) (c .before .before .before .frame-of .ensures) (c .from .ensures)
+    last-tells _ _ _ _
+    (marginal-message n (c .before .before .before .before .before .before .before .before .before .before .before .before .before .before .before .before .before .before .before .before .before .before .pre .0) _ (eliminate-in .ensures .0) _ (c .before .before .before .before .before .before .rows .given .1) (eliminate-in .last .1 .1 .0) (eliminate-in .ensures .1) (args .key) (getD (args .sizes) (args .key) 0) (dim-of .result) _ _ _ (omega (arith, dim-of .ensures)) (dim-of .ensures) (c .before .before .before .before .dim-of2 .ensures) (c .before .before .before .frame-of .ensures) (c .from .ensures .0))
 
 same-length-2 : tie.Need-same-length-2
 same-length-2 c = search needs
@@ -133,7 +135,8 @@ returns-2 : tie.Need-returns-2
 returns-2 c =
     let args = c .before .before .before .before .before .before .before .before .before .before .before .before .before .before .before .before .before .args in
     let dim-of = c .before .before .before .before .before .before .before .before .dim-of in
-    marginal-pivot (eliminate (viewsOf (args .factors .now) (args .messages .now) (args .keys .now) (args .heads .now) (args .slots .now)) (args .key ∷ []) (args .cleared .now) (args .sizes)) _ (c .before .before .before .before .before .eliminate-in .ensures .0) (args .key) (getD (args .sizes) (args .key) 0) (dim-of .result) _ (c .before .enum-told .given .1) (omega (arith, dim-of .ensures)) (c .refused .ensures)
+    last-tells _ _ _ _
+    (marginal-pivot (eliminate (viewsOf (args .factors .now) (args .messages .now) (args .keys .now) (args .heads .now) (args .slots .now)) (args .key ∷ []) (args .cleared .now) (args .sizes)) _ (c .before .before .before .before .before .eliminate-in .ensures .0) (args .key) (getD (args .sizes) (args .key) 0) (dim-of .result) _ (c .before .enum-told .given .1) (omega (arith, dim-of .ensures)) (c .refused .ensures))
 
 same-length-3 : tie.Need-same-length-3
 same-length-3 c = search needs
@@ -142,7 +145,8 @@ returns-3 : tie.Need-returns-3
 returns-3 c =
     let args = c .before .before .before .before .before .before .before .before .before .before .before .before .before .before .before .before .before .args in
     let dim-of = c .before .before .before .before .before .before .before .before .dim-of in
-    marginal-unbounded (eliminate (viewsOf (args .factors .now) (args .messages .now) (args .keys .now) (args .heads .now) (args .slots .now)) (args .key ∷ []) (args .cleared .now) (args .sizes)) _ (c .before .before .before .before .before .eliminate-in .ensures .0) (args .key) (getD (args .sizes) (args .key) 0) (dim-of .result) _ (c .before .enum-told2 .given .1) (omega (arith, dim-of .ensures)) (c .refused2 .ensures)
+    last-tells _ _ _ _
+    (marginal-unbounded (eliminate (viewsOf (args .factors .now) (args .messages .now) (args .keys .now) (args .heads .now) (args .slots .now)) (args .key ∷ []) (args .cleared .now) (args .sizes)) _ (c .before .before .before .before .before .eliminate-in .ensures .0) (args .key) (getD (args .sizes) (args .key) 0) (dim-of .result) _ (c .before .enum-told2 .given .1) (omega (arith, dim-of .ensures)) (c .refused2 .ensures))
 
 pub marginalize-spec : {M : Type 1} → statement M
 marginalize-spec =

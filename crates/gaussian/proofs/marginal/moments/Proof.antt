@@ -7,6 +7,7 @@ use lib.ListN.{length, length-replicate}
 use Rattle.matrix.specs.Sums.{plus-zero}
 use Rattle.matrix.proofs.Dense.{dense}
 use Rattle.gaussian.specs.Marginals.{momentsOf}
+use Rattle.gaussian.proofs.Telling.{solved-tells}
 use Rattle.gaussian.proofs.marginal.moments.Statement.{statement}
 use Rattle.gaussian.proofs.marginal.moments.Tie as tie
 
@@ -50,7 +51,8 @@ returns : tie.Need-returns
 unfolding momentsOf
 returns c =
     let pre = c .before .before .before .before .before .before .before .before .before .before .before .before .before .before .before .before .before .before .before .before .before .before .before .before .before .before .before .before .pre in
-    rw (← pre .1 .0, ← pre .1 .1, ← c .before .before .before .before .before .before .before .before .before .before .before .before .before .before .before .before .before .before .before .gemv-tr .ensures, ← c .before .before .before .before .before .before .before .before .before .before .before .before .before .before .quadform .ensures) (c .before .before .before .before .before .before .solve-moments .ensures)
+    solved-tells _ _ _ _
+    (rw (← pre .1 .0, ← pre .1 .1, ← c .before .before .before .before .before .before .before .before .before .before .before .before .before .before .before .before .before .before .before .gemv-tr .ensures, ← c .before .before .before .before .before .before .before .before .before .before .before .before .before .before .quadform .ensures) (c .before .before .before .before .before .before .solve-moments .ensures))
 
 pub moments-spec : {M : Type 1} → statement M
 moments-spec =

@@ -1,11 +1,11 @@
--- `graph::Graph::add_factor` meets its contract: its ways out are those of the verdict (`proofs/Verdicts.antt`). Assumes nothing.
+-- `graph::Graph::add_factor` meets its contract: its ways out are those of the verdict (`proofs/CheckOrder.antt`). Assumes nothing.
 use mathlib.Core.Path.{_∙_, refl, sym}
 use borrow.Author.Needs.{needs}
 use borrow.Author.Tests.{not-false, not-true}
 use Rattle.factor.proofs.Counting.{tells}
 use Rattle.factor.proofs.Fitting.{fits-touched}
 use Rattle.graph.proofs.Validity.{rows-most}
-use Rattle.graph.proofs.Verdicts.{at-overflow, at-pivot, full, not-given, room-for, short, taken, turned-back, unlike}
+use Rattle.graph.proofs.CheckOrder.{at-overflow, at-pivot, full, not-given, room-for, short, taken, turned-back, unlike}
 use Rattle.graph.proofs.Graph.add_factor.Statement.{statement}
 use Rattle.graph.proofs.Graph.add_factor.Tie as tie
 
@@ -84,7 +84,7 @@ returns-5 c =
     let offset = c .before .before .before .before .before .before .before .before .before .before .before .offset in
     let numbers = c .before .before .before .before .before .before .before .before .before .before .numbers in
     let store-factor = c .before .before .before .before .before .store-factor in
-    let p = at-pivot (args .t1) (args .f) (args .a .now) (args .mean .now) (args .variance .now) (args .store .now) (tells (c .before .before .before .before .before .before .before .before .before .before .before .before .before .before .lengths-fit .ensures) (not-false _ (c .before .before .before .before .before .before .before .before .before .before .before .before .before .if1 .left))) (c .before .before .before .before .before .before .before .before .before .before .before .before .if2 .left) (offset .result) (numbers .result) (offset .ensures .0) (numbers .ensures .0) (c .before .before .before .before .before .before .before .before .before .if3 .left) (tells (c .before .before .before .before .before .before .before .before .given-finite .ensures) (not-false _ (c .before .before .before .before .before .before .before .if4 .left))) (store-factor .last .0) (store-factor .ensures .1) (sym (c .before .enum-told2 .given .1) ∙ store-factor .ensures .0) in
+    let p = at-pivot (args .t1) (args .f) (args .a .now) (args .mean .now) (args .variance .now) (args .store .now) (tells (c .before .before .before .before .before .before .before .before .before .before .before .before .before .before .lengths-fit .ensures) (not-false _ (c .before .before .before .before .before .before .before .before .before .before .before .before .before .if1 .left))) (c .before .before .before .before .before .before .before .before .before .before .before .before .if2 .left) (offset .result) (numbers .result) (offset .ensures .0) (numbers .ensures .0) (c .before .before .before .before .before .before .before .before .before .if3 .left) (tells (c .before .before .before .before .before .before .before .before .given-finite .ensures) (not-false _ (c .before .before .before .before .before .before .before .if4 .left))) (store-factor .last .0) (store-factor .ensures .1 .0) (sym (c .before .enum-told2 .given .1) ∙ store-factor .ensures .0) in
     turned-back (args .t1) (args .f) (args .store .now) _ _ _ _ (p .0) (c .refused5 .ensures) (p .1)
 
 enum-told-3 : tie.Need-enum-told-3
@@ -102,7 +102,7 @@ returns-6 c =
     let offset = c .before .before .before .before .before .before .before .before .before .before .before .offset in
     let numbers = c .before .before .before .before .before .before .before .before .before .before .numbers in
     let store-factor = c .before .before .before .before .before .store-factor in
-    let p = at-overflow (args .t1) (args .f) (args .a .now) (args .mean .now) (args .variance .now) (args .store .now) (tells (c .before .before .before .before .before .before .before .before .before .before .before .before .before .before .lengths-fit .ensures) (not-false _ (c .before .before .before .before .before .before .before .before .before .before .before .before .before .if1 .left))) (c .before .before .before .before .before .before .before .before .before .before .before .before .if2 .left) (offset .result) (numbers .result) (offset .ensures .0) (numbers .ensures .0) (c .before .before .before .before .before .before .before .before .before .if3 .left) (tells (c .before .before .before .before .before .before .before .before .given-finite .ensures) (not-false _ (c .before .before .before .before .before .before .before .if4 .left))) (store-factor .last .0) (store-factor .ensures .1) (sym (c .before .enum-told3 .given .1) ∙ store-factor .ensures .0) in
+    let p = at-overflow (args .t1) (args .f) (args .a .now) (args .mean .now) (args .variance .now) (args .store .now) (tells (c .before .before .before .before .before .before .before .before .before .before .before .before .before .before .lengths-fit .ensures) (not-false _ (c .before .before .before .before .before .before .before .before .before .before .before .before .before .if1 .left))) (c .before .before .before .before .before .before .before .before .before .before .before .before .if2 .left) (offset .result) (numbers .result) (offset .ensures .0) (numbers .ensures .0) (c .before .before .before .before .before .before .before .before .before .if3 .left) (tells (c .before .before .before .before .before .before .before .before .given-finite .ensures) (not-false _ (c .before .before .before .before .before .before .before .if4 .left))) (store-factor .last .0) (store-factor .ensures .1 .0) (sym (c .before .enum-told3 .given .1) ∙ store-factor .ensures .0) in
     turned-back (args .t1) (args .f) (args .store .now) _ _ _ _ (p .0) (c .refused6 .ensures) (p .1)
 
 mul-f : tie.Need-mul-f
@@ -123,7 +123,7 @@ returns-7 c =
     let offset = c .before .before .before .before .before .before .before .before .before .before .offset in
     let numbers = c .before .before .before .before .before .before .before .before .before .numbers in
     let store-factor = c .before .before .before .before .store-factor in
-    taken (args .t1) (args .f) (args .a .now) (args .mean .now) (args .variance .now) (args .store .now) (tells (c .before .before .before .before .before .before .before .before .before .before .before .before .before .lengths-fit .ensures) (not-false _ (c .before .before .before .before .before .before .before .before .before .before .before .before .if1 .left))) (c .before .before .before .before .before .before .before .before .before .before .before .if2 .left) (offset .result) (numbers .result) (offset .ensures .0) (numbers .ensures .0) (c .before .before .before .before .before .before .before .before .if3 .left) (tells (c .before .before .before .before .before .before .before .given-finite .ensures) (not-false _ (c .before .before .before .before .before .before .if4 .left))) (store-factor .last .0) (store-factor .ensures .1) (sym (c .enum-told .given .1) ∙ store-factor .ensures .0)
+    taken (args .t1) (args .f) (args .a .now) (args .mean .now) (args .variance .now) (args .store .now) (tells (c .before .before .before .before .before .before .before .before .before .before .before .before .before .lengths-fit .ensures) (not-false _ (c .before .before .before .before .before .before .before .before .before .before .before .before .if1 .left))) (c .before .before .before .before .before .before .before .before .before .before .before .if2 .left) (offset .result) (numbers .result) (offset .ensures .0) (numbers .ensures .0) (c .before .before .before .before .before .before .before .before .if3 .left) (tells (c .before .before .before .before .before .before .before .given-finite .ensures) (not-false _ (c .before .before .before .before .before .before .if4 .left))) (store-factor .last .0) (store-factor .ensures .1 .0) (sym (c .enum-told .given .1) ∙ store-factor .ensures .0)
 
 pub add-factor-spec : {M : Type 1} → statement M
 add-factor-spec =

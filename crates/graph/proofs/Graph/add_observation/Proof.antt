@@ -7,7 +7,8 @@ use borrow.Author.Needs.{needs}
 use borrow.Author.Tests.{not-false, not-true}
 use lib.Ieee.{Float}
 use Rattle.factor.proofs.Counting.{tells}
-use Rattle.graph.proofs.Verdicts.{turned-back}
+use Rattle.graph.proofs.Telling.{observation-tells}
+use Rattle.graph.proofs.CheckOrder.{turned-back}
 use Rattle.graph.specs.Record.{valid}
 use Rattle.graph.specs.Registration.{addObservation, observationStore, observationVerdict, refuse}
 use Rattle.graph.specs.declared.Graph.{Graph}
@@ -31,7 +32,8 @@ returns : tie.Need-returns
 unfolding addObservation observationStore
 returns c =
     let args = c .before .before .before .before .before .before .before .before .args in
-    turned-back (args .self) _ (args .store .now) _ _ _ _ (no-graph (args .self) (args .keys .now) (args .rows) (args .a .now) (args .mean .now) (args .variance .now) (args .store .now) (tells (c .before .before .valid .ensures .0) (not-true _ (c .before .if1 .taken)))) (c .refused .ensures) refl
+    observation-tells (args .self) (args .keys .now) (args .rows) (args .a .now) (args .mean .now) (args .variance .now) (args .store .now) _ _
+    (turned-back (args .self) _ (args .store .now) _ _ _ _ (no-graph (args .self) (args .keys .now) (args .rows) (args .a .now) (args .mean .now) (args .variance .now) (args .store .now) (tells (c .before .before .valid .ensures .0) (not-true _ (c .before .if1 .taken)))) (c .refused .ensures) refl)
 
 enter-observation-requires : tie.Need-enter-observation-requires
 enter-observation-requires c κs = tells (c .before .before .valid .ensures .0) (not-false _ (c .before .if1 .left))
@@ -40,7 +42,7 @@ same-length : tie.Need-same-length
 same-length c = search needs
 
 returns-2 : tie.Need-returns-2
-returns-2 c = c .before .before .enter-observation .ensures
+returns-2 c = let args = c .before .before .before .before .before .before .before .before .before .before .before .args in observation-tells (args .self) (args .keys .now) (args .rows) (args .a .now) (args .mean .now) (args .variance .now) (args .store .now) _ _ (c .before .before .enter-observation .ensures)
 
 pub add-observation-spec : {M : Type 1} → statement M
 add-observation-spec = tie.close (tie.spec valid-requires refused-requires returns enter-observation-requires same-length returns-2)

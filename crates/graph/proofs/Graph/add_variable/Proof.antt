@@ -5,6 +5,7 @@ use mathlib.Core.Path.{_∙_, _≡_}
 use borrow.Author.Needs.{needs}
 use borrow.Author.Tests.{not-false, not-true}
 use Rattle.factor.proofs.Counting.{tells}
+use Rattle.graph.proofs.Telling.{variable-tells}
 use Rattle.graph.specs.Record.{valid}
 use Rattle.graph.specs.Registration.{addVariable, refused}
 use Rattle.graph.specs.declared.Graph.{Graph}
@@ -28,13 +29,13 @@ refused-requires c κs = search needs
 returns : tie.Need-returns
 returns c =
     let args = c .before .before .before .args in
-    c .refused .ensures ∙ no-graph (args .self) (args .name) (args .size) (tells (c .before .before .valid .ensures .0) (not-true _ (c .before .if1 .taken)))
+    variable-tells _ _ _ _ (c .refused .ensures ∙ no-graph (args .self) (args .name) (args .size) (tells (c .before .before .valid .ensures .0) (not-true _ (c .before .if1 .taken))))
 
 enter-variable-requires : tie.Need-enter-variable-requires
 enter-variable-requires c κs = tells (c .before .valid .ensures .0) (not-false _ (c .if1 .left))
 
 returns-2 : tie.Need-returns-2
-returns-2 c = c .enter-variable .ensures
+returns-2 c = variable-tells _ _ _ _ (c .enter-variable .ensures)
 
 pub add-variable-spec : {M : Type 1} → statement M
 add-variable-spec = tie.close (tie.spec valid-requires refused-requires returns enter-variable-requires returns-2)

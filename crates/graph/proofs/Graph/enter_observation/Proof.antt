@@ -15,7 +15,7 @@ use Rattle.factor.specs.Factor.{fits, known, observationOf, rising}
 use Rattle.factor.specs.Limits.{max-keys, max-rows, max-variables}
 use Rattle.factor.specs.declared.Factor.{Factor}
 use Rattle.graph.proofs.Validity.{valid-variables}
-use Rattle.graph.proofs.Verdicts.{turned-back}
+use Rattle.graph.proofs.CheckOrder.{turned-back}
 use Rattle.graph.specs.Record.{valid}
 use Rattle.graph.specs.Registration.{Verdict, addObservation, countsFit, factorVerdict, observationStore, observationVerdict, refuse, settle, stored}
 use Rattle.graph.specs.declared.Added.{Added}

@@ -12,7 +12,7 @@ use Rattle.factor.specs.Factor.{fits, priorOf}
 use Rattle.factor.specs.Limits.{max-variables}
 use Rattle.factor.specs.declared.Factor.{Factor}
 use Rattle.graph.proofs.Validity.{valid-variables}
-use Rattle.graph.proofs.Verdicts.{turned-back}
+use Rattle.graph.proofs.CheckOrder.{turned-back}
 use Rattle.graph.specs.Record.{sizeAt, valid}
 use Rattle.graph.specs.Registration.{addPrior, factorVerdict, priorStore, priorVerdict, refuse, settle, stored}
 use Rattle.graph.specs.declared.Added.{Added}

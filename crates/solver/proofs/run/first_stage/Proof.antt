@@ -50,7 +50,7 @@ second-stage-requires c κs =
     let pre = c .before .before .before .before .before .before .before .before .before .before .before .before .before .before .before .before .before .before .before .pre in
     let carry-pass = c .before .before .before .before .before .before .before .before .before .carry-pass in (
       (pre .0, enough-later (args .g) (args .figure) (args .factors .now) (args .messages .now) _ (length (args .work .now)) _ (length (args .marginals .now)) (pre .1) (carry-pass .kept .1 .1 .1 .1 .1 .0) (carry-pass .kept .1 .1 .1 .1 .1 .1 .0)),
-      (carry-pass .ensures .1 .1 (c .before .before .before .enum-told .given .1)),
+      (carry-pass .ensures .1 .1 .0 (c .before .before .before .enum-told .given .1)),
     )
 
 same-length-3 : tie.Need-same-length-3
@@ -68,7 +68,7 @@ returns-2 c =
     let pre = c .before .before .before .before .before .before .before .before .before .before .before .before .before .before .before .before .before .before .before .before .before .before .before .before .before .before .pre in
     let carry-pass = c .before .before .before .before .before .before .before .before .before .before .before .before .before .before .before .before .carry-pass in
     let the-enum-told = c .before .before .before .before .before .before .before .before .before .before .enum-told in
-    first-done (args .g) (args .p) (args .half) (args .figure) (args .keys .now) (args .heads .now) (args .factors .now) (args .messages .now) (args .marginals .now) (length (args .work .now)) (pre .0) (pre .1) _ _ (carry-pass .ensures .0) (carry-pass .ensures .1 .0) _ _ _ (the-enum-told .given .1) (carry-pass .ensures .1 .1 (the-enum-told .given .1)) (c .before .before .before .before .before .before .second-stage .ensures)
+    first-done (args .g) (args .p) (args .half) (args .figure) (args .keys .now) (args .heads .now) (args .factors .now) (args .messages .now) (args .marginals .now) (length (args .work .now)) (pre .0) (pre .1) _ _ (carry-pass .ensures .0) (carry-pass .ensures .1 .0) _ _ _ (the-enum-told .given .1) (carry-pass .ensures .1 .1 .0 (the-enum-told .given .1)) (c .before .before .before .before .before .before .second-stage .ensures)
 
 pub first-stage-spec : {M : Type 1} → statement M
 first-stage-spec =

@@ -2,6 +2,7 @@
 use lib.ListN.{length}
 use Rattle.solver.proofs.Answers.{made-valid, refused-why}
 use Rattle.solver.proofs.Stages.{made-planned, run-refused, run-made}
+use Rattle.solver.proofs.Telling.{run-tells}
 use borrow.Author.Needs.{needs}
 use Rattle.solver.proofs.run.run.Statement.{statement}
 use Rattle.solver.proofs.run.run.Tie as tie
@@ -24,7 +25,8 @@ place-plan-requires c κs = made-planned _ (c .before .before .before .before .b
 returns : tie.Need-returns
 returns c =
     let args = c .before .before .before .before .before .before .before .before .before .args in
-    rw (c .refused .ensures) (run-refused (args .g) (args .factors .now) (args .messages .now) (args .marginals .now) (length (args .work .now)) _ (refused-why _ (args .g) _ (c .before .before .before .before .arrange .ensures .0) (c .before .before .outcome .given .1)))
+    run-tells _ _ _ _
+    (rw (c .refused .ensures) (run-refused (args .g) (args .factors .now) (args .messages .now) (args .marginals .now) (length (args .work .now)) _ (refused-why _ (args .g) _ (c .before .before .before .before .arrange .ensures .0) (c .before .before .outcome .given .1))))
 
 same-length : tie.Need-same-length
 same-length c = search needs
@@ -38,7 +40,8 @@ same-length-3 c = search needs
 returns-2 : tie.Need-returns-2
 returns-2 c =
     let args = c .before .before .before .before .before .before .before .before .before .before .before .before .before .before .before .before .before .before .args in
-    run-made (args .g) (args .factors .now) (args .messages .now) (args .marginals .now) (length (args .work .now)) _ (made-valid _ (args .g) (c .before .before .before .before .before .before .before .before .before .before .before .before .before .arrange .ensures .0) (c .before .before .before .before .before .before .before .before .before .before .before .enum-told .given .1)) (c .before .before .before .before .before .before .place-plan .ensures)
+    run-tells _ _ _ _
+    (run-made (args .g) (args .factors .now) (args .messages .now) (args .marginals .now) (length (args .work .now)) _ (made-valid _ (args .g) (c .before .before .before .before .before .before .before .before .before .before .before .before .before .arrange .ensures .0) (c .before .before .before .before .before .before .before .before .before .before .before .enum-told .given .1)) (c .before .before .before .before .before .before .place-plan .ensures))
 
 pub run-spec : {M : Type 1} → statement M
 run-spec =

@@ -7,6 +7,7 @@ use borrow.Author.Needs.{needs}
 use lib.Ieee.{ofBits}
 use Rattle.slots.proofs.Adding.{fits-part}
 use Rattle.gaussian.proofs.Moments.{zeros-part, zeros-long, from-done, from-pivot, from-unbounded}
+use Rattle.gaussian.proofs.Telling.{from-tells}
 use Rattle.gaussian.proofs.marginal.Marginal.from.Statement.{statement}
 use Rattle.gaussian.proofs.marginal.Marginal.from.Tie as tie
 
@@ -236,7 +237,8 @@ refused-requires c κs = search needs
 returns : tie.Need-returns
 returns c =
     let args = c .before .before .before .before .before .before .before .before .before .before .before .before .before .before .before .before .args in
-    from-pivot (args .key) (args .size) (args .rows) (args .message .now) _ _ _ (c .before .before .before .before .before .before .before .moments .ensures) _ (c .refused .ensures) (c .before .enum-told2 .given .1)
+    from-tells _ _ _ _ _
+    (from-pivot (args .key) (args .size) (args .rows) (args .message .now) _ _ _ (c .before .before .before .before .before .before .before .moments .ensures .0) _ (c .refused .ensures) (c .before .enum-told2 .given .1))
 
 enum-told-3 : tie.Need-enum-told-3
 enum-told-3 c = search needs
@@ -247,7 +249,8 @@ refused-requires-2 c κs = search needs
 returns-2 : tie.Need-returns-2
 returns-2 c =
     let args = c .before .before .before .before .before .before .before .before .before .before .before .before .before .before .before .before .args in
-    from-unbounded (args .key) (args .size) (args .rows) (args .message .now) _ _ _ (c .before .before .before .before .before .before .before .moments .ensures) _ (c .refused2 .ensures) (c .before .enum-told3 .given .1)
+    from-tells _ _ _ _ _
+    (from-unbounded (args .key) (args .size) (args .rows) (args .message .now) _ _ _ (c .before .before .before .before .before .before .before .moments .ensures .0) _ (c .refused2 .ensures) (c .before .enum-told3 .given .1))
 
 returns-3 : tie.Need-returns-3
 unfolding ofBits
@@ -258,7 +261,8 @@ returns-3 c =
     let a = mul-le-mul (pre .1) (pre .0) in
     let b = mul-le-mul (pre .1) (pre .1) in
     let d = mul-le-mul (pre .0) (pre .0) in
-    from-done (args .key) (args .size) (args .rows) (args .message .now) _ _ _ (moments .ensures) (moments .kept .1 .1 .1 .1 .1 .0 ∙ zeros-long 6 (args .size) (pre .0)) (moments .kept .1 .1 .1 .1 .1 .1 .1 .0 ∙ zeros-long 36 (args .size * args .size) d) (c .enum-told .given .1)
+    from-tells _ _ _ _ _
+    (from-done (args .key) (args .size) (args .rows) (args .message .now) _ _ _ (moments .ensures .0) (moments .kept .1 .1 .1 .1 .1 .0 ∙ zeros-long 6 (args .size) (pre .0)) (moments .kept .1 .1 .1 .1 .1 .1 .1 .0 ∙ zeros-long 36 (args .size * args .size) d) (c .enum-told .given .1))
 
 pub from-spec : {M : Type 1} → statement M
 from-spec =

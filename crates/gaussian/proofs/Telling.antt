@@ -1,0 +1,55 @@
+-- An answer that is the definition's tells the definition's numbers. Assumes nothing.
+use Prim.Native.Nat.{ℕ}
+use mathlib.Core.Path.{_≡_, refl, sym, ap, _∙_}
+use mathlib.Core.List.{List}
+use lib.Ieee.{Float}
+use Rattle.gaussian.specs.Elimination.{Outcome, pivot, unbounded, message}
+use Rattle.gaussian.specs.Answers.{answer, stored}
+use Rattle.gaussian.specs.Marginals.{Moments, moments, noPivot, noNumber, momentsOf, momentsIn, told, refusedAs, answerOf, marginalOf, marginalFrom}
+use Rattle.gaussian.specs.Told.{eliminatedTold, solvedTold, endingTold, outcomeTold, momentsTold, lastTold}
+use Rattle.gaussian.specs.declared.Eliminated.{Eliminated}
+use Rattle.gaussian.specs.declared.marginal.Solved.{Solved}
+use Rattle.gaussian.specs.declared.marginal.Solved.the-variants as ended
+use Rattle.gaussian.specs.declared.marginal.Answer.{Answer}
+
+-- an elimination's answer with the message store, and what the answer tells
+pub stored-tells : (r : Eliminated) (o : Outcome) (l s : List Float) (to : ℕ) → (r ≡ answer o) × (s ≡ stored l to o)
+    → (r ≡ answer o) × ((s ≡ stored l to o) × (eliminatedTold r ≡ outcomeTold o))
+unfolding answer eliminatedTold outcomeTold
+stored-tells r o l s to (e, h) = (e, (h, ap eliminatedTold e ∙ go o))
+  where
+    go : (o : Outcome) → eliminatedTold (answer o) ≡ outcomeTold o
+    go (message r a xi w) = refl
+    go pivot = refl
+    go unbounded = refl
+
+-- the solving for a mean and a covariance
+pub solved-tells : (m : Moments) (r : Solved) (mean covariance : List Float) → m ≡ told r mean covariance → (m ≡ told r mean covariance) × (solvedTold r ≡ momentsTold m)
+unfolding told solvedTold momentsTold
+solved-tells m r mean covariance e = (e, go r ∙ sym (ap momentsTold e))
+  where
+    go : (r : Solved) → solvedTold r ≡ momentsTold (told r mean covariance)
+    go ended.Done = refl
+    go ended.Pivot = refl
+    go ended.Unbounded = refl
+
+-- a marginal from what its message comes to
+by-moments : (key s : ℕ) (m : Moments) → endingTold (answerOf key s m .ending) ≡ momentsTold m
+unfolding answerOf refusedAs endingTold momentsTold
+by-moments key s (moments mean covariance) = refl
+by-moments key s noPivot = refl
+by-moments key s noNumber = refl
+
+pub from-tells : (key s y : ℕ) (t : List Float) (x : Answer) → x ≡ marginalOf key s y t → (x ≡ marginalOf key s y t) × (endingTold (x .ending) ≡ momentsTold (momentsIn y s t))
+unfolding marginalOf
+from-tells key s y t x e = (e, ap (λ (a : Answer). endingTold (a .ending)) e ∙ by-moments key s (momentsIn y s t))
+
+-- a marginal from the last elimination
+pub last-tells : (key s : ℕ) (o : Outcome) (x : Answer) → x ≡ marginalFrom key s o → (x ≡ marginalFrom key s o) × (endingTold (x .ending) ≡ lastTold s o)
+unfolding marginalFrom refusedAs endingTold lastTold
+last-tells key s o x e = (e, ap (λ (a : Answer). endingTold (a .ending)) e ∙ go o)
+  where
+    go : (o : Outcome) → endingTold (marginalFrom key s o .ending) ≡ lastTold s o
+    go (message r a xi w) = by-moments key s (momentsOf r s a xi w)
+    go pivot = refl
+    go unbounded = refl

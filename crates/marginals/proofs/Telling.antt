@@ -1,0 +1,26 @@
+-- The numbers with which `gaussian` tells that a key has no marginal are those of the refusals here. Assumes nothing.
+use Prim.Native.Nat.{ℕ}
+use mathlib.Core.Path.{_≡_, refl}
+use mathlib.Core.List.{[]}
+use Rattle.factor.specs.Told.{Told, value, refusal}
+use Rattle.graph.specs.Refusals.{numberOf}
+use Rattle.gaussian.specs.Elimination.{Outcome, pivot, unbounded, message}
+use Rattle.gaussian.specs.Marginals.{Moments, moments, noPivot, noNumber, momentsOf}
+use Rattle.gaussian.specs.Told.{momentsTold, lastTold}
+use Rattle.marginals.specs.Marginals.{Found, found, missing, foundBy, foundIn}
+
+abbrev pub foundTold : Found → Told
+foundTold (found mean covariance) = value []
+foundTold (missing why) = refusal (numberOf why) []
+
+by-moments : (m : Moments) → foundTold (foundBy m) ≡ momentsTold m
+unfolding foundBy momentsTold
+by-moments (moments mean covariance) = refl
+by-moments noPivot = refl
+by-moments noNumber = refl
+
+pub found-tells : (s : ℕ) (o : Outcome) → foundTold (foundIn s o) ≡ lastTold s o
+unfolding foundIn lastTold
+found-tells s (message r a xi w) = by-moments (momentsOf r s a xi w)
+found-tells s pivot = refl
+found-tells s unbounded = refl

@@ -1,0 +1,30 @@
+-- What a plan and a run tell in the numbers of document 01. Definitions only.
+use mathlib.Core.Bool.{cond}
+use mathlib.Core.List.{[], _∷_}
+use Prim.Native.Nat.{ℕ}
+use Rattle.factor.specs.Told.{Told, value, refusal}
+use Rattle.graph.specs.Record.{valid}
+use Rattle.graph.specs.Refusals.{numberOf}
+use Rattle.graph.specs.declared.Graph.{Graph}
+use Rattle.solver.specs.declared.Outcome.{Outcome}
+use Rattle.solver.specs.declared.Outcome.the-variants as outcome
+use Rattle.solver.specs.declared.run.Ended.{Ended}
+use Rattle.solver.specs.declared.run.Ended.the-variants as ended
+use Rattle.solver.specs.declared.run.Ran.{Ran}
+
+-- that a plan was made, or the number of the refusal
+unfoldable pub outcomeTold : Outcome → Told
+outcomeTold outcome.Made = value []
+outcomeTold (outcome.Refused why) = refusal (numberOf why) []
+
+-- only 30 refuses a plan
+unfoldable pub planTold : Graph → Told
+planTold g = cond (valid g) (value []) (refusal 30 [])
+
+-- the figure is in every answer of a run; a refusal has its number, the figure, the stage and the key
+unfoldable pub endedTold : ℕ → Ended → Told
+endedTold figure ended.Done = value (figure ∷ [])
+endedTold figure (ended.Refused why stage key) = refusal (numberOf why) (figure ∷ stage ∷ key ∷ [])
+
+abbrev pub ranTold : Ran → Told
+ranTold r = endedTold (r .figure) (r .ended)
