@@ -50,7 +50,6 @@ plan-tells r g e = ap (λ (x : Planned). outcomeTold (x .outcome)) e ∙ go (val
     go true = refl
     go false = refl
 
-
 -- ---- what an outcome tells of the graph
 
 outcome-is : (r : Arranged) (g : Graph) → read r ≡ planned g → r .outcome ≡ cond (valid g) Made (Refused NoSuchGraph)

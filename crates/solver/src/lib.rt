@@ -7,7 +7,7 @@ use factor::limits::KEYS;
 use graph::Graph;
 use graph::refusal::Refusal;
 use plan::factors::FactorKeys;
-use plan::plan::Plan;
+use plan_answer::Plan;
 ghost use mathlib.Core.Path.{_≡_};
 ghost use Prim.Native.Nat.{_≤_};
 ghost use lib.ListN.{length};
@@ -26,14 +26,14 @@ pub enum Outcome {
 pub struct Arranged {
     pub outcome: Outcome,
     pub keys: usize,
-    pub plan: Plan,
+    pub plan: plan::plan::Plan,
 }
 
 // The outcome, how many keys the plan is for, and the plan. A refused one is for no keys and has no messages.
 pub struct Planned {
     pub outcome: Outcome,
     pub keys: usize,
-    pub plan: plan_answer::Plan,
+    pub plan: Plan,
 }
 
 // What a plan needs to know of a factor.
