@@ -1,0 +1,18 @@
+-- What is known of a reading. No contract can say which bytes C's `read` puts into the room. Definitions only.
+use Prim.Native.Nat.{ℕ, _<_, _≤_}
+use Rattle.input.specs.declared.Input.{Input}
+use Rattle.input.specs.declared.Input.the-variants as input
+use Rattle.input.specs.declared.Chunk.{Chunk}
+use Rattle.input.specs.declared.Chunk.the-variants as chunk
+
+-- an input that ended did so within the room: a full room is told as such
+abbrev pub Within : Input → ℕ → Type 0
+Within (input.Ended n) room = n < room
+Within input.Full room = Unit {0}
+Within input.Failed room = Unit {0}
+
+-- one read moves some bytes, and no more than there is room for
+abbrev pub Moved : Chunk → ℕ → Type 0
+Moved (chunk.Bytes n) room = (0 < n) × (n ≤ room)
+Moved chunk.End room = Unit {0}
+Moved chunk.Failed room = Unit {0}

@@ -1,0 +1,55 @@
+// Reads an input to its end, and tells the end from a read that failed.
+ghost use Prim.Native.Nat.{_≤_, _<_};
+ghost use lib.ListN.{length};
+ghost use Rattle.input.specs.Input.{Within, Moved};
+
+// The input ended after so many bytes; or the room is full, and what follows was not read; or a read failed.
+pub enum Input {
+    Ended(usize),
+    Full,
+    Failed,
+}
+
+// One read: so many bytes, the end of the input, or a failure.
+enum Chunk {
+    Bytes(usize),
+    End,
+    Failed,
+}
+
+// A failed read is tried again, up to this many reads in all. A read that a signal interrupted before it moved a byte fails like any other, and
+// what C says of the reason can't be seen from here. A failed read moves nothing, so no byte is lost or read twice.
+const TRIES: usize = 16;
+
+fn read_chunk(fd: i32, room: &mut [u8]) -> Chunk
+    ensures { λ r. ⌜ Moved r (length (now (room .entry))) ⌝ }
+{
+    for _ in 0..TRIES {
+        let got = libc::read(fd, room);
+        let n = io::count(got, room);
+        if 0 < n {
+            return Chunk::Bytes(n);
+        }
+        if got == 0 {
+            return Chunk::End;
+        }
+    }
+    Chunk::Failed
+}
+
+// Reads until the input ends, the room is full or a read fails.
+pub fn read_all(fd: i32, room: &mut [u8]) -> Input
+    ensures { λ r. ⌜ Within r (length (now (room .exit))) ⌝ }
+{
+    let mut done = 0;
+    while done < room.len() {
+        match read_chunk(fd, &mut room[done..]) {
+            Chunk::Bytes(n) => {
+                done += n;
+            }
+            Chunk::End => return Input::Ended(done),
+            Chunk::Failed => return Input::Failed,
+        }
+    }
+    Input::Full
+}
