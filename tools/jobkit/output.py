@@ -92,7 +92,9 @@ def comma_separated(rows):
 
 
 def read(text, name, job, parts, as_csv):
-    """The output as a table; with a job it must have the job's keys."""
+    """The output as a table; with a job it must have the job's keys. One that was cut is told."""
+    if text and not text.endswith("\n"):
+        raise Wrong(f"{name}: expected a line feed at the end, so not all was written")
     refusal, form = REFUSAL.fullmatch(text), comma_separated if as_csv else aligned
     if refusal:
         return form(explain(*map(int, refusal.groups()), job))

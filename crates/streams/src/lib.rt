@@ -1,7 +1,7 @@
-// Reads an input to its end, and tells the end from a read that failed.
+// A program's input and output: the end of the input is told from a read that failed, and text that could not be written is told too.
 ghost use Prim.Native.Nat.{_≤_, _<_};
 ghost use lib.ListN.{length};
-ghost use Rattle.input.specs.Input.{Within, Moved};
+ghost use Rattle.streams.specs.Reading.{Within, Moved};
 
 // The input ended after so many bytes; or the room is full, and what follows was not read; or a read failed.
 pub enum Input {
@@ -52,4 +52,11 @@ pub fn read_all(fd: i32, room: &mut [u8]) -> Input
         }
     }
     Input::Full
+}
+
+// Writes a text to standard output. If not all of it could be written, the complaint goes to standard error: a program can set no exit status.
+pub fn print(text: &[u8], complaint: &[u8]) {
+    if !io::write_all(1, text) {
+        io::write_all(2, complaint);
+    }
 }

@@ -1,10 +1,10 @@
--- `input::read_chunk` meets its contract: what was moved is what `io::count` says, which lies within the room. Assumes nothing.
+-- `streams::read_chunk` meets its contract: what was moved is what `io::count` says, which lies within the room. Assumes nothing.
 use Prim.Native.Nat.{_-_, _≤_}
 use mathlib.Core.Path.{_≡_}
 use lib.ListN.{length}
 use borrow.Author.Needs.{needs}
-use Rattle.input.proofs.read_chunk.Statement.{statement}
-use Rattle.input.proofs.read_chunk.Tie as tie
+use Rattle.streams.proofs.read_chunk.Statement.{statement}
+use Rattle.streams.proofs.read_chunk.Tie as tie
 
 abbrev Inv-loop : tie.InvT-loop
 Inv-loop fd room₀ counter₀ room counter = (counter ≤ 16) × (length room ≡ length room₀)

@@ -1,13 +1,13 @@
--- `input::read_all` meets its contract: each turn that goes on has moved a byte, so the room that is left falls. Assumes nothing.
+-- `streams::read_all` meets its contract: each turn that goes on has moved a byte, so the room that is left falls. Assumes nothing.
 use Prim.Native.Nat.{_-_, _≤_}
 use mathlib.Core.Path.{_≡_, _∙_}
 use native.Mathlib.Omega.{arith}
 use borrow.Rule.Slice.PartMut.{mid-len, same-len-mid}
 use lib.ListN.{length}
 use borrow.Author.Needs.{needs}
-use Rattle.input.proofs.Moving.{moved}
-use Rattle.input.proofs.read_all.Statement.{statement}
-use Rattle.input.proofs.read_all.Tie as tie
+use Rattle.streams.proofs.Moving.{moved}
+use Rattle.streams.proofs.read_all.Statement.{statement}
+use Rattle.streams.proofs.read_all.Tie as tie
 
 abbrev Inv-loop : tie.InvT-loop
 Inv-loop fd room₀ done₀ room done = (done ≤ length room) × (length room ≡ length room₀)
@@ -45,7 +45,7 @@ loop-less c =
     let m = moved _ _ _ (c .before .n .given .1) (c .before .before .before .before .before .read-chunk .ensures) in
     let room = c .before .before .before .before .before .before .before .before .loop .room in
     let part = mid-len (c .before .before .before .before .before .before .before .before .loop .done) (length room) room (omega arith) in
-    let same = same-len-mid (c .before .before .before .before .before .before .before .before .loop .done) (length room - c .before .before .before .before .before .before .before .before .loop .done) room (c .before .before .before .before .before .read-chunk .last .1 .0) (c .before .before .before .before .room .given) in
+    let same = same-len-mid (c .before .before .before .before .before .before .before .before .loop .done) (length room - c .before .before .before .before .before .before .before .before .loop .done) room (c .before .before .before .before .before .read-chunk .last .1 .0) (omega (arith, c .before .before .before .before .room .given, part)) in
     omega (arith, m .0, m .1, part, same)
 
 loop-again : tie.Need-loop-again Inv-loop μ-loop
@@ -53,7 +53,7 @@ loop-again c =
     let m = moved _ _ _ (c .before .n .given .1) (c .before .before .before .before .before .read-chunk .ensures) in
     let room = c .before .before .before .before .before .before .before .before .loop .room in
     let part = mid-len (c .before .before .before .before .before .before .before .before .loop .done) (length room) room (omega arith) in
-    let same = same-len-mid (c .before .before .before .before .before .before .before .before .loop .done) (length room - c .before .before .before .before .before .before .before .before .loop .done) room (c .before .before .before .before .before .read-chunk .last .1 .0) (c .before .before .before .before .room .given) in
+    let same = same-len-mid (c .before .before .before .before .before .before .before .before .loop .done) (length room - c .before .before .before .before .before .before .before .before .loop .done) room (c .before .before .before .before .before .read-chunk .last .1 .0) (omega (arith, c .before .before .before .before .room .given, part)) in
     (omega (arith, m .1, part, same), same ∙ c .before .before .before .before .before .before .before .before .loop .inv .1)
 
 enum-told : tie.Need-enum-told Inv-loop μ-loop

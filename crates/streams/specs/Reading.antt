@@ -1,9 +1,9 @@
 -- What is known of a reading. No contract can say which bytes C's `read` puts into the room. Definitions only.
 use Prim.Native.Nat.{ℕ, _<_, _≤_}
-use Rattle.input.specs.declared.Input.{Input}
-use Rattle.input.specs.declared.Input.the-variants as input
-use Rattle.input.specs.declared.Chunk.{Chunk}
-use Rattle.input.specs.declared.Chunk.the-variants as chunk
+use Rattle.streams.specs.declared.Input.{Input}
+use Rattle.streams.specs.declared.Input.the-variants as input
+use Rattle.streams.specs.declared.Chunk.{Chunk}
+use Rattle.streams.specs.declared.Chunk.the-variants as chunk
 
 -- an input that ended did so within the room: a full room is told as such
 abbrev pub Within : Input → ℕ → Type 0

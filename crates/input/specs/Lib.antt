@@ -1,2 +1,0 @@
--- The definitions that the contracts of `input` cite.
-pub mod Input
