@@ -93,12 +93,12 @@ def comma_separated(rows):
 
 def read(text, name, job, parts, as_csv):
     """The output as a table; with a job it must have the job's keys. One that was cut is told."""
+    refusal, form = REFUSAL.fullmatch(text), comma_separated if as_csv else aligned
+    marginals = None if refusal else parse(text, name)
     if text and not text.endswith("\n"):
         raise Wrong(f"{name}: expected a line feed at the end, so not all was written")
-    refusal, form = REFUSAL.fullmatch(text), comma_separated if as_csv else aligned
     if refusal:
         return form(explain(*map(int, refusal.groups()), job))
-    marginals = parse(text, name)
     called = [str(key) for key in range(len(marginals))]
     if job is not None:
         variables, called = only(Variable, decode(job)), names(decode(job))
