@@ -1,5 +1,6 @@
 -- What is known of a reading. No contract can say which bytes C's `read` puts into the room. Definitions only.
-use Prim.Native.Nat.{ℕ, _<_, _≤_}
+use Prim.Native.Nat.{ℕ, zero, suc, _<_, _≤_, min}
+use lib.IntN.{ℤ, pos, negsuc}
 use Rattle.streams.specs.declared.Input.{Input}
 use Rattle.streams.specs.declared.Input.the-variants as input
 use Rattle.streams.specs.declared.Chunk.{Chunk}
@@ -16,3 +17,9 @@ abbrev pub Moved : Chunk → ℕ → Type 0
 Moved (chunk.Bytes n) room = (0 < n) × (n ≤ room)
 Moved chunk.End room = Unit {0}
 Moved chunk.Failed room = Unit {0}
+
+-- what the answer of C's `read` says: negative, a failure; 0, the end of the input; otherwise how many bytes it moved
+abbrev pub chunkOf : ℤ → ℕ → Chunk
+chunkOf (negsuc k) room = chunk.Failed
+chunkOf (pos zero) room = chunk.End
+chunkOf (pos (suc k)) room = chunk.Bytes (min (suc k) room)

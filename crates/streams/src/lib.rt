@@ -1,7 +1,8 @@
 // A program's input and output: the end of the input is told from a read that failed, and text that could not be written is told too.
 ghost use Prim.Native.Nat.{_≤_, _<_};
 ghost use lib.ListN.{length};
-ghost use Rattle.streams.specs.Reading.{Within, Moved};
+ghost use mathlib.Core.Path.{_≡_};
+ghost use Rattle.streams.specs.Reading as spec;
 
 // The input ended after so many bytes; or the room is full, and what follows was not read; or a read failed.
 pub enum Input {
@@ -17,21 +18,33 @@ enum Chunk {
     Failed,
 }
 
+// What the answer of a read says: a negative one is a failure, 0 the end of the input.
+fn chunk_of(got: isize, room: &[u8]) -> Chunk
+    ensures { λ r. ⌜ r ≡ spec.chunkOf got (length (now (room .entry))) ⌝ }
+{
+    if got < 0 {
+        return Chunk::Failed;
+    }
+    if got == 0 {
+        return Chunk::End;
+    }
+    Chunk::Bytes(io::count(got, room))
+}
+
 // A failed read is tried again, up to this many reads in all. A read that a signal interrupted before it moved a byte fails like any other, and
 // what C says of the reason can't be seen from here. A failed read moves nothing, so no byte is lost or read twice.
 const TRIES: usize = 16;
 
 fn read_chunk(fd: i32, room: &mut [u8]) -> Chunk
-    ensures { λ r. ⌜ Moved r (length (now (room .entry))) ⌝ }
+    requires { ⌜ 0 < length (now room) ⌝ }
+    ensures { λ r. ⌜ spec.Moved r (length (now (room .entry))) ⌝ }
 {
     for _ in 0..TRIES {
         let got = libc::read(fd, room);
-        let n = io::count(got, room);
-        if 0 < n {
-            return Chunk::Bytes(n);
-        }
-        if got == 0 {
-            return Chunk::End;
+        match chunk_of(got, room) {
+            Chunk::Bytes(n) => return Chunk::Bytes(n),
+            Chunk::End => return Chunk::End,
+            Chunk::Failed => {}
         }
     }
     Chunk::Failed
@@ -39,7 +52,7 @@ fn read_chunk(fd: i32, room: &mut [u8]) -> Chunk
 
 // Reads until the input ends, the room is full or a read fails.
 pub fn read_all(fd: i32, room: &mut [u8]) -> Input
-    ensures { λ r. ⌜ Within r (length (now (room .exit))) ⌝ }
+    ensures { λ r. ⌜ spec.Within r (length (now (room .exit))) ⌝ }
 {
     let mut done = 0;
     while done < room.len() {
