@@ -3,37 +3,24 @@
 -- Assumes nothing.
 use mathlib.Core.Path.{_≡_, refl, sym, ap, subst, subst₂, _∙_}
 use mathlib.Core.Logic.{_≢_, _⊎_, inl, inr}
-use mathlib.Core.Bool.{Bool, true, false, not, _&&_}
+use mathlib.Core.Bool.{Bool, true, false, not}
 use mathlib.Core.List.{List, [], _∷_, _++_, map, reverse, reverse-append, reverse-cons, reverse-reverse, append-assoc, List·Memᴰ}
 use Prim.Native.Nat.{ℕ, zero, suc, _+_, _-_, _≤_, _<_}
 use native.Mathlib.Nat.{zero-add}
 use native.Mathlib.Omega.{arith}
 use native.Mathlib.Decide.{decLt}
-use lib.Dec.{T, eqb, ltb→lt, lt→ltb, nltb→le, eqb→eq, eqb-refl, not-T}
+use lib.Dec.{T, eqb, ltb→lt, nltb→le, eqb→eq}
 use lib.ListN.{length, getD, length-append, length-reverse}
-use Rattle.schedule.specs.Count.{hit, count, In, mem, keep, joined, from}
+use Rattle.schedule.specs.Count.{hit, count, In, mem, joined, from}
 use Rattle.schedule.specs.Pass.{ClosedFactor, at, after, full-pass}
 use Rattle.schedule.specs.Gather.{alive-messages, leaves, Gathered, keysLast, uncovered, gathering, gatherAt, gather}
 use Rattle.schedule.specs.Plan.{place, plan}
 use Rattle.schedule.specs.Once.{behind, clearedBy, Once}
-use Rattle.schedule.proofs.Counts.{sure, and-i, and-no-l, and-no-r, not-not, hit-other, hit-cases, count-cons, count-append, count-reverse, count-joined, from-in, from-above, mem-in, in-mem, sum-some, sum-member, keep-yes, keep-no, rising-yes, rising-no}
+use Rattle.schedule.proofs.Counts.{sure, hit-other, hit-cases, count-cons, count-append, count-reverse, count-joined, from-in, from-above, mem-in, in-mem, sum-some, sum-member}
 use Rattle.schedule.proofs.Runs.{from-lt}
 use Rattle.schedule.proofs.Sums.{sum-perm, length-sum, length-from}
+use Rattle.schedule.proofs.Meanings.{covered-not, uncovered-all, uncovered-in, own-never, last-once, last-none}
 use Rattle.schedule.proofs.Sides.{gatheredLeaves, Side, a-side}
-
--- an original that lies under a gathered message is not uncovered; a live one that lies under none is, as often as it is live
-pub covered-not : (lv N : List ℕ) (f : ℕ) → In f lv → count f (uncovered lv N) ≡ 0
-unfolding uncovered
-covered-not lv N f h = keep-no (λ i. not (mem i lv)) f N (not-not (mem f lv) (lt→ltb 0 (count f lv) h))
-
-pub uncovered-all : (lv N : List ℕ) (f : ℕ) → count f lv ≡ 0 → count f (uncovered lv N) ≡ count f N
-unfolding uncovered
-uncovered-all lv N f z = keep-yes (λ i. not (mem i lv)) f N (not-T (mem f lv) (λ t. absurd (omega (arith, ltb→lt 0 (count f lv) t))))
-
--- the key itself is not among the keys cleared last
-own-never : (n k : ℕ) (keys : List ℕ) → count k (keysLast n k keys) ≡ 0
-unfolding keysLast
-own-never n k keys = rising-no n (λ j. mem j keys && not (eqb j k)) k (and-no-r (mem k keys) (not (eqb k k)) (not-not (eqb k k) (eqb-refl k)))
 
 module _ (n : ℕ) (K : ℕ → List ℕ) (N : List ℕ) (P Q : List ℕ) (k : ℕ) (fw bw : List ClosedFactor) (akF goneF akB goneB : List ℕ)
     (F : Side K N P k fw akF goneF) (B : Side K N Q k bw akB goneB)
@@ -89,14 +76,6 @@ module _ (n : ℕ) (K : ℕ → List ℕ) (N : List ℕ) (P Q : List ℕ) (k : �
       go (inl t) (inr a) d =
           omega (arith, count-append f lv un, covered-not lv N f (ltb→lt 0 (count f lv) t), lv-count f, B .part f, distinct f, ltb→lt 0 (count f lv) t, nltb→le 0 (count f LF) a)
 
-  -- an uncovered original
-  un-in : (f : ℕ) → In f un → In f N × (count f lv ≡ 0)
-  un-in f h = go (sure (mem f lv))
-    where
-      go : T (mem f lv) ⊎ T (not (mem f lv)) → In f N × (count f lv ≡ 0)
-      go (inl t) = absurd (omega (arith, covered-not lv N f (ltb→lt 0 (count f lv) t)))
-      go (inr t) = let z : count f lv ≡ 0 = omega (arith, nltb→le 0 (count f lv) t) in (omega (arith, uncovered-all lv N f z), z)
-
   in-un : (f : ℕ) → In f N → count f lv ≡ 0 → In f un
   in-un f h z = omega (arith, uncovered-all lv N f z)
 
@@ -141,7 +120,7 @@ module _ (n : ℕ) (K : ℕ → List ℕ) (N : List ℕ) (P Q : List ℕ) (k : �
     where
       by : (f : ℕ) × List·Memᴰ f un × (1 ≤ count j (K f)) → 1 ≤ count j akF + count j akB
       by (f, m, q) =
-          let u = un-in f (mem-in m) in
+          let u = uncovered-in lv N f (mem-in m) in
           omega (arith, F .rest f (u .0) (omega (arith, lv-count f, u .1)) j q, B .rest f (u .0) (omega (arith, lv-count f, u .1)) j q, at-F j, at-B j, hit-other j k ne, order j, order-all j (registered f (u .0) j q))
 
       go : (x : ℕ) → count j (joined (λ c. (at fw c) .kept) (alive-messages (length P) fw)) ≡ x → (y : ℕ) → count j (joined (λ c. (at bw c) .kept) (alive-messages (length Q) bw)) ≡ y → 1 ≤ count j akF + count j akB
@@ -151,28 +130,21 @@ module _ (n : ℕ) (K : ℕ → List ℕ) (N : List ℕ) (P Q : List ℕ) (k : �
 
   -- the keys cleared last are those still active on a side
   last-is : (j : ℕ) → j ≢ k → count j last ≡ count j akF + count j akB
-  unfolding keysLast
   last-is j ne = go (sure (mem j ks)) (sure (mem j akF)) (sure (mem j akB))
     where
-      ne-test : T (not (eqb j k))
-      ne-test = not-T (eqb j k) (λ t. ne (eqb→eq j k t))
-
-      yes-last : In j ks → j < n → count j last ≡ 1
-      yes-last h l = rising-yes n (λ i. mem i ks && not (eqb i k)) j l (and-i (mem j ks) (not (eqb j k)) (lt→ltb 0 (count j ks) h) ne-test)
-
       lt-n : 1 ≤ count j akF + count j akB → j < n
       lt-n h = from-lt j n (omega (arith, at-F j, at-B j, hit-other j k ne, order j))
 
       go : T (mem j ks) ⊎ T (not (mem j ks)) → T (mem j akF) ⊎ T (not (mem j akF)) → T (mem j akB) ⊎ T (not (mem j akB)) → count j last ≡ count j akF + count j akB
       go d (inl a) b =
           let h : In j akF = ltb→lt 0 (count j akF) a in
-          omega (arith, yes-last (from-F j h ne) (lt-n (omega arith)), at-F j, at-B j, hit-other j k ne, order j, order-once j)
+          omega (arith, last-once n k ks j (lt-n (omega arith)) (from-F j h ne) ne, at-F j, at-B j, hit-other j k ne, order j, order-once j)
       go d (inr a) (inl b) =
           let h : In j akB = ltb→lt 0 (count j akB) b in
-          omega (arith, yes-last (from-B j h ne) (lt-n (omega arith)), nltb→le 0 (count j akF) a, at-B j, hit-other j k ne, order j, order-once j)
+          omega (arith, last-once n k ks j (lt-n (omega arith)) (from-B j h ne) ne, nltb→le 0 (count j akF) a, at-B j, hit-other j k ne, order j, order-once j)
       go (inl t) (inr a) (inr b) = absurd (omega (arith, to-active j (ltb→lt 0 (count j ks) t) ne, nltb→le 0 (count j akF) a, nltb→le 0 (count j akB) b))
       go (inr t) (inr a) (inr b) =
-          omega (arith, rising-no n (λ i. mem i ks && not (eqb i k)) j (and-no-l (mem j ks) (not (eqb j k)) t), nltb→le 0 (count j akF) a, nltb→le 0 (count j akB) b)
+          omega (arith, last-none n k ks j t, nltb→le 0 (count j akF) a, nltb→le 0 (count j akB) b)
 
   -- the keys that the messages behind k clear, in either pass
   cF : List ℕ
@@ -183,7 +155,7 @@ module _ (n : ℕ) (K : ℕ → List ℕ) (N : List ℕ) (P Q : List ℕ) (k : �
 
   -- k and all keys cleared behind it are each registered key, once
   cleared : (j : ℕ) → count j (k ∷ cF ++ cB ++ last) ≡ count j (from 0 n)
-  unfolding cF cB keysLast
+  unfolding cF cB
   cleared j = go (hit-cases j k)
     where
       split : count j (k ∷ cF ++ cB ++ last) ≡ hit j k + (count j goneF + count j goneB + count j last)

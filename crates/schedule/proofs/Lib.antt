@@ -2,6 +2,7 @@
 pub mod Counts
 pub mod Sums
 pub mod Walks
+pub mod Meanings
 pub mod Steps
 pub mod Trees
 pub mod Runs

@@ -6,13 +6,14 @@ use mathlib.Core.List.{List, [], _∷_, _++_, reverse, List·Memᴰ}
 use Prim.Native.Nat.{ℕ, _+_, _≤_, _<_}
 use native.Mathlib.Omega.{arith}
 use native.Mathlib.Decide.{decLt}
-use lib.Dec.{T, eqb, ltb→lt, lt→ltb, eqb→eq, eqb-refl, T-not}
+use lib.Dec.{ltb→lt, lt→ltb}
 use lib.ListN.{length, length-append, length-reverse, List·getD-append}
 use lib.Seq.{getD-append-seam}
 use Rattle.schedule.specs.Count.{hit, count, In, mem, keep, joined, from, rising}
 use Rattle.schedule.specs.Pass.{Slot, original, closed, ClosedFactor, State, noMessage, at, keysOf, Walked, walk, touches, coupled, stays, append, sending, closing, step, after, full-pass}
-use Rattle.schedule.specs.Gather.{leaves, alive-messages, alive-among, keysLast, gathering, gatherAt, Gathered}
-use Rattle.schedule.proofs.Counts.{sure, and-l, and-r, and-i, count-cons, count-nil, count-append, count-reverse, count-joined, hit-same, hit-cases, sum-member, keep-yes, keep-no, rising-yes, rising-in, in-mem}
+use Rattle.schedule.specs.Gather.{leaves, alive-messages, alive-among, keysLast, uncovered, gathering, gatherAt, Gathered}
+use Rattle.schedule.proofs.Counts.{and-l, and-i, count-cons, count-nil, count-append, count-reverse, count-joined, hit-same, hit-cases, sum-member, rising-yes, rising-in, in-mem}
+use Rattle.schedule.proofs.Meanings.{uncovered-in, own-never, last-once, last-in}
 use Rattle.schedule.proofs.Walks.{walk-taken}
 use Rattle.schedule.proofs.Trees.{Older}
 use Rattle.schedule.proofs.Steps.{coupledBy}
@@ -207,30 +208,26 @@ module _ (n : ℕ) (K : ℕ → List ℕ) (N : List ℕ) (fw bw : List ClosedFac
     (lowF : (j : ℕ) → j < length fw → (x : ℕ) → In x (at fw j .kept) → x < n) (lowB : (j : ℕ) → j < length bw → (x : ℕ) → In x (at bw j .kept) → x < n)
     (lowK : (i : ℕ) → In i N → (x : ℕ) → In x (K i) → x < n) where
   last-has : (keys : List ℕ) (x : ℕ) → x < n → In x keys → 1 ≤ count x (keysLast n k keys) + count x (k ∷ [])
-  unfolding keysLast
-  last-has keys x l h = go (sure (eqb x k))
+  last-has keys x l h = go (hit-cases x k)
     where
-      go : T (eqb x k) ⊎ T (not (eqb x k)) → 1 ≤ count x (rising n (λ j. mem j keys && not (eqb j k))) + count x (k ∷ [])
-      go (inl e) = let q : x ≡ k = eqb→eq x k e in omega (arith, count-cons x k [], ap (λ (y : ℕ). count y (k ∷ [])) q, count-cons k k [], hit-same k)
-      go (inr e) = omega (arith, rising-yes n (λ j. mem j keys && not (eqb j k)) x l (and-i (mem x keys) (not (eqb x k)) (lt→ltb 0 (count x keys) h) e))
+      go : ((x ≡ k) × (hit x k ≡ 1)) ⊎ ((x ≢ k) × (hit x k ≡ 0)) → 1 ≤ count x (keysLast n k keys) + count x (k ∷ [])
+      go (inl e) = omega (arith, count-cons x k [], e .1)
+      go (inr e) = omega (arith, last-once n k keys x l h (e .0))
 
   last-apart : (keys : List ℕ) (x : ℕ) → count x (keysLast n k keys) + count x (k ∷ []) ≤ 1
-  unfolding keysLast
-  last-apart keys x = go (decLt 0 (count x (rising n (λ j. mem j keys && not (eqb j k))))) (hit-cases x k)
+  last-apart keys x = go (decLt 0 (count x (keysLast n k keys))) (hit-cases x k)
     where
-      go : Dec (0 < count x (rising n (λ j. mem j keys && not (eqb j k)))) → ((x ≡ k) × (hit x k ≡ 1)) ⊎ ((x ≢ k) × (hit x k ≡ 0))
-          → count x (rising n (λ j. mem j keys && not (eqb j k))) + count x (k ∷ []) ≤ 1
+      go : Dec (0 < count x (keysLast n k keys)) → ((x ≡ k) × (hit x k ≡ 1)) ⊎ ((x ≢ k) × (hit x k ≡ 0)) → count x (keysLast n k keys) + count x (k ∷ []) ≤ 1
       go (no z) h = omega (arith, count-cons x k [], count-nil x, hit-most x k)
-      go (yes z) (inr (o, e)) = omega (arith, count-cons x k [], count-nil x, rising-in n (λ j. mem j keys && not (eqb j k)) x z .2)
-      go (yes z) (inl (e, h)) =
-          absurd (T-not (eqb x k) (and-r (mem x keys) (not (eqb x k)) (rising-in n (λ j. mem j keys && not (eqb j k)) x z .0)) (subst (λ (y : ℕ). T (eqb x y)) e (eqb-refl x)))
+      go (yes z) (inr (o, e)) = omega (arith, count-cons x k [], count-nil x, last-in n k keys x z .1)
+      go (yes z) (inl (e, h)) = absurd (omega (arith, own-never n k keys, ap (λ (y : ℕ). count y (keysLast n k keys)) e))
 
   -- each key of some member of a list of keyed things
   of-joined : (f : ℕ → List ℕ) (l keys : List ℕ) (j x : ℕ) → In j l → In x (f j) → ((y : ℕ) → count y (joined f l) ≤ count y keys) → In x keys
   of-joined f l keys j x a b within = omega (arith, within x, count-joined x f l, sum-member (λ e. count x (f e)) (in-mem l a))
 
   pub settled : Settled n K N fw bw k (gatherAt n K N fw bw r s k)
-  unfolding gatherAt gathering keysLast
+  unfolding gatherAt gathering
   settled =
       record {
         apart = last-apart all;
@@ -239,7 +236,7 @@ module _ (n : ℕ) (K : ℕ → List ℕ) (N : List ℕ) (fw bw : List ClosedFac
             (l, λ x i. last-has all x (lowF j l x i) (of-joined (λ j. at fw j .kept) fa all j x h i (λ y. omega (arith, parts y))));
         backward = λ j h. let l = alive-low s bw j h in
             (l, λ x i. last-has all x (lowB j l x i) (of-joined (λ j. at bw j .kept) ba all j x h i (λ y. omega (arith, parts y))));
-        originals = λ i h. let l = keep-in i h in
+        originals = λ i h. let l = uncovered-in (joined (leaves fw) fa ++ joined (leaves bw) ba) N i h .0 in
             (l, λ x u. last-has all x (lowK i l x u) (of-joined K un all i x h u (λ y. omega (arith, parts y))));
       }
     where
@@ -250,7 +247,7 @@ module _ (n : ℕ) (K : ℕ → List ℕ) (N : List ℕ) (fw bw : List ClosedFac
       ba = alive-messages s bw
 
       un : List ℕ
-      un = keep (λ i. not (mem i (joined (leaves fw) fa ++ joined (leaves bw) ba))) N
+      un = uncovered (joined (leaves fw) fa ++ joined (leaves bw) ba) N
 
       all : List ℕ
       all = joined (λ j. at fw j .kept) fa ++ joined (λ j. at bw j .kept) ba ++ joined K un
@@ -259,11 +256,4 @@ module _ (n : ℕ) (K : ℕ → List ℕ) (N : List ℕ) (fw bw : List ClosedFac
       parts y = omega (arith, count-append y (joined (λ j. at fw j .kept) fa ++ joined (λ j. at bw j .kept) ba) (joined K un), count-append y (joined (λ j. at fw j .kept) fa) (joined (λ j. at bw j .kept) ba))
 
       last-low : (x : ℕ) → In x (keysLast n k all) → x < n
-      last-low x h = rising-in n (λ j. mem j all && not (eqb j k)) x h .1
-
-      keep-in : (i : ℕ) → In i un → In i N
-      keep-in i h = go (sure (not (mem i (joined (leaves fw) fa ++ joined (leaves bw) ba))))
-        where
-          go : T (not (mem i (joined (leaves fw) fa ++ joined (leaves bw) ba))) ⊎ T (not (not (mem i (joined (leaves fw) fa ++ joined (leaves bw) ba)))) → In i N
-          go (inl t) = omega (arith, keep-yes (λ i. not (mem i (joined (leaves fw) fa ++ joined (leaves bw) ba))) i N t)
-          go (inr t) = absurd (omega (arith, keep-no (λ i. not (mem i (joined (leaves fw) fa ++ joined (leaves bw) ba))) i N t))
+      last-low x h = last-in n k all x h .0

@@ -15,6 +15,7 @@ use Rattle.schedule.specs.Gather.{originalsIn, messagesIn, upTo, within,
 use Rattle.schedule.specs.Once.{behind, AllUnder, clearedBy, Covers}
 use Rattle.schedule.proofs.Counts.{sure, and-l, and-i, and-no-r, or-l, not-not, hit-same, count-cons, count-nil, count-append, count-joined, mem-in, in-mem, sum-some, sum-same, from-in, from-above, keep-yes, rising-yes, rising-no, rising-in}
 use Rattle.schedule.proofs.Sums.{sum-le, sum-perm, sum-table, joined-append, length-sum, length-from}
+use Rattle.schedule.proofs.Meanings.{under-popped}
 use Rattle.schedule.proofs.Trees.{Older, all, all-old, heavy, heavy-one, turns-suffice, stack-all}
 use Rattle.schedule.proofs.Runs.{leafH, oneH, clearH, gone, Run, parts, singles, from-lt, running, stays-why, Later, later}
 
@@ -24,12 +25,11 @@ module _ (full : List ClosedFactor) (older : Older full) (small : (j : ℕ) → 
   light j l = omega (arith, heavy-one full j, length-sum (all oneH full j), sum-le (λ x. 1) (all oneH full j) (from 0 (length full)) (small j l), length-sum (from 0 (length full)), length-from 0 (length full))
 
   all-opened : (j more : ℕ) → j < length full → popped full (length full + more) (j ∷ []) ≡ under full j
-  unfolding under
-  all-opened j more l = turns-suffice full older (length full) (length full + more) (j ∷ []) (light j l) (omega arith)
+  all-opened j more l = turns-suffice full older (length full) (length full + more) (j ∷ []) (light j l) (omega arith) ∙ sym (under-popped full j)
 
   by-stack : (h : ℕ → ClosedFactor → List ℕ) (j : ℕ) → j < length full → joined (λ i. h i (at full i)) (under full j) ≡ all h full j
-  unfolding under joined
-  by-stack h j l = stack-all h full older (length full) (j ∷ []) (light j l) ∙ append-nil (all h full j)
+  unfolding joined
+  by-stack h j l = ap (joined (λ i. h i (at full i))) (under-popped full j) ∙ stack-all h full older (length full) (j ∷ []) (light j l) ∙ append-nil (all h full j)
 
   pub leaves-is : (j : ℕ) → j < length full → leaves full j ≡ all leafH full j
   unfolding leaves

@@ -10,7 +10,8 @@ use lib.Dec.{T, eqb, ltb→lt, lt→ltb, nltb→le, eqb→eq, T-not}
 use lib.ListN.{length}
 use Rattle.schedule.specs.Count.{count, In, mem, keep, sum, joined, rising}
 use Rattle.schedule.specs.Pass.{Slot, original, closed, Walked, walk, outside, touches, keysIf, stays}
-use Rattle.schedule.proofs.Counts.{sure, and-l, and-r, and-i, and-no-l, and-no-r, or-r, or-e, not-not, un-not, hit-same, hit-eq, count-cons, count-nil, count-append, count-joined, in-mem, mem-in, sum-append, sum-some, sum-member, sum-same, any-some, any-of, any-none, keep-yes, keep-no, rising-yes, rising-no, rising-in}
+use Rattle.schedule.proofs.Counts.{sure, and-l, and-r, and-i, and-no-l, and-no-r, or-r, or-e, not-not, un-not, hit-same, hit-eq, count-cons, count-nil, count-append, count-joined, in-mem, mem-in, sum-append, sum-some, sum-member, sum-same, any-some, any-none, keep-yes, keep-no, rising-yes, rising-no, rising-in}
+use Rattle.schedule.proofs.Meanings.{touches-some, touches-of, touches-none}
 use Rattle.schedule.proofs.Walks.{walk-sum, walk-taken, walk-left}
 
 abbrev pub isClosed : Slot → Bool
@@ -93,18 +94,17 @@ module _ (n : ℕ) (K : ℕ → List ℕ) (N : List ℕ) (κ lv : Slot → List 
       go false u = absurd u
 
   pub inside : (s : Slot) → List·Memᴰ s slots → T (touches cl (κ s)) → (j : ℕ) → In j (κ s) → In j (k ∷ ak)
-  unfolding touches outside
-  inside s m t j h = go (sure (outside (k ∷ ak) (κ s))) (any-some (λ i. mem i cl) (κ s) t)
+  unfolding outside
+  inside s m t j h = go (sure (outside (k ∷ ak) (κ s))) (touches-some cl (κ s) t)
     where
-      go : T (outside (k ∷ ak) (κ s)) ⊎ T (not (outside (k ∷ ak) (κ s))) → (c : ℕ) × List·Memᴰ c (κ s) × T (mem c cl) → In j (k ∷ ak)
+      go : T (outside (k ∷ ak) (κ s)) ⊎ T (not (outside (k ∷ ak) (κ s))) → (c : ℕ) × List·Memᴰ c (κ s) × In c cl → In j (k ∷ ak)
       go (inl o) (c, i, u) =
-          let r = rising-in n (λ i. mem i (k ∷ ak) && not (stays k cp i)) c (ltb→lt 0 (count c cl) u) in
+          let r = rising-in n (λ i. mem i (k ∷ ak) && not (stays k cp i)) c u in
           absurd (T-not (stays k cp c) (and-r (mem c (k ∷ ak)) (not (stays k cp c)) (r .0)) (or-r (eqb c k) (mem c cp) (lt→ltb 0 (count c cp) (couples s m o c (mem-in i)))))
       go (inr o) u = ltb→lt 0 (count j (k ∷ ak)) (un-not (mem j (k ∷ ak)) (any-none (λ i. not (mem i (k ∷ ak))) (κ s) (in-mem (κ s) h) o))
 
   -- a slot that is left
   left-good : (s : Slot) → List·Memᴰ s slots → T (not (touches cl (κ s))) → Good K (isClosed s) (κ s) (lv s) (k ∷ P) ak2 (gone ++ cl)
-  unfolding touches
   left-good s m t = record {
     free = λ j h. omega (arith, count-append j gone cl, g .free j h, off j h);
     hold = λ f i j q z. g .hold f i j q (omega (arith, count-append j gone cl));
@@ -116,8 +116,8 @@ module _ (n : ℕ) (K : ℕ → List ℕ) (N : List ℕ) (κ lv : Slot → List 
       g : Good K (isClosed s) (κ s) (lv s) P ak gone
       g = inv .node s m
 
-      off : (j : ℕ) → In j (κ s) → count j cl ≤ 0
-      off j h = nltb→le 0 (count j cl) (any-none (λ i. mem i cl) (κ s) (in-mem (κ s) h) t)
+      off : (j : ℕ) → In j (κ s) → count j cl ≡ 0
+      off = touches-none cl (κ s) t
 
       up : (f : ℕ) → (j : ℕ) × In j (K f) × In j gone → (j : ℕ) × In j (K f) × In j (gone ++ cl)
       up f (j, q, r) = (j, q, omega (arith, count-append j gone cl))
@@ -131,11 +131,10 @@ module _ (n : ℕ) (K : ℕ → List ℕ) (N : List ℕ) (κ lv : Slot → List 
   taken-full (closed i) m t f h j q = omega (arith, (inv .node (closed i) m) .full tt f h j q, count-cons j k P)
 
   taken-low : (s : Slot) → List·Memᴰ s slots → T (touches cl (κ s)) → (f : ℕ) → In f (lv s) → (j : ℕ) × In j (K f) × In j (gone ++ cl)
-  unfolding touches
-  taken-low (original i) m t f h = go (any-some (λ i. mem i cl) (κ (original i)) t)
+  taken-low (original i) m t f h = go (touches-some cl (κ (original i)) t)
     where
-      go : (c : ℕ) × List·Memᴰ c (κ (original i)) × T (mem c cl) → (j : ℕ) × In j (K f) × In j (gone ++ cl)
-      go (c, u, v) = (c, rw (of-orig h, ← κo i) (mem-in u), omega (arith, count-append c gone cl, ltb→lt 0 (count c cl) v))
+      go : (c : ℕ) × List·Memᴰ c (κ (original i)) × In c cl → (j : ℕ) × In j (K f) × In j (gone ++ cl)
+      go (c, u, v) = (c, rw (of-orig h, ← κo i) (mem-in u), omega (arith, count-append c gone cl))
   taken-low (closed i) m t f h = go ((inv .node (closed i) m) .low tt f h)
     where
       go : (j : ℕ) × In j (K f) × In j gone → (j : ℕ) × In j (K f) × In j (gone ++ cl)
@@ -194,14 +193,13 @@ module _ (n : ℕ) (K : ℕ → List ℕ) (N : List ℕ) (κ lv : Slot → List 
 
       -- every original that touches a cleared key is a leaf of the message that clears it
       pub covers : (f : ℕ) → In f N → (j : ℕ) → In j (K f) → In j cl → In f ls
-      unfolding touches
       covers f h j q c = go (sum (λ s. count f (lv s)) (w .left)) refl
         where
           no-left : (s : Slot) × List·Memᴰ s (w .left) × In f (lv s) → ⊥
           no-left (s, m, i) =
               let r = walk-left (λ s. touches cl (κ s)) d slots fuel m in
               let t : In j (κ s) = (inv .node s (r .0)) .hold f i j q (omega (arith, split j, act j, once j)) in
-              T-not (touches cl (κ s)) (r .1) (any-of (λ i. mem i cl) (in-mem (κ s) t) (lt→ltb 0 (count j cl) c))
+              T-not (touches cl (κ s)) (r .1) (touches-of cl (κ s) j t c)
 
           go : (x : ℕ) → sum (λ s. count f (lv s)) (w .left) ≡ x → In f ls
           go zero e = omega (arith, ls-is f, walk-sum (λ s. count f (lv s)) (λ s. touches cl (κ s)) d slots, inv .leaf f)
