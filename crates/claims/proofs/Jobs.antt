@@ -7,7 +7,8 @@ use lib.Ieee.{toBits}
 use Rattle.factor.specs.Limits.{max-size}
 use Rattle.records.specs.Bytes.{wordAt, numberAt, listed}
 use Rattle.records.specs.Records.{variableAt, priorNumbers, priorAt, meaning, observedNumbers, observed, observationAt, markOf, recordAt, readFrom, readAll}
-use Rattle.lines.specs.Lines.{decimalBy, decimal, hexBy, numberText, numbersText, startOf, lineText, linesText, refusedWord, fieldText, refusalText}
+use Rattle.text.specs.Decimals.{decimalBy, decimal, fieldText}
+use Rattle.lines.specs.Lines.{hexBy, numberText, numbersText, startOf, lineText, linesText, refusedWord, refusalText}
 use Rattle.job.specs.Job.{runText, jobText}
 use Rattle.claims.specs.Pairs.{sized-bytes, variable-bytes, prior-bytes, equal-bytes}
 use Rattle.claims.proofs.Computing.{computedRun}

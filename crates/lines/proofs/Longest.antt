@@ -12,8 +12,10 @@ use Rattle.factor.proofs.Counting.{sum-most}
 use Rattle.graph.specs.Record.{sizeAt, valid}
 use Rattle.graph.specs.declared.Graph.{Graph}
 use Rattle.graph.proofs.Validity.{valid-variables, valid-size, size-most}
-use Rattle.lines.specs.Lines.{decimal, numbersOf, linesText, linesLength, refusalText}
-use Rattle.lines.proofs.Texts.{few-digits, lines-long, refusal-length}
+use Rattle.text.specs.Decimals.{decimal}
+use Rattle.lines.specs.Lines.{numbersOf, linesText, linesLength, refusalText}
+use Rattle.text.proofs.Decimals.{few-digits}
+use Rattle.lines.proofs.Texts.{lines-long, refusal-length}
 
 -- a line has a key of two digits, at most 42 numbers, and its end
 line-most : (g : Graph) (k : ℕ) → valid g ≡ true → k < g .variables → length (decimal k) + 17 * numbersOf g k + 1 ≤ 717

@@ -1,55 +1,17 @@
 -- The texts: how long they are, and how each grows by a piece. Assumes nothing.
-use Prim.Native.Nat.{ℕ, zero, suc, _+_, _-_, _*_, _/_, _%_, _^_, _≤_, _<_}
+use Prim.Native.Nat.{ℕ, zero, suc, _+_, _-_, _*_, _/_, _%_, _^_}
 use mathlib.Core.Path.{_≡_, refl, ap, _∙_}
-use mathlib.Core.Bool.{Bool, true, false}
 use mathlib.Core.List.{List, [], _∷_, _++_}
 use native.Mathlib.Omega.{arith}
 use native.Mathlib.Numerals.{add-one}
-use borrow.Author.Tests.{lt-ltb, le-ltb, ltb-true, ltb-false}
-use lib.Dec.{ltb}
 use lib.Ieee.{Float, nan, binary64, toBits}
 use lib.ListN.{length, getD, length-append}
 use Rattle.factor.specs.Counting.{sum}
 use Rattle.factor.proofs.Counting.{sum-more}
 use Rattle.graph.specs.declared.Graph.{Graph}
-use Rattle.lines.specs.Lines.{decimalBy, decimal, feed, hexDigit, hexBy, numberText, number-bytes, numbersText, numbersOf, startOf, lineText, linesText, linesLength, fieldText, refusalText, frame-bytes}
-
--- ---- decimals
-
-by-ten : (P : Type 0) (x : ℕ) → (x < 10 → P) → (10 ≤ x → P) → P
-by-ten P x f g = go (ltb x 10) refl
-  where
-    go : (b : Bool) → ltb x 10 ≡ b → P
-    go true e = f (ltb-true _ _ e)
-    go false e = g (ltb-false _ _ e)
-
--- more turns than needed change nothing
-turns-suffice : (m n x : ℕ) → x < m → x < n → decimalBy m x ≡ decimalBy n x
-unfolding decimalBy
-turns-suffice zero n x l k = let z : _≡_ {A = ℕ} 0 1 = omega arith in cc
-turns-suffice (suc m) zero x l k = let z : _≡_ {A = ℕ} 0 1 = omega arith in cc
-turns-suffice (suc m) (suc n) x l k =
-    by-ten (decimalBy (suc m) x ≡ decimalBy (suc n) x) x (λ t. rw (lt-ltb x 10 t))
-    (λ t. rw (le-ltb x 10 t) (ap (λ (s : List ℕ). s ++ ((48 + x % 10) ∷ [])) (turns-suffice m n (x / 10) (omega arith) (omega arith))))
-
-pub one-digit : (x : ℕ) → x < 10 → decimal x ≡ (48 + x) ∷ []
-unfolding decimal decimalBy
-one-digit x l = rw (lt-ltb x 10 l)
-
-pub more-digits : (x : ℕ) → 10 ≤ x → decimal x ≡ decimal (x / 10) ++ ((48 + x % 10) ∷ [])
-unfolding decimal decimalBy
-more-digits x l = rw (le-ltb x 10 l) (ap (λ (s : List ℕ). s ++ ((48 + x % 10) ∷ [])) (turns-suffice x (suc (x / 10)) (x / 10) (omega arith) (omega arith)))
-
-pub one-length : (x : ℕ) → x < 10 → length (decimal x) ≡ 1
-one-length x l = rw (one-digit x l)
-
-pub more-length : (x : ℕ) → 10 ≤ x → length (decimal x) ≡ length (decimal (x / 10)) + 1
-more-length x l = ap length (more-digits x l) ∙ length-append (decimal (x / 10)) ((48 + x % 10) ∷ [])
-
--- a number below a power of ten has no more digits than its exponent
-pub few-digits : (k x : ℕ) → x < 10 ^ suc k → length (decimal x) ≤ suc k
-few-digits zero x l = by-ten (length (decimal x) ≤ 1) x (λ t. omega (arith, one-length x t)) (λ t. omega arith)
-few-digits (suc k) x l = by-ten (length (decimal x) ≤ suc (suc k)) x (λ t. omega (arith, one-length x t)) (λ t. omega (arith, more-length x t, few-digits k (x / 10) (omega arith)))
+use Rattle.text.specs.Decimals.{decimal, feed}
+use Rattle.text.proofs.Decimals.{field-length}
+use Rattle.lines.specs.Lines.{hexDigit, hexBy, numberText, number-bytes, numbersText, numbersOf, startOf, lineText, linesText, linesLength, refusalText}
 
 -- ---- hexadecimals and floats
 
@@ -104,10 +66,7 @@ lines-long g values (suc k) =
 
 -- ---- a refusal
 
-pub field-length : (n : ℕ) → length (fieldText n) ≡ length (decimal n) + 1
-unfolding fieldText
-field-length n = omega arith
-
-pub refusal-length : (number stage place : ℕ) → length (refusalText number stage place) ≡ frame-bytes + length (decimal number) + length (decimal stage) + length (decimal place)
+-- a word of 7 bytes, a space before each number, and the line feed
+pub refusal-length : (number stage place : ℕ) → length (refusalText number stage place) ≡ 11 + length (decimal number) + length (decimal stage) + length (decimal place)
 unfolding refusalText
 refusal-length number stage place = simp length-append (omega (arith, field-length number, field-length stage, field-length place))

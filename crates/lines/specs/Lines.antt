@@ -8,27 +8,13 @@ use lib.Ieee.{Float, nan, binary64, toBits}
 use lib.ListN.{length, getD}
 use Rattle.factor.specs.Counting.{sum}
 use Rattle.factor.specs.Factor.{lay}
+use Rattle.text.specs.Decimals.{space, feed, decimal, fieldText}
 use Rattle.graph.specs.Record.{sizeAt}
 use Rattle.graph.specs.declared.Graph.{Graph}
 use Rattle.lines.specs.declared.Written.{Written}
 use Rattle.lines.specs.declared.Written.the-variants.{Length, Short}
 
 -- ---- numbers
-
-abbrev pub space : ℕ
-space = 32
-
-abbrev pub feed : ℕ
-feed = 10
-
--- in decimal, without leading zeros; each turn writes a digit
-unfoldable pub decimalBy : ℕ → ℕ → List ℕ
-decimalBy zero n = []
-decimalBy (suc turns) n = cond (ltb n 10) ((48 + n) ∷ []) (decimalBy turns (n / 10) ++ ((48 + n % 10) ∷ []))
-
--- a number above 0 has no more digits than its value
-unfoldable pub decimal : ℕ → List ℕ
-decimal n = decimalBy (suc n) n
 
 -- a hexadecimal digit in upper case
 abbrev pub hexDigit : ℕ → ℕ
@@ -79,17 +65,9 @@ linesLength g n = sum (λ k. length (decimal k) + number-bytes * numbersOf g k +
 abbrev pub refusedWord : List ℕ
 refusedWord = 114 ∷ 101 ∷ 102 ∷ 117 ∷ 115 ∷ 101 ∷ 100 ∷ []
 
--- a space and a number in decimal
-unfoldable pub fieldText : ℕ → List ℕ
-fieldText n = space ∷ decimal n
-
 -- number, stage and place
 unfoldable pub refusalText : ℕ → ℕ → ℕ → List ℕ
 refusalText number stage place = refusedWord ++ fieldText number ++ fieldText stage ++ fieldText place ++ (feed ∷ [])
-
--- the bytes of it that are no digits
-abbrev pub frame-bytes : ℕ
-frame-bytes = 11
 
 -- ---- text in a lent buffer
 

@@ -1,6 +1,11 @@
 // What a job prints, in a lent buffer: a line for each key, or a line for a refusal.
 use graph::Graph;
 use graph::refusal::Refusal;
+use text::decimal_length;
+use text::put;
+use text::put_decimal;
+use text::put_field;
+use text::put_word;
 ghost use mathlib.Core.Path.{_≡_};
 ghost use mathlib.Core.Bool.{true};
 ghost use mathlib.Core.List.{[], _∷_};
@@ -10,58 +15,17 @@ ghost use lib.ListN.{length};
 ghost use Rattle.factor.specs.Factor.{lay};
 ghost use Rattle.graph.specs.Record.{valid};
 ghost use Rattle.graph.specs.Refusals.{numberOf};
+ghost use Rattle.text.specs.Decimals.{decimal};
+ghost use Rattle.text.specs.Putting as text;
 ghost use Rattle.lines.specs.Lines as spec;
 
-// The bytes of a space and a float, and those of a refusal's line that are no digits.
+// The bytes of a space and a float.
 const NUMBER_BYTES: usize = 17;
-
-const FRAME_BYTES: usize = 11;
 
 // How the laying ended: the length of the text, or that the buffer is too short for it.
 pub enum Written {
     Length(usize),
     Short,
-}
-
-// One byte. Every function that puts text answers the place after it.
-fn put(out: &mut [u8], at: usize, byte: u8) -> usize
-    requires { ⌜ at < length (now out) ⌝ }
-    ensures { λ r. ⌜ spec.Puts (now (out .entry)) (now (out .exit)) at r (byte ∷ []) ⌝ }
-{
-    out[at] = byte;
-    at + 1
-}
-
-fn put_word(out: &mut [u8], at: usize, word: &[u8]) -> usize
-    requires { ⌜ at + length (now word) ≤ length (now out) ⌝ }
-    ensures { λ r. ⌜ spec.Puts (now (out .entry)) (now (out .exit)) at r (now (word .entry)) ⌝ }
-{
-    for i in 0..word.len() {
-        out[at + i] = word[i];
-    }
-    at + word.len()
-}
-
-// How many digits a number has in decimal.
-fn decimal_length(x: usize) -> usize
-    ensures { λ r. ⌜ (r ≡ length (spec.decimal x)) × (r ≤ 20) ⌝ }
-{
-    if x < 10 {
-        return 1;
-    }
-    decimal_length(x / 10) + 1
-}
-
-// A number in decimal: the last digit follows those before it.
-fn put_decimal(out: &mut [u8], at: usize, x: usize) -> usize
-    requires { ⌜ at + length (spec.decimal x) ≤ length (now out) ⌝ }
-    ensures { λ r. ⌜ spec.Puts (now (out .entry)) (now (out .exit)) at r (spec.decimal x) ⌝ }
-{
-    if x < 10 {
-        return put(out, at, 48 + x as u8);
-    }
-    let last = put_decimal(out, at, x / 10);
-    put(out, last, 48 + (x % 10) as u8)
 }
 
 // A hexadecimal digit in upper case.
@@ -117,7 +81,7 @@ fn put_numbers(out: &mut [u8], at: usize, values: &[f64], from: usize, n: usize)
 
 // The line of a key, from where its numbers begin in the values on.
 fn put_line(out: &mut [u8], at: usize, key: usize, values: &[f64], from: usize, n: usize) -> usize
-    requires { ⌜ (at + length (spec.decimal key) + spec.number-bytes * n + 1 ≤ length (now out)) × (from + n ≤ length (now values)) ⌝ }
+    requires { ⌜ (at + length (decimal key) + spec.number-bytes * n + 1 ≤ length (now out)) × (from + n ≤ length (now values)) ⌝ }
     ensures { λ r. ⌜ spec.Puts (now (out .entry)) (now (out .exit)) at r (spec.lineText key (now (values .entry)) from n) ⌝ }
 {
     let second = put_decimal(out, at, key);
@@ -174,18 +138,8 @@ pub fn lay_lines(g: Graph, marginals: &[f64], out: &mut [u8]) -> Written
     Written::Length(n)
 }
 
-// A space and a number in decimal.
-fn put_field(out: &mut [u8], at: usize, x: usize) -> usize
-    requires { ⌜ at + length (spec.fieldText x) ≤ length (now out) ⌝ }
-    ensures { λ r. ⌜ spec.Puts (now (out .entry)) (now (out .exit)) at r (spec.fieldText x) ⌝ }
-{
-    let next = put(out, at, b' ');
-    put_decimal(out, next, x)
-}
-
 fn put_refusal(out: &mut [u8], number: usize, stage: usize, place: usize) -> usize
-    requires { ⌜ length (spec.refusalText number stage place) ≤ length (now out) ⌝ }
-    ensures { λ r. ⌜ spec.Puts (now (out .entry)) (now (out .exit)) 0 r (spec.refusalText number stage place) ⌝ }
+    ensures { λ r. ⌜ text.Puts (now (out .entry)) (now (out .exit)) 0 r (spec.refusalText number stage place) ⌝ }
 {
     let first = put_word(out, 0, b"refused");
     let second = put_field(out, first, number);
@@ -194,13 +148,14 @@ fn put_refusal(out: &mut [u8], number: usize, stage: usize, place: usize) -> usi
     put(out, last, b'\n')
 }
 
-// The line of a refusal. A short buffer is left as it was.
+// The line of a refusal. A short buffer is left as it was. The first run is into one byte that nobody reads: it finds the length.
 pub fn lay_refusal(why: Refusal, stage: usize, place: usize, out: &mut [u8]) -> Written
     ensures { λ r. ⌜ r ≡ spec.written (now (out .entry)) (spec.refusalText (numberOf why) stage place) ⌝ }
     ensures { λ _. ⌜ now (out .exit) ≡ spec.laidIn (now (out .entry)) (spec.refusalText (numberOf why) stage place) ⌝ }
 {
     let number = graph::refusal::code(why);
-    let n = FRAME_BYTES + decimal_length(number) + decimal_length(stage) + decimal_length(place);
+    let mut nowhere = [0u8; 1];
+    let n = put_refusal(&mut nowhere, number, stage, place);
     if out.len() < n {
         return Written::Short;
     }

@@ -6,7 +6,7 @@ use Rattle.schedule.specs.Count.{joined, from}
 use Rattle.schedule.specs.Pass.{original, closed}
 use Rattle.schedule.specs.Plan.{Plan, plan}
 use Rattle.schedule.specs.Examples.{p4-keys}
-use Rattle.lines.specs.Lines.{decimalBy, decimal, fieldText}
+use Rattle.text.specs.Decimals.{decimalBy, decimal, fieldText}
 use Rattle.solver.specs.Plan.{noPlan}
 use Rattle.plan_text.specs.Text.{slotText, namedText, listText, contentText, messageText, keyText, numbered, planText}
 

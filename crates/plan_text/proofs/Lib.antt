@@ -1,5 +1,4 @@
 -- Laws of the text of a plan.
-pub mod Putting
 pub mod Growing
 pub mod Answers
 pub mod Longest

@@ -34,10 +34,11 @@ use Rattle.messages.specs.Tables.{keysOf}
 use Rattle.solver.specs.Plan.{Answer, graphPlan, planned, read}
 use Rattle.solver.specs.declared.Arranged.{Arranged}
 use Rattle.solver.specs.declared.Outcome.the-variants.{Made}
-use Rattle.lines.specs.Lines.{space, fieldText, refusalText, written, laidIn}
+use Rattle.text.specs.Decimals.{space, fieldText}
+use Rattle.lines.specs.Lines.{refusalText, written, laidIn}
 use Rattle.lines.specs.declared.Written.{Written}
 use Rattle.lines.proofs.Longest.{refusal-most}
-use Rattle.lines.proofs.Texts.{few-digits, field-length}
+use Rattle.text.proofs.Decimals.{few-digits, field-length}
 use Rattle.job.specs.Job.{reading-stage}
 use Rattle.job.proofs.Endings.{Lays}
 use Rattle.job.proofs.Refusals.{number-most}

@@ -1,4 +1,3 @@
 -- The definitions that the contracts of `plan_text` cite.
 pub mod Text
-pub mod Putting
 pub mod Shown

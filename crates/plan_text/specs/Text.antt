@@ -5,7 +5,7 @@ use Rattle.schedule.specs.Count.{joined}
 use Rattle.schedule.specs.Pass.{Slot, original, closed, ClosedFactor}
 use Rattle.schedule.specs.Gather.{Gathered}
 use Rattle.schedule.specs.Plan.{Plan}
-use Rattle.lines.specs.Lines.{space, feed, decimal, fieldText}
+use Rattle.text.specs.Decimals.{space, feed, decimal, fieldText}
 
 -- ---- the words
 

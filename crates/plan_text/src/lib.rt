@@ -3,8 +3,7 @@
 //     backward 0 step 1 content 3 kept 0 cleared 1
 //     key 0 forward backward 0 originals 0 1 2 leaves 3 0 1 2 last
 // A content names an original by its number and the message j as mj.
-// Each function that puts text answers the place after it. What lies past the buffer's end is dropped: the text goes twice through the
-// same functions, first to find its length, then to lay it where it fits.
+// The text goes twice through the same functions, first to find its length, then to lay it where it fits: see `text`.
 use factor::limits::FACTORS;
 use factor::limits::VARIABLES;
 use graph::Graph;
@@ -19,25 +18,27 @@ use plan::masks::single;
 use plan::pass::Pass;
 use plan::plan::Plan;
 use solver::Outcome;
+use text::put;
+use text::put_decimal;
+use text::put_field;
+use text::put_word;
 ghost use mathlib.Core.Path.{_≡_};
 ghost use mathlib.Core.List.{[], _∷_, map};
 ghost use Prim.Native.Nat.{_≤_, _<_};
 ghost use lib.ListN.{length, take, drop};
-ghost use Rattle.lines.specs.Lines.{decimal, fieldText, written, laidIn};
+ghost use Rattle.text.specs.Decimals.{fieldText};
+ghost use Rattle.text.specs.Putting.{Puts};
+ghost use Rattle.lines.specs.Lines.{written, laidIn};
 ghost use Rattle.schedule.specs.Count.{joined, putIf};
 ghost use Rattle.plan.specs.Mask.{has, keysIn};
 ghost use Rattle.plan.specs.Pass.{Ready, slotOf, msgAt, messagesOf};
 ghost use Rattle.plan.specs.Gather.{Held, gatheredOf};
 ghost use Rattle.plan.specs.Plan.{Bounded, planOf};
-ghost use Rattle.plan_text.specs.Putting.{Puts, next};
 ghost use Rattle.plan_text.specs.Text as spec;
 ghost use Rattle.plan_text.specs.Shown.{shown, shownIn, showText, text-room};
 
 // Room for the text of any job's plan.
 pub const TEXT_ROOM: usize = 65536;
-
-// Places are counted up to this one, the largest number of a machine word.
-const LAST_PLACE: usize = 18446744073709551615;
 
 // What came of showing a graph's plan: the length of its text, a buffer that is too short for it, or a graph that has no plan.
 pub enum Shown {
@@ -46,58 +47,12 @@ pub enum Shown {
     Refused(Refusal),
 }
 
-// The place after one byte.
-fn after(at: usize) -> usize
-    ensures { λ r. ⌜ r ≡ next at ⌝ }
-{
-    if at < LAST_PLACE { at + 1 } else { at }
-}
-
-fn put(out: &mut [u8], at: usize, byte: u8) -> usize
-    ensures { λ r. ⌜ Puts (now (out .entry)) (now (out .exit)) at r (byte ∷ []) ⌝ }
-{
-    if out.len() <= at {
-        return after(at);
-    }
-    out[at] = byte;
-    after(at)
-}
-
-fn put_word(out: &mut [u8], at: usize, word: &[u8]) -> usize
-    ensures { λ r. ⌜ Puts (now (out .entry)) (now (out .exit)) at r (now (word .entry)) ⌝ }
-{
-    let mut to = at;
-    for i in 0..word.len() {
-        to = put(out, to, word[i]);
-    }
-    to
-}
-
-// A number in decimal: the last digit follows those before it.
-fn put_decimal(out: &mut [u8], at: usize, x: usize) -> usize
-    ensures { λ r. ⌜ Puts (now (out .entry)) (now (out .exit)) at r (decimal x) ⌝ }
-{
-    if x < 10 {
-        return put(out, at, 48 + x as u8);
-    }
-    let last = put_decimal(out, at, x / 10);
-    put(out, last, 48 + (x % 10) as u8)
-}
-
-// A space and a number.
-fn put_number(out: &mut [u8], at: usize, x: usize) -> usize
-    ensures { λ r. ⌜ Puts (now (out .entry)) (now (out .exit)) at r (fieldText x) ⌝ }
-{
-    let digits = put(out, at, b' ');
-    put_decimal(out, digits, x)
-}
-
 // A slot by its number in the pass: an original, or a message.
 fn put_slot(out: &mut [u8], at: usize, s: usize) -> usize
     ensures { λ r. ⌜ Puts (now (out .entry)) (now (out .exit)) at r (spec.slotText (slotOf s)) ⌝ }
 {
     if s < FACTORS {
-        return put_number(out, at, s);
+        return put_field(out, at, s);
     }
     let digits = put_word(out, at, b" m");
     put_decimal(out, digits, s - FACTORS)
@@ -108,7 +63,7 @@ fn put_named(out: &mut [u8], at: usize, name: &[u8], x: usize) -> usize
     ensures { λ r. ⌜ Puts (now (out .entry)) (now (out .exit)) at r (spec.namedText (now (name .entry)) x) ⌝ }
 {
     let to = put_word(out, at, name);
-    put_number(out, to, x)
+    put_field(out, to, x)
 }
 
 // A number if it is a member of a set, and nothing if not.
@@ -119,7 +74,7 @@ fn put_member(out: &mut [u8], at: usize, set: u32, k: usize) -> usize
     if set & single(k) == 0 {
         return at;
     }
-    put_number(out, at, k)
+    put_field(out, at, k)
 }
 
 // A word and the members of a set, rising.
@@ -167,7 +122,7 @@ fn put_items(
     let mut to = put_word(out, at, name);
     for i in from..end {
         let x = items[i] as usize;
-        to = put_number(out, to, x);
+        to = put_field(out, to, x);
     }
     to
 }

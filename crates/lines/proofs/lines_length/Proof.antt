@@ -6,7 +6,8 @@ use Rattle.factor.specs.Counting.{sum}
 use Rattle.graph.proofs.Validity.{valid-variables}
 use Rattle.graph.specs.declared.Graph.{Graph}
 use lib.ListN.{length}
-use Rattle.lines.specs.Lines.{decimal, numbersOf, linesLength}
+use Rattle.text.specs.Decimals.{decimal}
+use Rattle.lines.specs.Lines.{numbersOf, linesLength}
 use Rattle.lines.proofs.Texts.{length-more}
 use borrow.Author.Needs.{needs}
 use Rattle.lines.proofs.lines_length.Statement.{statement}

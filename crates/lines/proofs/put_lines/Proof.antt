@@ -9,7 +9,8 @@ use Rattle.factor.specs.Counting.{sum}
 use Rattle.factor.specs.Factor.{lay}
 use Rattle.factor.proofs.Counting.{sum-le}
 use Rattle.graph.specs.declared.Graph.{Graph}
-use Rattle.lines.specs.Lines.{Puts, decimal, numbersOf, startOf, linesText, linesLength, lineText}
+use Rattle.text.specs.Decimals.{decimal}
+use Rattle.lines.specs.Lines.{Puts, numbersOf, startOf, linesText, linesLength, lineText}
 use Rattle.lines.proofs.Laying.{puts-none, puts-both, puts-same}
 use Rattle.lines.proofs.Texts.{start-more, length-more, lines-more, lines-long}
 use borrow.Author.Needs.{needs}

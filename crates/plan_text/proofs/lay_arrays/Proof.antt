@@ -2,7 +2,7 @@
 use native.Mathlib.Omega.{arith}
 use Rattle.plan.specs.Plan.{planOf}
 use Rattle.plan_text.specs.Text.{planText}
-use Rattle.plan_text.proofs.Putting.{short, whole}
+use Rattle.lines.proofs.Fitting.{short, whole}
 use borrow.Author.Needs.{needs}
 use Rattle.plan_text.proofs.lay_arrays.Statement.{statement}
 use Rattle.plan_text.proofs.lay_arrays.Tie as tie

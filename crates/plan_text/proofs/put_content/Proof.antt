@@ -6,9 +6,9 @@ use native.Mathlib.Omega.{arith}
 use lib.ListN.{take, drop}
 use Rattle.schedule.specs.Count.{joined}
 use Rattle.plan.specs.Pass.{slotOf}
-use Rattle.plan_text.specs.Putting.{Puts}
+use Rattle.text.specs.Putting.{Puts}
 use Rattle.plan_text.specs.Text.{slotText, contentText}
-use Rattle.plan_text.proofs.Putting.{none, both, same, long}
+use Rattle.text.proofs.Putting.{none, both, same, long}
 use Rattle.plan_text.proofs.Growing.{joined-map, part-none, part-more}
 use borrow.Author.Needs.{needs}
 use Rattle.plan_text.proofs.put_content.Statement.{statement}

@@ -4,10 +4,10 @@ use mathlib.Core.Path.{_≡_, ap}
 use native.Mathlib.Omega.{arith}
 use lib.ListN.{take, drop}
 use Rattle.schedule.specs.Count.{joined}
-use Rattle.lines.specs.Lines.{fieldText}
-use Rattle.plan_text.specs.Putting.{Puts}
+use Rattle.text.specs.Decimals.{fieldText}
+use Rattle.text.specs.Putting.{Puts}
 use Rattle.plan_text.specs.Text.{listText}
-use Rattle.plan_text.proofs.Putting.{none, both, same, long}
+use Rattle.text.proofs.Putting.{none, both, same, long}
 use Rattle.plan_text.proofs.Growing.{part-none, part-more}
 use borrow.Author.Needs.{needs}
 use Rattle.plan_text.proofs.put_items.Statement.{statement}
@@ -33,8 +33,8 @@ array-read-x c = search needs
 cast-x : tie.Need-cast-x Inv-loop μ-loop
 cast-x c = search needs
 
-put-number-requires : tie.Need-put-number-requires Inv-loop μ-loop
-put-number-requires c κs = search needs
+put-field-requires : tie.Need-put-field-requires Inv-loop μ-loop
+put-field-requires c κs = search needs
 
 add-i : tie.Need-add-i Inv-loop μ-loop
 add-i c = search needs
@@ -46,7 +46,7 @@ loop-again : tie.Need-loop-again Inv-loop μ-loop
 loop-again c =
     let args = c .before .before .before .before .before .before .before .before .before .before .before .before .args in
     let loop = c .before .before .before .before .before .loop in
-    (omega arith, omega arith, same (part-more fieldText (args .t4) (args .from) (loop .i) (loop .inv .0) (omega arith)) (both (loop .inv .2) (c .before .before .put-number .ensures)))
+    (omega arith, omega arith, same (part-more fieldText (args .t4) (args .from) (loop .i) (loop .inv .0) (omega arith)) (both (loop .inv .2) (c .before .before .put-field .ensures)))
 
 same-length : tie.Need-same-length Inv-loop μ-loop
 same-length c = long (both (c .before .before .before .before .put-word .ensures) (c .before .loop .inv .2))
@@ -69,7 +69,7 @@ put-items-spec =
     loop-holds
     array-read-x
     cast-x
-    put-number-requires
+    put-field-requires
     add-i
     loop-less
     loop-again

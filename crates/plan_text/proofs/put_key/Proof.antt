@@ -1,7 +1,7 @@
 -- `plan_text::put_key` meets its contract: the parts of the line, one after another. Assumes nothing.
 use Rattle.plan.specs.Gather.{gatheredOf}
 use Rattle.plan_text.specs.Text.{keyText}
-use Rattle.plan_text.proofs.Putting.{both, long}
+use Rattle.text.proofs.Putting.{both, long}
 use borrow.Author.Needs.{needs}
 use Rattle.plan_text.proofs.put_key.Statement.{statement}
 use Rattle.plan_text.proofs.put_key.Tie as tie

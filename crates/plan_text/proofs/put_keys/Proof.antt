@@ -6,9 +6,9 @@ use native.Mathlib.Omega.{arith}
 use lib.ListN.{take}
 use Rattle.plan.specs.Gather.{gatheredOf}
 use Rattle.plan.specs.Plan.{noGathered}
-use Rattle.plan_text.specs.Putting.{Puts}
+use Rattle.text.specs.Putting.{Puts}
 use Rattle.plan_text.specs.Text.{keyText, numbered}
-use Rattle.plan_text.proofs.Putting.{none, both, same, long}
+use Rattle.text.proofs.Putting.{none, both, same, long}
 use Rattle.plan_text.proofs.Growing.{taken-none, taken-more}
 use borrow.Author.Needs.{needs}
 use Rattle.plan_text.proofs.put_keys.Statement.{statement}

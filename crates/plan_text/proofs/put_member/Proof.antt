@@ -4,8 +4,8 @@ use mathlib.Core.Bool.{Bool}
 use mathlib.Core.List.{[]}
 use Rattle.schedule.specs.Count.{joined, putIf}
 use Rattle.plan.proofs.Unions.{in-set, off-set}
-use Rattle.lines.specs.Lines.{fieldText}
-use Rattle.plan_text.proofs.Putting.{none, same}
+use Rattle.text.specs.Decimals.{fieldText}
+use Rattle.text.proofs.Putting.{none, same}
 use Rattle.plan_text.proofs.Growing.{joined-nil, joined-one}
 use borrow.Author.Needs.{needs}
 use Rattle.plan_text.proofs.put_member.Statement.{statement}
@@ -20,8 +20,8 @@ returns c =
     let single = c .before .single in
     same (sym (ap (λ (b : Bool). joined fieldText (putIf b (args .k) [])) (off-set (args .set) (args .k) (single .result) (single .ensures) (c .if1 .taken)) ∙ joined-nil fieldText)) none
 
-put-number-requires : tie.Need-put-number-requires
-put-number-requires c κs = search needs
+put-field-requires : tie.Need-put-field-requires
+put-field-requires c κs = search needs
 
 same-length : tie.Need-same-length
 same-length c = search needs
@@ -30,8 +30,8 @@ returns-2 : tie.Need-returns-2
 returns-2 c =
     let args = c .before .before .before .before .before .before .before .args in
     let single = c .before .before .before .before .before .single in
-    same (sym (ap (λ (b : Bool). joined fieldText (putIf b (args .k) [])) (in-set (args .set) (args .k) (single .result) (single .ensures) (c .before .before .before .before .if1 .left)) ∙ joined-one fieldText (args .k))) (c .before .before .put-number .ensures)
+    same (sym (ap (λ (b : Bool). joined fieldText (putIf b (args .k) [])) (in-set (args .set) (args .k) (single .result) (single .ensures) (c .before .before .before .before .if1 .left)) ∙ joined-one fieldText (args .k))) (c .before .before .put-field .ensures)
 
 pub put-member-spec : {M : Type 1} → statement M
 put-member-spec =
-    tie.close (tie.spec single-requires returns put-number-requires same-length returns-2)
+    tie.close (tie.spec single-requires returns put-field-requires same-length returns-2)

@@ -5,12 +5,12 @@ use mathlib.Core.List.{List, [], _∷_, _++_, map}
 use native.Mathlib.Omega.{arith}
 use lib.ListN.{getD, take, drop}
 use lib.Seq.{getD-drop}
-use Rattle.lines.specs.Lines.{feed}
+use Rattle.text.specs.Decimals.{feed}
 use Rattle.plan.specs.Mask.{keysIn}
 use Rattle.plan.specs.Pass.{slotOf, msgAt}
 use Rattle.plan.specs.declared.pass.Pass.{Pass}
 use Rattle.plan_text.specs.Text.{stepWord, keptWord, clearedWord, namedText, listText, contentText, messageText}
-use Rattle.plan_text.proofs.Putting.{both, same}
+use Rattle.text.proofs.Putting.{both, same}
 use borrow.Author.Needs.{needs}
 use Rattle.plan_text.proofs.put_message.Statement.{statement}
 use Rattle.plan_text.proofs.put_message.Tie as tie

@@ -1,6 +1,6 @@
 -- `plan_text::put_named` meets its contract: the word, then the number. Assumes nothing.
 use Rattle.plan_text.specs.Text.{namedText}
-use Rattle.plan_text.proofs.Putting.{both}
+use Rattle.text.proofs.Putting.{both}
 use borrow.Author.Needs.{needs}
 use Rattle.plan_text.proofs.put_named.Statement.{statement}
 use Rattle.plan_text.proofs.put_named.Tie as tie
@@ -8,21 +8,21 @@ use Rattle.plan_text.proofs.put_named.Tie as tie
 put-word-requires : tie.Need-put-word-requires
 put-word-requires c κs = search needs
 
-put-number-requires : tie.Need-put-number-requires
-put-number-requires c κs = search needs
+put-field-requires : tie.Need-put-field-requires
+put-field-requires c κs = search needs
 
 same-length : tie.Need-same-length
 same-length c = search needs
 
 returns : tie.Need-returns
 unfolding namedText
-returns c = both (c .before .before .before .before .before .before .put-word .ensures) (c .before .before .put-number .ensures)
+returns c = both (c .before .before .before .before .before .before .put-word .ensures) (c .before .before .put-field .ensures)
 
 pub put-named-spec : {M : Type 1} → statement M
 put-named-spec =
     tie.close
     (tie.spec
     put-word-requires
-    put-number-requires
+    put-field-requires
     same-length
     returns)

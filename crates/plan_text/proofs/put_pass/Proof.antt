@@ -5,9 +5,9 @@ use mathlib.Core.List.{map}
 use native.Mathlib.Omega.{arith}
 use Rattle.schedule.specs.Count.{from}
 use Rattle.plan.specs.Pass.{msgAt, messagesOf}
-use Rattle.plan_text.specs.Putting.{Puts}
+use Rattle.text.specs.Putting.{Puts}
 use Rattle.plan_text.specs.Text.{messageText, numbered}
-use Rattle.plan_text.proofs.Putting.{none, both, same, long}
+use Rattle.text.proofs.Putting.{none, both, same, long}
 use Rattle.plan_text.proofs.Growing.{given-none, given-more}
 use Rattle.plan_text.proofs.put_pass.Statement.{statement}
 use Rattle.plan_text.proofs.put_pass.Tie as tie

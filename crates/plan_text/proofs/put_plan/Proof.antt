@@ -2,7 +2,7 @@
 use Rattle.plan.specs.Plan.{planOf}
 use Rattle.plan.proofs.Stepping.{ready-later}
 use Rattle.plan_text.specs.Text.{planText}
-use Rattle.plan_text.proofs.Putting.{both}
+use Rattle.text.proofs.Putting.{both}
 use borrow.Author.Needs.{needs}
 use Rattle.plan_text.proofs.put_plan.Statement.{statement}
 use Rattle.plan_text.proofs.put_plan.Tie as tie

@@ -5,10 +5,10 @@ use native.Mathlib.Omega.{arith}
 use Rattle.schedule.specs.Count.{joined, rising}
 use Rattle.plan.specs.Mask.{has, keysIn}
 use Rattle.plan.proofs.Unions.{joined-zero}
-use Rattle.lines.specs.Lines.{fieldText}
-use Rattle.plan_text.specs.Putting.{Puts}
+use Rattle.text.specs.Decimals.{fieldText}
+use Rattle.text.specs.Putting.{Puts}
 use Rattle.plan_text.specs.Text.{listText}
-use Rattle.plan_text.proofs.Putting.{none, both, same, long}
+use Rattle.text.proofs.Putting.{none, both, same, long}
 use Rattle.plan_text.proofs.Growing.{member-more}
 use borrow.Author.Needs.{needs}
 use Rattle.plan_text.proofs.put_set.Statement.{statement}

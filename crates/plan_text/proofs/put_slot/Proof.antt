@@ -2,20 +2,20 @@
 use mathlib.Core.Path.{sym, ap}
 use Rattle.plan.proofs.Unions.{slot-low, slot-high}
 use Rattle.plan_text.specs.Text.{slotText}
-use Rattle.plan_text.proofs.Putting.{both, same}
+use Rattle.text.proofs.Putting.{both, same}
 use borrow.Author.Needs.{needs}
 use Rattle.plan_text.proofs.put_slot.Statement.{statement}
 use Rattle.plan_text.proofs.put_slot.Tie as tie
 
-put-number-requires : tie.Need-put-number-requires
-put-number-requires c κs = search needs
+put-field-requires : tie.Need-put-field-requires
+put-field-requires c κs = search needs
 
 same-length : tie.Need-same-length
 same-length c = search needs
 
 returns : tie.Need-returns
 unfolding slotText
-returns c = same (sym (ap slotText (slot-low (c .before .before .before .before .before .before .args .s) (c .before .before .before .before .if1 .taken)))) (c .before .before .put-number .ensures)
+returns c = same (sym (ap slotText (slot-low (c .before .before .before .before .before .before .args .s) (c .before .before .before .before .if1 .taken)))) (c .before .before .put-field .ensures)
 
 slice-aggregate-put-word : tie.Need-slice-aggregate-put-word
 slice-aggregate-put-word c = search needs
@@ -39,7 +39,7 @@ pub put-slot-spec : {M : Type 1} → statement M
 put-slot-spec =
     tie.close
     (tie.spec
-    put-number-requires
+    put-field-requires
     same-length
     returns
     slice-aggregate-put-word

@@ -1,9 +1,9 @@
--- `plan_text::put_number` meets its contract: a space, then the digits. Assumes nothing.
-use Rattle.lines.specs.Lines.{fieldText}
-use Rattle.plan_text.proofs.Putting.{both}
+-- `text::put_field` meets its contract: a space, then the digits. Assumes nothing.
+use Rattle.text.specs.Decimals.{fieldText}
+use Rattle.text.proofs.Putting.{both}
 use borrow.Author.Needs.{needs}
-use Rattle.plan_text.proofs.put_number.Statement.{statement}
-use Rattle.plan_text.proofs.put_number.Tie as tie
+use Rattle.text.proofs.put_field.Statement.{statement}
+use Rattle.text.proofs.put_field.Tie as tie
 
 put-requires : tie.Need-put-requires
 put-requires c κs = search needs
@@ -18,8 +18,8 @@ returns : tie.Need-returns
 unfolding fieldText
 returns c = both (c .before .before .before .before .before .before .put .ensures) (c .before .before .put-decimal .ensures)
 
-pub put-number-spec : {M : Type 1} → statement M
-put-number-spec =
+pub put-field-spec : {M : Type 1} → statement M
+put-field-spec =
     tie.close
     (tie.spec
     put-requires

@@ -1,4 +1,4 @@
--- `plan_text::put_word` meets its contract. The loop's invariant: the bytes passed are put. Assumes nothing.
+-- `text::put_word` meets its contract. The loop's invariant: the bytes passed are put. Assumes nothing.
 use Prim.Native.Nat.{ℕ, _+_, _-_, _≤_, _<_}
 use mathlib.Core.Path.{_≡_, refl, sym, ap, _∙_}
 use mathlib.Core.List.{List, [], _∷_, _++_}
@@ -6,11 +6,11 @@ use native.Mathlib.Omega.{arith}
 use native.Mathlib.Numerals.{add-one}
 use lib.ListN.{length, getD, take}
 use lib.Seq.{take-suc, take-length}
-use Rattle.plan_text.specs.Putting.{Puts}
-use Rattle.plan_text.proofs.Putting.{none, both, same, long}
+use Rattle.text.specs.Putting.{Puts}
+use Rattle.text.proofs.Putting.{none, both, same, long}
 use borrow.Author.Needs.{needs}
-use Rattle.plan_text.proofs.put_word.Statement.{statement}
-use Rattle.plan_text.proofs.put_word.Tie as tie
+use Rattle.text.proofs.put_word.Statement.{statement}
+use Rattle.text.proofs.put_word.Tie as tie
 
 abbrev Inv-loop : tie.InvT-loop
 Inv-loop out₀ at word to₀ i₀ i-end out to i = (i-end ≡ length word) × (i ≤ i-end) × Puts out₀ out at to (take i word)

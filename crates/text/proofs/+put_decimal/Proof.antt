@@ -1,19 +1,17 @@
--- `lines::put_decimal` meets its contract: the last digit follows those before it. The measure is the number. Assumes nothing.
+-- `text::put_decimal` meets its contract: the last digit follows those before it. The measure is the number. Assumes nothing.
 use mathlib.Core.Path.{sym}
-use Prim.Native.Nat.{_/_, ℕ, _<_}
-use native.Mathlib.Omega.{arith}
-use Rattle.lines.specs.Lines.{decimal}
-use Rattle.lines.proofs.Laying.{puts-both, puts-same}
-use Rattle.lines.proofs.Texts.{one-digit, more-digits, one-length, more-length}
+use Rattle.text.proofs.Decimals.{one-digit, more-digits}
+use Rattle.text.proofs.Putting.{both, same}
 use borrow.Author.Needs.{needs}
+use Prim.Native.Nat.{ℕ, _<_}
 use borrow.Fn.Kinds.{In}
 use borrow.Fn.PlainCycle.{Measures, is, falls, and}
-use Rattle.lines.proofs.put_decimal.Reads as put-decimal
-use Rattle.lines.proofs.put_decimal.Kinds as put-decimal-kinds
-use Rattle.lines.proofs.+put_decimal.Lts-put_decimal as put-decimal-lts
-use Rattle.lines.proofs.put.Reads as put-reads
-use Rattle.lines.proofs.+put_decimal.{statement}
-use Rattle.lines.proofs.+put_decimal.Tie.{close}
+use Rattle.text.proofs.put_decimal.Reads as put-decimal
+use Rattle.text.proofs.put_decimal.Kinds as put-decimal-kinds
+use Rattle.text.proofs.+put_decimal.Lts-put_decimal as put-decimal-lts
+use Rattle.text.proofs.put.Reads as put-reads
+use Rattle.text.proofs.+put_decimal.{statement}
+use Rattle.text.proofs.+put_decimal.Tie.{close}
 
 abbrev μ-put-decimal : Measures 1 put-decimal-kinds.ps ℕ
 μ-put-decimal κs a = a .1 .1 .0
@@ -48,7 +46,7 @@ put-decimal-put-requires : (t : ℕ) → put-decimal-lts.Need-put-requires (
   put-decimal-below t,
   put-decimal.Post,
 ) (put-decimal-at t) put-decimal.Post
-put-decimal-put-requires t c κs = omega (arith, c .before .before .before .pre .1, one-length (c .before .before .before .args .x) (c .before .if1 .taken))
+put-decimal-put-requires t c κs = search needs
 
 put-decimal-same-length : (t : ℕ) → put-decimal-lts.Need-same-length (
   put-reads.Asked,
@@ -64,7 +62,7 @@ put-decimal-returns : (t : ℕ) → put-decimal-lts.Need-returns (
   put-decimal-below t,
   put-decimal.Post,
 ) (put-decimal-at t) put-decimal.Post
-put-decimal-returns t c = puts-same (c .before .before .before .before .before .before .args .out .now) _ (c .before .before .before .before .before .before .args .at) _ _ (decimal (c .before .before .before .before .before .before .args .x)) (sym (one-digit (c .before .before .before .before .before .before .args .x) (c .before .before .before .before .if1 .taken))) (c .before .before .put .ensures)
+put-decimal-returns t c = same (sym (one-digit (c .before .before .before .before .before .before .args .x) (c .before .before .before .before .if1 .taken))) (c .before .before .put .ensures)
 
 put-decimal-put-decimal-requires : (t : ℕ) → put-decimal-lts.Need-put-decimal-requires (
   put-reads.Asked,
@@ -72,10 +70,7 @@ put-decimal-put-decimal-requires : (t : ℕ) → put-decimal-lts.Need-put-decima
   put-decimal-below t,
   put-decimal.Post,
 ) (put-decimal-at t) put-decimal.Post
-put-decimal-put-decimal-requires t c κs = (
-  omega (arith, c .before .before .before .pre .0),
-  omega (arith, c .before .before .before .pre .1, more-length (c .before .before .before .args .x) (c .before .if1 .left)),
-)
+put-decimal-put-decimal-requires t c κs = search needs
 
 put-decimal-cast-put-2 : (t : ℕ) → put-decimal-lts.Need-cast-put-2 (
   put-reads.Asked,
@@ -99,7 +94,7 @@ put-decimal-put-requires-2 : (t : ℕ) → put-decimal-lts.Need-put-requires-2 (
   put-decimal-below t,
   put-decimal.Post,
 ) (put-decimal-at t) put-decimal.Post
-put-decimal-put-requires-2 t c κs = omega (arith, c .before .before .before .before .before .before .before .pre .1, more-length (c .before .before .before .before .before .before .before .args .x) (c .before .before .before .before .before .if1 .left), c .before .before .before .put-decimal .ensures .1)
+put-decimal-put-requires-2 t c κs = search needs
 
 put-decimal-same-length-2 : (t : ℕ) → put-decimal-lts.Need-same-length-2 (
   put-reads.Asked,
@@ -115,7 +110,9 @@ put-decimal-returns-2 : (t : ℕ) → put-decimal-lts.Need-returns-2 (
   put-decimal-below t,
   put-decimal.Post,
 ) (put-decimal-at t) put-decimal.Post
-put-decimal-returns-2 t c = puts-same (c .before .before .before .before .before .before .before .before .before .before .args .out .now) _ (c .before .before .before .before .before .before .before .before .before .before .args .at) _ _ (decimal (c .before .before .before .before .before .before .before .before .before .before .args .x)) (sym (more-digits (c .before .before .before .before .before .before .before .before .before .before .args .x) (c .before .before .before .before .before .before .before .before .if1 .left))) (puts-both (c .before .before .before .before .before .before .before .before .before .before .args .out .now) _ _ (c .before .before .before .before .before .before .before .before .before .before .args .at) _ _ (decimal (c .before .before .before .before .before .before .before .before .before .before .args .x / 10)) _ (omega (arith, c .before .before .before .before .before .before .before .before .before .before .pre .1)) (c .before .before .before .before .before .before .put-decimal .ensures) (c .before .before .put2 .ensures))
+put-decimal-returns-2 t c =
+    let args = c .before .before .before .before .before .before .before .before .before .before .args in
+    same (sym (more-digits (args .x) (c .before .before .before .before .before .before .before .before .if1 .left))) (both (c .before .before .before .before .before .before .put-decimal .ensures) (c .before .before .put2 .ensures))
 
 pub +put-decimal-spec : {M : Type 1} → statement M
 +put-decimal-spec = close μ-put-decimal λ t. put-decimal-lts.spec (

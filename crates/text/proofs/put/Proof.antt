@@ -1,10 +1,10 @@
--- `plan_text::put` meets its contract: past the buffer's end `set` changes nothing either. Assumes nothing.
+-- `text::put` meets its contract: past the buffer's end `set` changes nothing either. Assumes nothing.
 use mathlib.Core.Path.{refl, sym}
 use lib.Seq.{set-out}
-use Rattle.plan_text.proofs.Putting.{one}
+use Rattle.text.proofs.Putting.{one}
 use borrow.Author.Needs.{needs}
-use Rattle.plan_text.proofs.put.Statement.{statement}
-use Rattle.plan_text.proofs.put.Tie as tie
+use Rattle.text.proofs.put.Statement.{statement}
+use Rattle.text.proofs.put.Tie as tie
 
 after-requires : tie.Need-after-requires
 after-requires c κs = search needs

@@ -1,15 +1,15 @@
--- `lines::decimal_length` meets its contract. The measure is the number. Assumes nothing.
+-- `text::decimal_length` meets its contract. The measure is the number. Assumes nothing.
 use mathlib.Core.Path.{sym}
 use native.Mathlib.Omega.{arith}
-use Rattle.lines.proofs.Texts.{one-length, more-length, few-digits}
+use Rattle.text.proofs.Decimals.{one-length, more-length, few-digits}
 use Prim.Native.Nat.{ℕ, _<_}
 use borrow.Fn.Kinds.{In}
 use borrow.Fn.PlainCycle.{Measures, is, falls, and}
-use Rattle.lines.proofs.decimal_length.Reads as decimal-length
-use Rattle.lines.proofs.decimal_length.Kinds as decimal-length-kinds
-use Rattle.lines.proofs.+decimal_length.Lts-decimal_length as decimal-length-lts
-use Rattle.lines.proofs.+decimal_length.{statement}
-use Rattle.lines.proofs.+decimal_length.Tie.{close}
+use Rattle.text.proofs.decimal_length.Reads as decimal-length
+use Rattle.text.proofs.decimal_length.Kinds as decimal-length-kinds
+use Rattle.text.proofs.+decimal_length.Lts-decimal_length as decimal-length-lts
+use Rattle.text.proofs.+decimal_length.{statement}
+use Rattle.text.proofs.+decimal_length.Tie.{close}
 
 abbrev μ-decimal-length : Measures 0 decimal-length-kinds.ps ℕ
 μ-decimal-length κs a = a .0

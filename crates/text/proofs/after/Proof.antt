@@ -1,11 +1,11 @@
--- `plan_text::after` meets its contract: by whether the last place is reached. Assumes nothing.
+-- `text::after` meets its contract: by whether the last place is reached. Assumes nothing.
 use mathlib.Core.Path.{refl}
 use native.Mathlib.Omega.{arith}
 use borrow.Author.Tests.{lt-ltb, le-ltb}
 use borrow.Author.Needs.{needs}
-use Rattle.plan_text.specs.Putting.{last-place, next}
-use Rattle.plan_text.proofs.after.Statement.{statement}
-use Rattle.plan_text.proofs.after.Tie as tie
+use Rattle.text.specs.Putting.{last-place, next}
+use Rattle.text.proofs.after.Statement.{statement}
+use Rattle.text.proofs.after.Tie as tie
 
 add-result : tie.Need-add-result
 add-result c = search needs
