@@ -1,4 +1,4 @@
--- What a store holds after a factor's numbers are weighed. Assumes nothing.
+-- What a store holds after a factor's numbers are stored. Assumes nothing.
 use Prim.Native.Nat.{ℕ, _+_, _*_, _≤_}
 use mathlib.Core.Path.{_≡_, refl, sym, ap, _∙_}
 use mathlib.Core.List.{List, _++_}
@@ -6,9 +6,10 @@ use native.Mathlib.Omega.{arith}
 use lib.Ieee.{Float}
 use lib.ListN.{length, length-append}
 use Rattle.factor.specs.Factor.{lay}
-use Rattle.factor.specs.Weighing.{Room, weighed, told, answerOf, laid}
-use Rattle.factor.specs.declared.Weighed.{Weighed}
-use Rattle.factor.specs.declared.Weighed.the-variants.{Done, Pivot, Unbounded}
+use Rattle.cholesky.specs.Forms.{exchanged, told, endOf}
+use Rattle.cholesky.specs.declared.exchange.Exchanged.{Exchanged}
+use Rattle.cholesky.specs.declared.exchange.Exchanged.the-variants.{Done, Pivot, Unbounded}
+use Rattle.factor.specs.Storing.{Room, laid}
 use Rattle.factor.proofs.Laying.{lay-whole, lay-lay}
 
 -- A, xi and W laid one after the other
@@ -19,22 +20,25 @@ three st a xi w s₁ s₂ s₃ at n l x e₁ e₂ e₃ =
     let p : at + length a + n ≡ at + length (a ++ xi) = omega (arith, length-append a xi) in
     e₃ ∙ ap (λ (s : List Float). lay s (at + length a + n) w) two ∙ lay-lay st (a ++ xi) w at (at + length a + n) l p
 
-module _ (n at : ℕ) (a mean variance store l₀ xi₀ l₁ xi₁ xi₂ w₂ : List Float) (r : Weighed) (room : Room n at a mean variance store) (nl : length l₀ ≡ n * n) (nx : length xi₀ ≡ n)
-    (el : l₁ ≡ lay l₀ 0 variance) (ex : xi₁ ≡ lay xi₀ 0 mean) (ew : weighed n xi₁ l₁ ≡ told r xi₂ w₂) where
-  came : weighed n mean variance ≡ told r xi₂ w₂
+module _ (n at : ℕ) (a mean variance store l₀ xi₀ l₁ xi₁ xi₂ w₂ : List Float) (r : Exchanged) (room : Room n at a mean variance store) (nl : length l₀ ≡ n * n) (nx : length xi₀ ≡ n)
+    (el : l₁ ≡ lay l₀ 0 variance) (ex : xi₁ ≡ lay xi₀ 0 mean) (ew : exchanged n xi₁ l₁ ≡ told r xi₂ w₂) where
+  came : exchanged n mean variance ≡ told r xi₂ w₂
   came =
       let m : xi₁ ≡ mean = ex ∙ lay-whole xi₀ mean (room .of-mean ∙ sym nx) in
       let v : l₁ ≡ variance = el ∙ lay-whole l₀ variance (room .of-variance ∙ sym nl) in
       rw (m, v) at ew
 
-  pub at-pivot : r ≡ Pivot → (Pivot ≡ answerOf (weighed n mean variance)) × (store ≡ laid (weighed n mean variance) a store at)
+  pub at-pivot : r ≡ Pivot → (Pivot ≡ endOf (exchanged n mean variance)) × (store ≡ laid (exchanged n mean variance) a store at)
+  unfolding told endOf
   at-pivot p = let e = came in rw (e, p) (refl, refl)
 
-  pub at-overflow : r ≡ Unbounded → (Unbounded ≡ answerOf (weighed n mean variance)) × (store ≡ laid (weighed n mean variance) a store at)
+  pub at-overflow : r ≡ Unbounded → (Unbounded ≡ endOf (exchanged n mean variance)) × (store ≡ laid (exchanged n mean variance) a store at)
+  unfolding told endOf
   at-overflow p = let e = came in rw (e, p) (refl, refl)
 
   pub when-done : r ≡ Done → (s₁ s₂ s₃ : List Float) → length xi₂ ≡ n → s₁ ≡ lay store at a → s₂ ≡ lay s₁ (at + length a) xi₂ → s₃ ≡ lay s₂ (at + length a + n) w₂
-      → (Done ≡ answerOf (weighed n mean variance)) × (s₃ ≡ laid (weighed n mean variance) a store at)
+      → (Done ≡ endOf (exchanged n mean variance)) × (s₃ ≡ laid (exchanged n mean variance) a store at)
+  unfolding told endOf
   when-done p s₁ s₂ s₃ x e₁ e₂ e₃ =
       let e = came in
       let t : s₃ ≡ lay store at (a ++ xi₂ ++ w₂) = three store a xi₂ w₂ s₁ s₂ s₃ at n (omega (arith, room .room)) x e₁ e₂ e₃ in

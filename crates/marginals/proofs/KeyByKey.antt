@@ -14,7 +14,8 @@ use Rattle.graph.specs.declared.refusal.Refusal.{Refusal}
 use Rattle.graph.specs.declared.refusal.Refusal.the-variants.{CountedTwice}
 use Rattle.schedule.specs.Gather.{Gathered}
 use Rattle.gaussian.specs.Elimination.{Outcome, pivot, unbounded, message}
-use Rattle.gaussian.specs.Marginals.{Moments, moments, noPivot, noNumber, momentsOf}
+use Rattle.cholesky.specs.Forms.{Form, form, noPivot, noNumber}
+use Rattle.gaussian.specs.Marginals.{momentsOf}
 use Rattle.messages.specs.Values.{none, stopped}
 use Rattle.messages.specs.Asked.{stopOf}
 use Rattle.messages.proofs.Telling.{carried-tells}
@@ -47,9 +48,9 @@ never-through k why e = let z : _≡_ {A = ℕ} 0 1 = cc in omega arith
 abbrev numbersIn : ℕ → ℕ
 numbersIn s = s + s * s
 
-moments-count : (s r : ℕ) (a xi w : List Float) (m : Moments) (k : ℕ) → momentsOf r s a xi w ≡ m → missingFrom k (foundBy m ∷ []) ≡ none → length (marginalsIn (foundBy m ∷ [])) ≡ numbersIn s
+moments-count : (s r : ℕ) (a xi w : List Float) (m : Form) (k : ℕ) → momentsOf r s a xi w ≡ m → missingFrom k (foundBy m ∷ []) ≡ none → length (marginalsIn (foundBy m ∷ [])) ≡ numbersIn s
 unfolding foundBy missingFrom marginalsIn
-moments-count s r a xi w (moments mean covariance) k e h =
+moments-count s r a xi w (form mean covariance) k e h =
     let long = moments-long s mean covariance r a xi w e in
     ap length (append-nil (mean ++ covariance)) ∙ length-append mean covariance ∙ omega (arith, long .0, long .1)
 moments-count s r a xi w noPivot k e h = absurd (let z : _≡_ {A = ℕ} 0 1 = cc in omega arith)

@@ -11,7 +11,7 @@ use lib.Ieee.{Float, nan}
 use Rattle.matrix.specs.Views.{Inside, part, splice}
 use Rattle.matrix.specs.Sums.{plus-zero}
 use Rattle.matrix.specs.Stores.{steps, sweep}
-use Rattle.matrix.proofs.Entries.{steps-length, steps-at}
+use Rattle.matrix.proofs.Entries.{steps-length, sweep-length, steps-at}
 use Rattle.workspace.specs.Blocks.{corner, zeroed}
 
 pub length-part : (s : List Float) (p q : ℕ) → q ≤ length s → length (part s p q) ≡ q - p
@@ -100,11 +100,6 @@ steps-part x p q at at′ f f′ (suc n) pq qx ea ba t lt ef =
     let l : length (steps at′ f′ t n) ≡ q - p = steps-length at′ f′ t n ∙ lt in
     rw (ih, ea n (omega arith), ef n (omega arith) (steps at′ f′ t n) l)
     (set-splice x p q (steps at′ f′ t n) pq qx l (at′ n) (f′ n (steps at′ f′ t n)) (ba n (omega arith)))
-
-pub sweep-length : (g : ℕ → List Float → List Float) (t : List Float) (n : ℕ) → ((j : ℕ) (t : List Float) → length (g j t) ≡ length t) → length (sweep g t n) ≡ length t
-unfolding sweep
-sweep-length g t zero h = refl
-sweep-length g t (suc n) h = h n (sweep g t n) ∙ sweep-length g t n h
 
 pub sweep-part : (x : List Float) (p q : ℕ) (g g′ : ℕ → List Float → List Float) (n : ℕ) (t : List Float) → length t ≡ q - p
     → ((j : ℕ) (t : List Float) → length (g′ j t) ≡ length t)
