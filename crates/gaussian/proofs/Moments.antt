@@ -8,7 +8,7 @@ use lib.Ieee.{Float}
 use Rattle.matrix.specs.Views.{part, splice}
 use Rattle.matrix.specs.Sums.{plus-zero}
 use Rattle.factor.specs.Limits.{max-size}
-use Rattle.workspace.proofs.Parts.{part-replicate}
+use Rattle.factor.proofs.Laying.{front-replicate}
 use Rattle.cholesky.specs.Forms.{told}
 use Rattle.cholesky.specs.declared.exchange.Exchanged.{Exchanged}
 use Rattle.cholesky.specs.declared.exchange.Exchanged.the-variants.{Done, Pivot, Unbounded}
@@ -22,11 +22,8 @@ drop-replicate zero (suc k) = let e : 0 ≡ 0 - suc k = omega arith in ap (λ (j
 drop-replicate (suc n) (suc k) = let e : n - k ≡ suc n - suc k = omega arith in drop-replicate n k ∙ ap (λ (j : ℕ). replicate j plus-zero) e
 
 -- the start of an array of zeros
-pub zeros-part : (n s : ℕ) → s ≤ n → part (replicate n plus-zero) 0 s ≡ replicate s plus-zero
-zeros-part n s h = let e : s - 0 ≡ s = omega arith in part-replicate n 0 s h ∙ ap (λ (k : ℕ). replicate k plus-zero) e
-
 pub zeros-long : (n s : ℕ) → s ≤ n → length (part (replicate n plus-zero) 0 s) ≡ s
-zeros-long n s h = ap length (zeros-part n s h) ∙ length-replicate s plus-zero
+zeros-long n s h = ap length (front-replicate plus-zero n s h) ∙ length-replicate s plus-zero
 
 -- a list at the start of an array of zeros
 padded-is : (n s : ℕ) (t : List Float) → length t ≡ s → splice (replicate n plus-zero) 0 s t ≡ padded n t

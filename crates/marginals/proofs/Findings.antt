@@ -27,7 +27,7 @@ use Rattle.messages.specs.Asked.{clearedOf, slotsOf}
 use Rattle.marginals.specs.Marginals.{twice, Found, found, missing, foundBy, foundIn, missingFrom, marginalsIn}
 use Rattle.marginals.specs.Asked.{lastBy, foundAt, AskedAt}
 use Rattle.marginals.proofs.Lengths.{moments-long}
-use Rattle.marginals.proofs.Laying.{lay-none}
+use Rattle.factor.proofs.Laying.{lay-none}
 
 -- ---- the last elimination, by its lists
 

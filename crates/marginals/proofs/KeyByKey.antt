@@ -24,7 +24,7 @@ use Rattle.messages.specs.declared.Carried.the-variants.{Through, Halted}
 use Rattle.marginals.specs.Marginals.{twice, Found, found, missing, foundBy, foundIn, missingFrom, marginalsIn}
 use Rattle.marginals.specs.Asked.{foundAt, foundFrom, lastBy, placeOf, Finds}
 use Rattle.marginals.proofs.Lengths.{moments-long}
-use Rattle.marginals.proofs.Laying.{lay-take, lay-drop, lay-length}
+use Rattle.factor.proofs.Laying.{lay-take, lay-drop, lay-length}
 
 -- ---- a list and its first
 
@@ -114,7 +114,7 @@ module _ (sizes : List ℕ) (factors messages : List Float) (keys heads : List �
           let t : to′ ≡ to + length (marginalsIn (f ∷ [])) = omega arith in
           let fits : to + length (marginalsIn (f ∷ [])) ≤ length results = omega arith in
           let one = through-first f (rest (k + 1)) k e in
-          let front : take to′ results′ ≡ take to results ++ marginalsIn (f ∷ []) = rw (el, t) (lay-take results (marginalsIn (f ∷ [])) to fits) in
+          let front : take to′ results′ ≡ take to results ++ marginalsIn (f ∷ []) = rw (el, t) (lay-take results (marginalsIn (f ∷ [])) to (omega arith)) in
           let l : length results′ ≡ length results = ap length el ∙ lay-length results (marginalsIn (f ∷ [])) to fits in
           record {
             low = omega arith;
@@ -127,7 +127,7 @@ module _ (sizes : List ℕ) (factors messages : List Float) (keys heads : List �
                 ∙ sym (append-assoc (take to results) (marginalsIn (f ∷ [])) (marginalsIn (rest (k + 1))))
                 ∙ ap (λ (r : List Float). r ++ marginalsIn (rest (k + 1))) (sym front);
             after =
-                rw (el, t) (lay-drop results (marginalsIn (f ∷ [])) to fits
+                rw (el, t) (lay-drop results (marginalsIn (f ∷ [])) to (omega arith)
                 ∙ sym (drop-drop (length (marginalsIn (f ∷ []))) to results) ∙ ap (drop (length (marginalsIn (f ∷ [])))) (w .after)
                 ∙ drop-drop (length (marginalsIn (f ∷ []))) to results₀);
           }

@@ -1,20 +1,20 @@
 -- A record leaves the store as long as it was. Assumes nothing.
 use Prim.Native.Nat.{ℕ, _+_, _-_, _*_, _≤_}
-use mathlib.Core.Path.{_≡_, refl, _∙_}
+use mathlib.Core.Path.{_≡_, refl}
 use mathlib.Core.Bool.{Bool, true, false, not, cond}
 use mathlib.Core.List.{List, [], _++_}
 use native.Mathlib.Omega.{arith}
 use borrow.Author.Tests.{leb-true, eqb-true}
 use lib.Dec.{ltb, leb}
 use lib.Ieee.{Float}
-use lib.ListN.{length, take, drop, length-append, length-drop}
-use lib.Seq.{length-take-le}
+use lib.ListN.{length, length-append}
 use Rattle.factor.specs.Limits.{max-factors}
-use Rattle.factor.specs.Factor.{rising, known, priorOf, observationOf, aNumbers, numbers, lengthsFit, givenFinite, lay}
+use Rattle.factor.specs.Factor.{rising, known, priorOf, observationOf, aNumbers, numbers, lengthsFit, givenFinite}
 use Rattle.cholesky.specs.Forms.{Form, form, noPivot, noNumber, exchanged}
 use Rattle.cholesky.proofs.Forms.{exchanged-long}
 use Rattle.factor.specs.declared.Factor.{Factor}
 use Rattle.factor.proofs.Counting.{every-at}
+use Rattle.factor.proofs.Laying.{lay-length}
 use Rattle.graph.specs.Record.{sizeAt, offset, valid}
 use Rattle.graph.specs.Registration.{Verdict, stored, weighedVerdict, factorVerdict, priorVerdict, priorStore, countsFit, observationVerdict, observationStore}
 use Rattle.graph.specs.declared.Graph.{Graph}
@@ -26,14 +26,6 @@ use Rattle.records.specs.declared.kinds.Mark.the-variants as mark
 use Rattle.records.proofs.Progress.{case}
 
 -- ---- the store of a call
-
-lay-length : (store : List Float) (at : ℕ) (vs : List Float) → at + length vs ≤ length store → length (lay store at vs) ≡ length store
-lay-length store at vs l =
-    length-append (take at store ++ vs) (drop (at + length vs) store)
-    ∙ (let t : length (take at store) ≡ at = length-take-le at store (omega arith) in
-    let d : length (drop (at + length vs) store) ≡ length store - (at + length vs) = length-drop (at + length vs) store in
-    let a : length (take at store ++ vs) ≡ length (take at store) + length vs = length-append (take at store) vs in
-    omega arith)
 
 -- the lengths that a factor's record asks for
 a-long : (sizes : List ℕ) (f : Factor) (a mean variance : ℕ) → lengthsFit sizes f a mean variance ≡ true → a ≡ aNumbers sizes f
@@ -56,7 +48,7 @@ module _ (g : Graph) (store : List Float) where
   unfolding Kept
   weighed-kept f a mean variance ea em l (form xi w) e =
       let h = exchanged-long (f .rows) mean variance xi w e in
-      lay-length store (offset g (g .count)) (a ++ xi ++ w) (omega (arith, length-append (a ++ xi) w, length-append a xi, numbers-are (g .sizes) f, h .0, h .1))
+      lay-length store (a ++ xi ++ w) (offset g (g .count)) (omega (arith, length-append (a ++ xi) w, length-append a xi, numbers-are (g .sizes) f, h .0, h .1))
   weighed-kept f a mean variance ea em l noPivot e = refl
   weighed-kept f a mean variance ea em l noNumber e = refl
 

@@ -129,13 +129,6 @@ zeroed-is c =
     (λ k h. let l : k < length c = omega (arith, steps-length (λ i. i) (λ i t. plus-zero) c (length c)) in
     steps-at (λ i. i) (λ i t. plus-zero) c k (length c) (λ j a b e. omega arith) l l ∙ sym (getD-replicate (length c) k plus-zero nan l))
 
-pub part-replicate : (n p q : ℕ) → q ≤ n → part (replicate n plus-zero) p q ≡ replicate (q - p) plus-zero
-part-replicate n p q h =
-    let l : length (part (replicate n plus-zero) p q) ≡ q - p = length-part (replicate n plus-zero) p q (rw (length-replicate n plus-zero) h) in
-    ext-getD nan _ _ (l ∙ sym (length-replicate (q - p) plus-zero))
-    (λ k b. let m : k < q - p = omega arith in
-    getD-part (replicate n plus-zero) p q k m ∙ getD-replicate n (p + k) plus-zero nan (omega arith) ∙ sym (getD-replicate (q - p) k plus-zero nan m))
-
 -- one element more is copied
 pub copied-more : (to from : List Float) (i : ℕ) → i < length to → ((k : ℕ) → k < i → getD to k nan ≡ getD from k nan)
     → (k : ℕ) → k < i + 1 → getD (set to i (getD from i nan)) k nan ≡ getD from k nan
