@@ -5,3 +5,4 @@ pub mod LowerOnly
 pub mod OneList
 pub mod Identity
 pub mod FiniteSolve
+pub mod Forms

@@ -1,4 +1,6 @@
 // Cholesky's factor of a symmetric matrix, and the solves with it, in place on lent slices.
+pub mod exchange;
+
 use matrix::View;
 use root::Pivot;
 ghost use mathlib.Core.Path.{_≡_};

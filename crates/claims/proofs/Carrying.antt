@@ -20,7 +20,8 @@ use Rattle.schedule.specs.Plan as lists
 use Rattle.schedule.proofs.Counts.{hit-same}
 use Rattle.workspace.specs.Frames.{work-numbers}
 use Rattle.gaussian.specs.Elimination as gaussian
-use Rattle.gaussian.specs.Marginals.{Moments, moments, noPivot, noNumber, momentsOf}
+use Rattle.cholesky.specs.Forms.{Form, form, noPivot, noNumber}
+use Rattle.gaussian.specs.Marginals.{momentsOf}
 use Rattle.messages.specs.Values.{values, Stop, none, stopped, stopFrom, finished, overlaid}
 use Rattle.solver.specs.Plan.{graphPlan}
 use Rattle.marginals.specs.Marginals.{marginalNumbers, twice, Found, found, missing, foundBy, foundIn, marginal, marginalsFrom, missingFrom, marginalsIn}
@@ -76,9 +77,9 @@ stop-other i (gaussian.pivot ∷ vs) = λ e. omega arith
 stop-other i (gaussian.unbounded ∷ vs) = λ e. omega arith
 stop-other i (gaussian.message r a xi w ∷ vs) = stop-other (i + 1) vs
 
-by-other : (m : Moments) → OtherFound (foundBy m)
+by-other : (m : Form) → OtherFound (foundBy m)
 unfolding foundBy OtherFound
-by-other (moments mean covariance) = tt
+by-other (form mean covariance) = tt
 by-other noPivot = λ e. omega arith
 by-other noNumber = λ e. omega arith
 

@@ -2,9 +2,7 @@
 pub mod Counting
 pub mod Laying
 pub mod Blocks
-pub mod Weighing
 pub mod Storing
 pub mod Fitting
-pub mod Witness
 pub mod KeyOrder
 pub mod Telling

@@ -1,40 +1,42 @@
--- What a store holds after a factor's numbers are weighed. Assumes nothing.
+-- What a store holds after a factor's numbers are stored. Assumes nothing.
 use Prim.Native.Nat.{ℕ, _+_, _*_, _≤_}
-use mathlib.Core.Path.{_≡_, refl, sym, ap, _∙_}
+use mathlib.Core.Path.{_≡_, refl, sym, _∙_}
 use mathlib.Core.List.{List, _++_}
 use native.Mathlib.Omega.{arith}
 use lib.Ieee.{Float}
 use lib.ListN.{length, length-append}
 use Rattle.factor.specs.Factor.{lay}
-use Rattle.factor.specs.Weighing.{Room, weighed, told, answerOf, laid}
-use Rattle.factor.specs.declared.Weighed.{Weighed}
-use Rattle.factor.specs.declared.Weighed.the-variants.{Done, Pivot, Unbounded}
-use Rattle.factor.proofs.Laying.{lay-whole, lay-lay}
+use Rattle.cholesky.specs.Forms.{exchanged, told, endOf}
+use Rattle.cholesky.specs.declared.exchange.Exchanged.{Exchanged}
+use Rattle.cholesky.specs.declared.exchange.Exchanged.the-variants.{Done, Pivot, Unbounded}
+use Rattle.factor.specs.Storing.{Room, laid}
+use Rattle.factor.proofs.Laying.{lay-whole, two-laid}
 
 -- A, xi and W laid one after the other
 three : (st a xi w s₁ s₂ s₃ : List Float) (at n : ℕ) → at ≤ length st → length xi ≡ n → s₁ ≡ lay st at a → s₂ ≡ lay s₁ (at + length a) xi → s₃ ≡ lay s₂ (at + length a + n) w
     → s₃ ≡ lay st at (a ++ xi ++ w)
 three st a xi w s₁ s₂ s₃ at n l x e₁ e₂ e₃ =
-    let two : s₂ ≡ lay st at (a ++ xi) = rw (e₂, e₁) (lay-lay st a xi at (at + length a) l refl) in
-    let p : at + length a + n ≡ at + length (a ++ xi) = omega (arith, length-append a xi) in
-    e₃ ∙ ap (λ (s : List Float). lay s (at + length a + n) w) two ∙ lay-lay st (a ++ xi) w at (at + length a + n) l p
+    two-laid st (a ++ xi) at l w s₂ s₃ (at + length a + n) (omega (arith, length-append a xi)) (two-laid st a at l xi s₁ s₂ (at + length a) refl e₁ e₂) e₃
 
-module _ (n at : ℕ) (a mean variance store l₀ xi₀ l₁ xi₁ xi₂ w₂ : List Float) (r : Weighed) (room : Room n at a mean variance store) (nl : length l₀ ≡ n * n) (nx : length xi₀ ≡ n)
-    (el : l₁ ≡ lay l₀ 0 variance) (ex : xi₁ ≡ lay xi₀ 0 mean) (ew : weighed n xi₁ l₁ ≡ told r xi₂ w₂) where
-  came : weighed n mean variance ≡ told r xi₂ w₂
+module _ (n at : ℕ) (a mean variance store l₀ xi₀ l₁ xi₁ xi₂ w₂ : List Float) (r : Exchanged) (room : Room n at a mean variance store) (nl : length l₀ ≡ n * n) (nx : length xi₀ ≡ n)
+    (el : l₁ ≡ lay l₀ 0 variance) (ex : xi₁ ≡ lay xi₀ 0 mean) (ew : exchanged n xi₁ l₁ ≡ told r xi₂ w₂) where
+  came : exchanged n mean variance ≡ told r xi₂ w₂
   came =
       let m : xi₁ ≡ mean = ex ∙ lay-whole xi₀ mean (room .of-mean ∙ sym nx) in
       let v : l₁ ≡ variance = el ∙ lay-whole l₀ variance (room .of-variance ∙ sym nl) in
       rw (m, v) at ew
 
-  pub at-pivot : r ≡ Pivot → (Pivot ≡ answerOf (weighed n mean variance)) × (store ≡ laid (weighed n mean variance) a store at)
+  pub at-pivot : r ≡ Pivot → (Pivot ≡ endOf (exchanged n mean variance)) × (store ≡ laid (exchanged n mean variance) a store at)
+  unfolding told endOf
   at-pivot p = let e = came in rw (e, p) (refl, refl)
 
-  pub at-overflow : r ≡ Unbounded → (Unbounded ≡ answerOf (weighed n mean variance)) × (store ≡ laid (weighed n mean variance) a store at)
+  pub at-overflow : r ≡ Unbounded → (Unbounded ≡ endOf (exchanged n mean variance)) × (store ≡ laid (exchanged n mean variance) a store at)
+  unfolding told endOf
   at-overflow p = let e = came in rw (e, p) (refl, refl)
 
   pub when-done : r ≡ Done → (s₁ s₂ s₃ : List Float) → length xi₂ ≡ n → s₁ ≡ lay store at a → s₂ ≡ lay s₁ (at + length a) xi₂ → s₃ ≡ lay s₂ (at + length a + n) w₂
-      → (Done ≡ answerOf (weighed n mean variance)) × (s₃ ≡ laid (weighed n mean variance) a store at)
+      → (Done ≡ endOf (exchanged n mean variance)) × (s₃ ≡ laid (exchanged n mean variance) a store at)
+  unfolding told endOf
   when-done p s₁ s₂ s₃ x e₁ e₂ e₃ =
       let e = came in
       let t : s₃ ≡ lay store at (a ++ xi₂ ++ w₂) = three store a xi₂ w₂ s₁ s₂ s₃ at n (omega (arith, room .room)) x e₁ e₂ e₃ in

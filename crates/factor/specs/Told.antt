@@ -1,9 +1,9 @@
 -- What an answer tells in the numbers of document 01, whatever its enum is. Definitions only.
 use mathlib.Core.List.{List, []}
 use Prim.Native.Nat.{ℕ}
-use Rattle.factor.specs.Weighing.{Weight, weight, noPivot, noNumber}
-use Rattle.factor.specs.declared.Weighed.{Weighed}
-use Rattle.factor.specs.declared.Weighed.the-variants.{Done, Pivot, Unbounded}
+use Rattle.cholesky.specs.Forms.{Form, form, noPivot, noNumber}
+use Rattle.cholesky.specs.declared.exchange.Exchanged.{Exchanged}
+use Rattle.cholesky.specs.declared.exchange.Exchanged.the-variants.{Done, Pivot, Unbounded}
 
 -- `value`: no refusal, and the whole numbers that the answer gives, in the document's order. `refusal`: its number, and the numbers that come with it.
 pub data Told : Type 0 where
@@ -13,13 +13,13 @@ pub data Told : Type 0 where
 -- ---- a factor's numbers: 7 is a variance with a refused pivot, 6 a number computed that is not finite
 
 -- of the code's answer
-unfoldable pub weighedTold : Weighed → Told
+unfoldable pub weighedTold : Exchanged → Told
 weighedTold Done = value []
 weighedTold Pivot = refusal 7 []
 weighedTold Unbounded = refusal 6 []
 
 -- of what a mean and a variance come to
-unfoldable pub weightTold : Weight → Told
-weightTold (weight xi w) = value []
+unfoldable pub weightTold : Form → Told
+weightTold (form xi w) = value []
 weightTold noPivot = refusal 7 []
 weightTold noNumber = refusal 6 []

@@ -1,19 +1,20 @@
 // A factor of the graph: its record, the layout of its blocks, and the numbers that are stored for it.
 pub mod limits;
 
-use cholesky::Factored;
+use cholesky::exchange::Exchanged;
+use cholesky::exchange::exchange;
 use limits::KEYS;
 use limits::ROWS;
 use limits::SQUARE;
 use limits::VARIABLES;
-use matrix::View;
 ghost use mathlib.Core.Path.{_≡_};
 ghost use mathlib.Core.Bool.{true};
 ghost use Prim.Native.Nat.{_+_, _*_, _<_, _≤_};
 ghost use lib.ListN.{length};
 ghost use Rattle.factor.specs.Limits.{max-keys, max-variables, most-numbers};
 ghost use Rattle.factor.specs.Factor as spec;
-ghost use Rattle.factor.specs.Weighing.{Lent, Room, weighed, told, answerOf, laid};
+ghost use Rattle.cholesky.specs.Forms.{Lent, exchanged, endOf};
+ghost use Rattle.factor.specs.Storing.{Room, laid};
 ghost use Rattle.factor.specs.Told.{weighedTold, weightTold};
 
 // A prior or an observation: its keys stand in the first places, rising, and unused places are 0. A prior has one key and that key's size as rows.
@@ -28,13 +29,6 @@ pub struct Factor {
 pub enum Found {
     Block(usize, usize),
     Absent,
-}
-
-// How the weighing of a mean by its variance ended: with numbers, at a refused pivot, or with a number that isn't finite.
-pub enum Weighed {
-    Done,
-    Pivot,
-    Unbounded,
 }
 
 fn wide(x: u8) -> usize
@@ -290,30 +284,6 @@ impl Factor {
     }
 }
 
-// The mean in xi becomes the solve of it, the zeros in w become the inverse of the variance in l, and l its Cholesky factor.
-fn weigh(l: &mut [f64], n: usize, xi: &mut [f64], w: &mut [f64]) -> Weighed
-    requires { ⌜ Lent n (now l) (now xi) (now w) ⌝ }
-    ensures { λ r. ⌜ weighed n (now (xi .entry)) (now (l .entry)) ≡ told r (now (xi .exit)) (now (w .exit)) ⌝ }
-{
-    let v = View {
-        at: 0,
-        down: 1,
-        across: n,
-    };
-    let Factored::Done = cholesky::cholesky(l, v, n) else {
-        return Weighed::Pivot;
-    };
-    cholesky::solve(&l[..], v, n, xi, v, 0);
-    cholesky::inverse(&l[..], v, n, w, v);
-    if !matrix::finite(&xi[..]) {
-        return Weighed::Unbounded;
-    }
-    if !matrix::finite(&w[..]) {
-        return Weighed::Unbounded;
-    }
-    Weighed::Done
-}
-
 // Stores A, xi and W of a mean and a variance of n rows from a place on, by way of the working slices. The store is touched only when all numbers are there.
 fn store_by(
     store: &mut [f64],
@@ -325,25 +295,25 @@ fn store_by(
     l: &mut [f64],
     xi: &mut [f64],
     w: &mut [f64],
-) -> Weighed
+) -> Exchanged
     requires { ⌜ Room n at (now a) (now mean) (now variance) (now store) ⌝ }
     requires { ⌜ Lent n (now l) (now xi) (now w) ⌝ }
-    ensures { λ r. ⌜ r ≡ answerOf (weighed n (now (mean .entry)) (now (variance .entry))) ⌝ }
-    ensures { λ _. ⌜ now (store .exit) ≡ laid (weighed n (now (mean .entry)) (now (variance .entry))) (now (a .entry)) (now (store .entry)) at ⌝ }
+    ensures { λ r. ⌜ r ≡ endOf (exchanged n (now (mean .entry)) (now (variance .entry))) ⌝ }
+    ensures { λ _. ⌜ now (store .exit) ≡ laid (exchanged n (now (mean .entry)) (now (variance .entry))) (now (a .entry)) (now (store .entry)) at ⌝ }
 {
     copy_in(l, 0, variance);
     copy_in(xi, 0, mean);
-    match weigh(l, n, xi, w) {
-        Weighed::Done => {}
-        Weighed::Pivot => return Weighed::Pivot,
-        Weighed::Unbounded => return Weighed::Unbounded,
+    match exchange(l, n, xi, w) {
+        Exchanged::Done => {}
+        Exchanged::Pivot => return Exchanged::Pivot,
+        Exchanged::Unbounded => return Exchanged::Unbounded,
     }
     let second = at + a.len();
     let third = second + n;
     copy_in(store, at, a);
     copy_in(store, second, &xi[..]);
     copy_in(store, third, &w[..]);
-    Weighed::Done
+    Exchanged::Done
 }
 
 // The same with working slices of its own.
@@ -354,11 +324,11 @@ pub fn store_factor(
     mean: &[f64],
     variance: &[f64],
     n: usize,
-) -> Weighed
+) -> Exchanged
     requires { ⌜ Room n at (now a) (now mean) (now variance) (now store) ⌝ }
-    ensures { λ r. ⌜ r ≡ answerOf (weighed n (now (mean .entry)) (now (variance .entry))) ⌝ }
-    ensures { λ _. ⌜ now (store .exit) ≡ laid (weighed n (now (mean .entry)) (now (variance .entry))) (now (a .entry)) (now (store .entry)) at ⌝ }
-    ensures { λ r. ⌜ weighedTold r ≡ weightTold (weighed n (now (mean .entry)) (now (variance .entry))) ⌝ }
+    ensures { λ r. ⌜ r ≡ endOf (exchanged n (now (mean .entry)) (now (variance .entry))) ⌝ }
+    ensures { λ _. ⌜ now (store .exit) ≡ laid (exchanged n (now (mean .entry)) (now (variance .entry))) (now (a .entry)) (now (store .entry)) at ⌝ }
+    ensures { λ r. ⌜ weighedTold r ≡ weightTold (exchanged n (now (mean .entry)) (now (variance .entry))) ⌝ }
 {
     let square = n * n;
     let mut l = [0.0; SQUARE];

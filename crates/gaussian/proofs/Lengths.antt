@@ -15,7 +15,7 @@ use Rattle.matrix.specs.Triangles.{filledDiagonal, filledUpper, filledColumn}
 use Rattle.matrix.specs.declared.View.{View}
 use Rattle.matrix.specs.declared.Update.{Update}
 use Rattle.matrix.proofs.Dense.{product-length}
-use Rattle.matrix.proofs.Entries.{steps-length, block-length}
+use Rattle.matrix.proofs.Entries.{steps-length, sweep-length, block-length}
 use Rattle.cholesky.specs.Factor.{Left, whole, stuck}
 use Rattle.workspace.specs.Blocks.{stamp, stampEntry}
 use Rattle.workspace.specs.Sums.{Sums, change, turns}
@@ -23,7 +23,6 @@ use Rattle.workspace.specs.Frames.{frameOf}
 use Rattle.workspace.specs.declared.Frame.{Frame}
 use Rattle.workspace.specs.declared.Part.{Part}
 use Rattle.workspace.specs.declared.Part.the-variants.{S, H, G, A, Xi, W}
-use Rattle.workspace.proofs.Parts.{sweep-length}
 use Rattle.slots.specs.Layouts.{dimOf, layoutOf, find}
 use Rattle.slots.specs.Views.{FactorView, prior, likelihood, rowsOfAll, withProduct, withProducts, withOwn, withKey, withKeys, withRows, withPrior, withView, withViews}
 use Rattle.slots.specs.declared.layout.Layout.{Layout}

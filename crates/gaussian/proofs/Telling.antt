@@ -5,11 +5,12 @@ use mathlib.Core.List.{List}
 use lib.Ieee.{Float}
 use Rattle.gaussian.specs.Elimination.{Outcome, pivot, unbounded, message}
 use Rattle.gaussian.specs.Answers.{answer, stored}
-use Rattle.gaussian.specs.Marginals.{Moments, moments, noPivot, noNumber, momentsOf, momentsIn, told, refusedAs, answerOf, marginalOf, marginalFrom}
+use Rattle.cholesky.specs.Forms.{Form, form, noPivot, noNumber, told}
+use Rattle.cholesky.specs.declared.exchange.Exchanged.{Exchanged}
+use Rattle.cholesky.specs.declared.exchange.Exchanged.the-variants as exchanged
+use Rattle.gaussian.specs.Marginals.{momentsOf, momentsIn, refusedAs, answerOf, marginalOf, marginalFrom}
 use Rattle.gaussian.specs.Told.{eliminatedTold, solvedTold, endingTold, outcomeTold, momentsTold, lastTold}
 use Rattle.gaussian.specs.declared.Eliminated.{Eliminated}
-use Rattle.gaussian.specs.declared.marginal.Solved.{Solved}
-use Rattle.gaussian.specs.declared.marginal.Solved.the-variants as ended
 use Rattle.gaussian.specs.declared.marginal.Answer.{Answer}
 
 -- an elimination's answer with the message store, and what the answer tells
@@ -24,19 +25,19 @@ stored-tells r o l s to (e, h) = (e, (h, ap eliminatedTold e ∙ go o))
     go unbounded = refl
 
 -- the solving for a mean and a covariance
-pub solved-tells : (m : Moments) (r : Solved) (mean covariance : List Float) → m ≡ told r mean covariance → (m ≡ told r mean covariance) × (solvedTold r ≡ momentsTold m)
+pub solved-tells : (m : Form) (r : Exchanged) (mean covariance : List Float) → m ≡ told r mean covariance → (m ≡ told r mean covariance) × (solvedTold r ≡ momentsTold m)
 unfolding told solvedTold momentsTold
 solved-tells m r mean covariance e = (e, go r ∙ sym (ap momentsTold e))
   where
-    go : (r : Solved) → solvedTold r ≡ momentsTold (told r mean covariance)
-    go ended.Done = refl
-    go ended.Pivot = refl
-    go ended.Unbounded = refl
+    go : (r : Exchanged) → solvedTold r ≡ momentsTold (told r mean covariance)
+    go exchanged.Done = refl
+    go exchanged.Pivot = refl
+    go exchanged.Unbounded = refl
 
 -- a marginal from what its message comes to
-by-moments : (key s : ℕ) (m : Moments) → endingTold (answerOf key s m .ending) ≡ momentsTold m
+by-moments : (key s : ℕ) (m : Form) → endingTold (answerOf key s m .ending) ≡ momentsTold m
 unfolding answerOf refusedAs endingTold momentsTold
-by-moments key s (moments mean covariance) = refl
+by-moments key s (form mean covariance) = refl
 by-moments key s noPivot = refl
 by-moments key s noNumber = refl
 

@@ -1,7 +1,8 @@
 // The marginal of a key, from the message over that key alone.
 use crate::Eliminated;
 use crate::eliminate_in;
-use cholesky::Factored;
+use cholesky::exchange::Exchanged;
+use cholesky::exchange::exchange;
 use factor::limits::SIZE;
 use factor::limits::VARIABLES;
 use matrix::Update;
@@ -14,12 +15,13 @@ ghost use mathlib.Core.List.{[], _∷_};
 ghost use Prim.Native.Nat.{_+_, _*_, _≤_};
 ghost use lib.ListN.{length, getD, replicate};
 ghost use Rattle.matrix.specs.Sums.{plus-zero};
+ghost use Rattle.cholesky.specs.Forms.{told};
 ghost use Rattle.factor.specs.Limits.{max-size, max-total};
 ghost use Rattle.slots.specs.Tables.{numbersOf};
 ghost use Rattle.gaussian.specs.Elimination.{eliminate};
 ghost use Rattle.gaussian.specs.Answers.{viewsOf};
 ghost use Rattle.gaussian.specs.Asked.{Asked};
-ghost use Rattle.gaussian.specs.Marginals.{solvedMoments, momentsOf, momentsIn, told, Lent, refusedAs, marginalOf, marginalFrom};
+ghost use Rattle.gaussian.specs.Marginals.{momentsOf, momentsIn, refusedAs, marginalOf, marginalFrom};
 ghost use Rattle.gaussian.specs.Told.{solvedTold, endingTold, momentsTold, lastTold};
 
 // The numbers of a matrix of as many rows and columns as the largest variable has.
@@ -31,13 +33,6 @@ pub struct Marginal {
     pub size: usize,
     pub mean: [f64; SIZE],
     pub covariance: [f64; SQUARE],
-}
-
-// How the solving for a mean and a covariance ended: with numbers, at a refused pivot, or with a number that is not finite.
-pub enum Solved {
-    Done,
-    Pivot,
-    Unbounded,
 }
 
 // How the making of a marginal ended: with numbers, at a refused pivot of the cleared block or of the message's own W, or with a number that is not finite.
@@ -54,31 +49,6 @@ pub struct Answer {
     pub marginal: Marginal,
 }
 
-// The xi in mean becomes the mean, the zeros in covariance the covariance, and the W in l its Cholesky factor.
-fn solve_moments(l: &mut [f64], s: usize, mean: &mut [f64], covariance: &mut [f64]) -> Solved
-    requires { ⌜ Lent s (now mean) (now l) ⌝ }
-    requires { ⌜ now covariance ≡ replicate (s * s) plus-zero ⌝ }
-    ensures { λ r. ⌜ solvedMoments s (now (mean .entry)) (now (l .entry)) ≡ told r (now (mean .exit)) (now (covariance .exit)) ⌝ }
-{
-    let v = View {
-        at: 0,
-        down: 1,
-        across: s,
-    };
-    let Factored::Done = cholesky::cholesky(l, v, s) else {
-        return Solved::Pivot;
-    };
-    cholesky::solve(&l[..], v, s, mean, v, 0);
-    cholesky::inverse(&l[..], v, s, covariance, v);
-    if !matrix::finite(&mean[..]) {
-        return Solved::Unbounded;
-    }
-    if !matrix::finite(&covariance[..]) {
-        return Solved::Unbounded;
-    }
-    Solved::Done
-}
-
 // The mean and the covariance of a message of y rows over s columns. The slices lent hold zeros; t takes W times A.
 fn moments(
     a: &[f64],
@@ -90,7 +60,7 @@ fn moments(
     l: &mut [f64],
     covariance: &mut [f64],
     t: &mut [f64],
-) -> Solved
+) -> Exchanged
     requires { ⌜ (y * s ≤ length (now a)) × (y ≤ length (now xi)) × (y * y ≤ length (now w)) × (y * s ≤ length (now t)) × (s ≤ max-size) ⌝ }
     requires { ⌜ (now mean ≡ replicate s plus-zero) × (now l ≡ replicate (s * s) plus-zero) × (now covariance ≡ replicate (s * s) plus-zero) ⌝ }
     ensures { λ r. ⌜ momentsOf y s (now (a .entry)) (now (xi .entry)) (now (w .entry)) ≡ told r (now (mean .exit)) (now (covariance .exit)) ⌝ }
@@ -108,7 +78,7 @@ fn moments(
     };
     matrix::gemv_tr(mean, square, s, Update::Add, a, tall, xi, tall, y);
     matrix::quadform(l, square, s, w, tall, a, tall, y, t);
-    solve_moments(l, s, mean, covariance)
+    exchange(l, s, mean, covariance)
 }
 
 // The answer of a refusal.
@@ -153,9 +123,9 @@ impl Marginal {
             &mut covariance[0..square],
             &mut t,
         ) {
-            Solved::Done => {}
-            Solved::Pivot => return refused(key, size, Ending::Pivot),
-            Solved::Unbounded => return refused(key, size, Ending::Unbounded),
+            Exchanged::Done => {}
+            Exchanged::Pivot => return refused(key, size, Ending::Pivot),
+            Exchanged::Unbounded => return refused(key, size, Ending::Unbounded),
         }
         Answer {
             ending: Ending::Done,

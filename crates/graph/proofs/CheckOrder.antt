@@ -9,9 +9,10 @@ use lib.Ieee.{Float}
 use lib.ListN.{length}
 use Rattle.factor.specs.Limits.{max-factors, max-rows}
 use Rattle.factor.specs.Factor.{aNumbers, numbers, lengthsFit, givenFinite}
-use Rattle.factor.specs.Weighing.{Weight, weight, noPivot, noNumber, weighed, answerOf, laid, Room}
+use Rattle.cholesky.specs.Forms.{Form, form, noPivot, noNumber, exchanged, endOf}
+use Rattle.factor.specs.Storing.{laid, Room}
 use Rattle.factor.specs.declared.Factor.{Factor}
-use Rattle.factor.specs.declared.Weighed.the-variants.{Done, Pivot, Unbounded}
+use Rattle.cholesky.specs.declared.exchange.Exchanged.the-variants.{Done, Pivot, Unbounded}
 use Rattle.factor.proofs.Counting.{every-at}
 use Rattle.graph.specs.Record.{offset}
 use Rattle.graph.specs.Registration.{Verdict, refuse, refused, withFactor, settle, stored, weighedVerdict, factorVerdict}
@@ -73,32 +74,35 @@ module _ (g : Graph) (f : Factor) (a mean variance store : List Float) where
             record { rows = omega (arith, mean-long); of-mean = refl; of-variance = e; room = omega (arith, a-long, mean-long) }
 
         module _ (h6 : givenFinite a mean variance ≡ true) where
-          weighs : checks ≡ weighedVerdict a (weighed (length mean) mean variance)
+          weighs : checks ≡ weighedVerdict a (exchanged (length mean) mean variance)
           unfolding factorVerdict
-          weighs = rw (h5, lt-ltb _ _ h12, le-leb _ _ long, h6) (ap (λ (y : ℕ). weighedVerdict a (weighed y mean variance)) (sym mean-long))
+          weighs = rw (h5, lt-ltb _ _ h12, le-leb _ _ long, h6) (ap (λ (y : ℕ). weighedVerdict a (exchanged y mean variance)) (sym mean-long))
 
-          module _ (s : List Float) (el : s ≡ laid (weighed (length mean) mean variance) a store start) where
-            pub at-pivot : Pivot ≡ answerOf (weighed (length mean) mean variance) → (checks ≡ refuse VariancePivot) × (s ≡ store)
-            at-pivot e = go (weighed (length mean) mean variance) weighs el e
+          module _ (s : List Float) (el : s ≡ laid (exchanged (length mean) mean variance) a store start) where
+            pub at-pivot : Pivot ≡ endOf (exchanged (length mean) mean variance) → (checks ≡ refuse VariancePivot) × (s ≡ store)
+            unfolding endOf
+            at-pivot e = go (exchanged (length mean) mean variance) weighs el e
               where
-                go : (w : Weight) → checks ≡ weighedVerdict a w → s ≡ laid w a store start → Pivot ≡ answerOf w → (checks ≡ refuse VariancePivot) × (s ≡ store)
-                go (weight xi w) c l p = absurd (let z : _≡_ {A = ℕ} 0 1 = cc in omega arith)
+                go : (w : Form) → checks ≡ weighedVerdict a w → s ≡ laid w a store start → Pivot ≡ endOf w → (checks ≡ refuse VariancePivot) × (s ≡ store)
+                go (form xi w) c l p = absurd (let z : _≡_ {A = ℕ} 0 1 = cc in omega arith)
                 go noPivot c l p = (c, l)
                 go noNumber c l p = absurd (let z : _≡_ {A = ℕ} 0 1 = cc in omega arith)
 
-            pub at-overflow : Unbounded ≡ answerOf (weighed (length mean) mean variance) → (checks ≡ refuse NotFinite) × (s ≡ store)
-            at-overflow e = go (weighed (length mean) mean variance) weighs el e
+            pub at-overflow : Unbounded ≡ endOf (exchanged (length mean) mean variance) → (checks ≡ refuse NotFinite) × (s ≡ store)
+            unfolding endOf
+            at-overflow e = go (exchanged (length mean) mean variance) weighs el e
               where
-                go : (w : Weight) → checks ≡ weighedVerdict a w → s ≡ laid w a store start → Unbounded ≡ answerOf w → (checks ≡ refuse NotFinite) × (s ≡ store)
-                go (weight xi w) c l p = absurd (let z : _≡_ {A = ℕ} 0 1 = cc in omega arith)
+                go : (w : Form) → checks ≡ weighedVerdict a w → s ≡ laid w a store start → Unbounded ≡ endOf w → (checks ≡ refuse NotFinite) × (s ≡ store)
+                go (form xi w) c l p = absurd (let z : _≡_ {A = ℕ} 0 1 = cc in omega arith)
                 go noPivot c l p = absurd (let z : _≡_ {A = ℕ} 0 1 = cc in omega arith)
                 go noNumber c l p = (c, l)
 
-            pub taken : Done ≡ answerOf (weighed (length mean) mean variance) → (_≡_ {A = Added} record { graph = withFactor g f; outcome = Number (g .count) } (settle g f checks)) × (s ≡ stored g store checks)
-            taken e = go (weighed (length mean) mean variance) weighs el e
+            pub taken : Done ≡ endOf (exchanged (length mean) mean variance) → (_≡_ {A = Added} record { graph = withFactor g f; outcome = Number (g .count) } (settle g f checks)) × (s ≡ stored g store checks)
+            unfolding endOf
+            taken e = go (exchanged (length mean) mean variance) weighs el e
               where
-                go : (w : Weight) → checks ≡ weighedVerdict a w → s ≡ laid w a store start → Done ≡ answerOf w
+                go : (w : Form) → checks ≡ weighedVerdict a w → s ≡ laid w a store start → Done ≡ endOf w
                     → (_≡_ {A = Added} record { graph = withFactor g f; outcome = Number (g .count) } (settle g f checks)) × (s ≡ stored g store checks)
-                go (weight xi w) c l p = rw (c, ← es) (refl, l)
+                go (form xi w) c l p = rw (c, ← es) (refl, l)
                 go noPivot c l p = absurd (let z : _≡_ {A = ℕ} 0 1 = cc in omega arith)
                 go noNumber c l p = absurd (let z : _≡_ {A = ℕ} 0 1 = cc in omega arith)

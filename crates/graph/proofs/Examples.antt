@@ -11,7 +11,7 @@ use Rattle.cholesky.specs.Factor.{pivotOf, reduced, below, rooted, column, fact
 use Rattle.cholesky.specs.Solve.{solvedRow, solveLower, solveUpper, solved, unitColumn, inverted}
 use Rattle.factor.specs.Counting.{every, all, sum}
 use Rattle.factor.specs.Factor.{observationOf, above, isClear, firstColumn, aNumbers, numbers, lengthsFit, givenFinite}
-use Rattle.factor.specs.Weighing.{bounded, weighedBy, weighed}
+use Rattle.cholesky.specs.Forms.{bounded, exchangedBy, exchanged}
 use Rattle.factor.specs.Told.{value, refusal}
 use Rattle.graph.specs.Record.{fresh, scalar, sizeFits, same, free, total, registered, clear, place, variablesFit, factorPlace, factorsFit, offset, valid}
 use Rattle.graph.specs.Registration.{refused, settle, Verdict, refuse, addVariable, factorVerdict, priorVerdict, addPrior, priorStore, countsFit, observationVerdict, addObservation, observationStore}
@@ -57,7 +57,7 @@ name-taken-told = refl
 
 -- the verdicts on calls with that graph, opened for computing
 unfoldable on-prior : List Float → List Float → List Float → Verdict
-unfolding pair priorVerdict factorVerdict lengthsFit givenFinite aNumbers numbers offset allFinite weighed weighedBy bounded factor column rooted below reduced pivotOf rootOf solved solveLower solveUpper solvedRow inverted unitColumn steps sweep deductOf deduct ofBits sub mul div
+unfolding pair priorVerdict factorVerdict lengthsFit givenFinite aNumbers numbers offset allFinite exchanged exchangedBy bounded factor column rooted below reduced pivotOf rootOf solved solveLower solveUpper solvedRow inverted unitColumn steps sweep deductOf deduct ofBits sub mul div
 on-prior mean variance store = priorVerdict pair 0 mean variance store
 
 unfoldable on-observation : List ℕ → List Float → List Float → List Float → List Float → Verdict

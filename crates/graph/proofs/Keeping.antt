@@ -13,7 +13,7 @@ use lib.Seq.{getD-set-same, getD-set-other}
 use Rattle.factor.specs.Limits.{max-variables, max-total, max-factors, max-keys}
 use Rattle.factor.specs.Counting.{every, all, sum}
 use Rattle.factor.specs.Factor.{rising, known, noFactor, past, priorOf, observationOf, fits, isClear, lengthsFit, givenFinite, numbers}
-use Rattle.factor.specs.Weighing.{Weight, weight, noPivot, noNumber, weighed}
+use Rattle.cholesky.specs.Forms.{Form, form, noPivot, noNumber, exchanged}
 use Rattle.factor.specs.declared.Factor.{Factor}
 use Rattle.factor.proofs.Counting.{every-at, every-3, every-5, by-test, all-of, all-ext, sum-put}
 use Rattle.factor.proofs.Fitting.{fits-more, prior-fits, observation-fits, observation-long}
@@ -232,8 +232,8 @@ module _ (g : Graph) (ok : Good g) where
       P x = Good (x .graph)
 
   module _ (f : Factor) (fit : fits (g .sizes) (g .variables) f ≡ true) (long : length (f .keys) ≡ max-keys) where
-    weighed-good : g .count < max-factors → (a : List Float) (w : Weight) → Good (settle g f (weighedVerdict a w) .graph)
-    weighed-good l a (weight xi w) = (factor-shaped g (ok .0) so f l fit long, valid-of _ (factor-sound g (ok .0) so f l fit long))
+    weighed-good : g .count < max-factors → (a : List Float) (w : Form) → Good (settle g f (weighedVerdict a w) .graph)
+    weighed-good l a (form xi w) = (factor-shaped g (ok .0) so f l fit long, valid-of _ (factor-sound g (ok .0) so f l fit long))
     weighed-good l a noPivot = ok
     weighed-good l a noNumber = ok
 
@@ -244,7 +244,7 @@ module _ (g : Graph) (ok : Good g) where
         (λ h5. case P (ltb (g .count) max-factors) _ _
         (λ h12. case P (leb (offset g (g .count) + numbers (g .sizes) f) (length store)) _ _
         (λ h13. case P (givenFinite a mean variance) _ _
-        (λ h6. weighed-good (ltb-true _ _ h12) a (weighed (f .rows) mean variance))
+        (λ h6. weighed-good (ltb-true _ _ h12) a (exchanged (f .rows) mean variance))
         (λ _. ok)) (λ _. ok)) (λ _. ok)) (λ _. ok)
       where
         P : Verdict → Type 0

@@ -17,7 +17,7 @@ use Rattle.factor.specs.Counting.{every}
 use Rattle.factor.specs.Factor.{rising, known, priorOf, observationOf, aNumbers, numbers, lengthsFit, givenFinite}
 use Rattle.factor.specs.declared.Factor.{Factor}
 use Rattle.factor.proofs.Counting.{every-3}
-use Rattle.factor.proofs.Witness.{identity-weighed}
+use Rattle.cholesky.proofs.Forms.{identity-exchanged}
 use Rattle.graph.specs.Record.{sizeAt, scalar, sizeFits, free, total, offset, valid}
 use Rattle.graph.specs.Registration.{withVariable, addVariable, Verdict, accept, withFactor, settle, weighedVerdict, factorVerdict, priorVerdict, addPrior, countsFit, observationVerdict, addObservation}
 use Rattle.graph.specs.Reached.{Call, variable, prior, observation, after}
@@ -61,7 +61,7 @@ module _ (g : Graph) (f : Factor) (h12 : g .count < max-factors) (a : List Float
 
   factor-passes : factorVerdict g f a (zeros (f .rows)) (identityOf (f .rows)) (room g f) ≡ accept (a ++ zeros (f .rows) ++ identityOf (f .rows))
   unfolding factorVerdict
-  factor-passes = simp (lengths, lt-ltb _ _ h12, fitting, given) (ap (weighedVerdict a) (identity-weighed (f .rows)))
+  factor-passes = simp (lengths, lt-ltb _ _ h12, fitting, given) (ap (weighedVerdict a) (identity-exchanged (f .rows)))
 
 -- ---- a prior
 

@@ -4,7 +4,7 @@ use mathlib.Core.Path.{_≡_, refl, ap, _∙_}
 use mathlib.Core.List.{List}
 use lib.Ieee.{Float}
 use Rattle.factor.specs.Factor.{priorOf, observationOf}
-use Rattle.factor.specs.Weighing.{noPivot, noNumber}
+use Rattle.cholesky.specs.Forms.{noPivot, noNumber}
 use Rattle.factor.specs.Told.{weightTold}
 use Rattle.factor.specs.declared.Factor.{Factor}
 use Rattle.graph.specs.Record.{sizeAt}
@@ -37,7 +37,7 @@ pub observation-tells : (g : Graph) (keys : List ℕ) (rows : ℕ) (a mean varia
 unfolding addObservation
 observation-tells g keys rows a mean variance store s r (e, h) = (e, (h, settled g (observationOf keys rows) (observationVerdict g keys rows a mean variance store) r e))
 
--- the numbers with which `factor` tells that a mean and a variance don't weigh are those of the refusals here
+-- the numbers with which `factor` tells that a mean and a variance have no other form are those of the refusals here
 pub weighing-tells : (g : Graph) (a : List Float) → (verdictTold g (weighedVerdict a noPivot) ≡ weightTold noPivot) × (verdictTold g (weighedVerdict a noNumber) ≡ weightTold noNumber)
 unfolding verdictTold weightTold
 weighing-tells g a = (refl, refl)

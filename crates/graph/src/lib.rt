@@ -6,8 +6,8 @@ use checks::counts_fit;
 use checks::same;
 use checks::scalar;
 use checks::size_fits;
+use cholesky::exchange::Exchanged;
 use factor::Factor;
-use factor::Weighed;
 use factor::limits::FACTORS;
 use factor::limits::KEYS;
 use factor::limits::TOTAL;
@@ -293,9 +293,9 @@ impl Graph {
             return self.refused(Refusal::NotFinite);
         }
         match factor::store_factor(store, start, a, mean, variance, mean.len()) {
-            Weighed::Done => {}
-            Weighed::Pivot => return self.refused(Refusal::VariancePivot),
-            Weighed::Unbounded => return self.refused(Refusal::NotFinite),
+            Exchanged::Done => {}
+            Exchanged::Pivot => return self.refused(Refusal::VariancePivot),
+            Exchanged::Unbounded => return self.refused(Refusal::NotFinite),
         }
         self.factors[n] = f;
         self.count = n + 1;

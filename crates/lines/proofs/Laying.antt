@@ -1,45 +1,29 @@
 -- Text put into a buffer, piece after piece. Assumes nothing.
 use Prim.Native.Nat.{ℕ, _+_, _≤_, _<_}
 use mathlib.Core.Path.{_≡_, refl, sym, ap, _∙_}
-use mathlib.Core.List.{List, [], _∷_, _++_, append-assoc, append-nil}
+use mathlib.Core.List.{List, [], _∷_, _++_}
 use native.Mathlib.Omega.{arith}
 use native.Mathlib.Numerals.{add-one}
-use lib.ListN.{length, set, take, drop, length-append, take-append-drop}
-use lib.Seq.{length-take-le, take-at, drop-append-add, drop-drop, set-split, append-snoc}
+use lib.ListN.{length, set, take, drop, length-append}
+use lib.Seq.{set-split, append-snoc}
 use Rattle.factor.specs.Factor.{lay}
+use Rattle.factor.proofs.Laying.{lay-none, two-laid}
 use borrow.Author.Tests.{le-leb, lt-leb}
 use Rattle.lines.specs.Lines.{Puts, written, laidIn}
 use Rattle.lines.specs.declared.Written.the-variants.{Length, Short}
 
 -- nothing
 pub puts-none : (out : List ℕ) (at : ℕ) → Puts out out at at []
-puts-none out at =
-    let z : at + 0 ≡ at = omega arith in
-    (sym (ap (λ (l : List ℕ). l ++ drop (at + 0) out) (append-nil (take at out)) ∙ ap (λ (k : ℕ). take at out ++ drop k out) z ∙ take-append-drop at out), sym z)
+puts-none out at = (lay-none out at, omega arith)
 
 -- one byte
 pub puts-one : (out : List ℕ) (at x : ℕ) → at < length out → Puts out (set out at x) at (at + 1) (x ∷ [])
 puts-one out at x l = (set-split out at x l ∙ ap (λ (k : ℕ). take at out ++ x ∷ drop k out) (sym (add-one at)) ∙ sym (append-snoc (take at out) x (drop (at + 1) out)), refl)
 
 -- a piece after another is the two as one
-lay-lay : (out s t : List ℕ) (at m : ℕ) → at ≤ length out → m ≡ at + length s → lay (lay out at s) m t ≡ lay out at (s ++ t)
-lay-lay out s t at m l e =
-    let p : List ℕ = take at out ++ s in
-    let r : List ℕ = drop (at + length s) out in
-    let n : length p ≡ m = length-append (take at out) s ∙ ap (λ (k : ℕ). k + length s) (length-take-le at out l) ∙ sym e in
-    let f : drop (m + length t) (p ++ r) ≡ drop (at + length (s ++ t)) out =
-    ap (λ (k : ℕ). drop (k + length t) (p ++ r)) (sym n) ∙ drop-append-add p r (length t) ∙ drop-drop (length t) (at + length s) out
-    ∙ ap (λ (k : ℕ). drop k out) (sums at (length s) (length t) ∙ ap (λ (k : ℕ). at + k) (sym (length-append s t))) in
-    ap (λ (q : List ℕ). q ++ t ++ drop (m + length t) (p ++ r)) (take-at p r m n)
-    ∙ ap (λ (q : List ℕ). p ++ t ++ q) f
-    ∙ ap (λ (q : List ℕ). q ++ drop (at + length (s ++ t)) out) (append-assoc (take at out) s t)
-  where
-    sums : (a b c : ℕ) → a + b + c ≡ a + (b + c)
-    sums a b c = omega arith
-
 pub puts-both : (a b c : List ℕ) (at m n : ℕ) (s t : List ℕ) → at ≤ length a → Puts a b at m s → Puts b c m n t → Puts a c at n (s ++ t)
 puts-both a b c at m n s t l p q =
-    (q .0 ∙ ap (λ (x : List ℕ). lay x m t) (p .0) ∙ lay-lay a s t at m l (p .1), let e : length (s ++ t) ≡ length s + length t = length-append s t in omega arith)
+    (two-laid a s at l t b c m (p .1) (p .0) (q .0), let e : length (s ++ t) ≡ length s + length t = length-append s t in omega arith)
 
 -- a loop that stores a byte a turn
 pub puts-begun : (out : List ℕ) (at : ℕ) → Puts out out at (at + 0) []

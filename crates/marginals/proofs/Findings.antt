@@ -15,7 +15,8 @@ use Rattle.plan.specs.declared.gather.Gathered as arrays
 use Rattle.gaussian.specs.Elimination.{Outcome, pivot, unbounded, message, eliminate}
 use Rattle.gaussian.specs.Answers.{viewsOf}
 use Rattle.gaussian.specs.Asked.{Asked}
-use Rattle.gaussian.specs.Marginals.{Moments, moments, noPivot, noNumber, momentsOf, refusedAs, answerOf, marginalFrom}
+use Rattle.cholesky.specs.Forms.{Form, form, noPivot, noNumber}
+use Rattle.gaussian.specs.Marginals.{momentsOf, refusedAs, answerOf, marginalFrom}
 use Rattle.gaussian.specs.declared.marginal.Answer.{Answer}
 use Rattle.gaussian.specs.declared.marginal.Ending.{Ending}
 use Rattle.gaussian.specs.declared.marginal.Ending.the-variants as ending
@@ -26,7 +27,7 @@ use Rattle.messages.specs.Asked.{clearedOf, slotsOf}
 use Rattle.marginals.specs.Marginals.{twice, Found, found, missing, foundBy, foundIn, missingFrom, marginalsIn}
 use Rattle.marginals.specs.Asked.{lastBy, foundAt, AskedAt}
 use Rattle.marginals.proofs.Lengths.{moments-long}
-use Rattle.marginals.proofs.Laying.{lay-none}
+use Rattle.factor.proofs.Laying.{lay-none}
 
 -- ---- the last elimination, by its lists
 
@@ -50,9 +51,9 @@ Tells s a f = toldBy (a .ending)
     toldBy ending.Pivot = f ≡ missing MarginalPivot
     toldBy ending.Unbounded = f ≡ missing ResultNotFinite
 
-tells-moments : (key s r : ℕ) (a xi w : List Float) (m : Moments) → momentsOf r s a xi w ≡ m → Tells s (answerOf key s m) (foundBy m)
+tells-moments : (key s r : ℕ) (a xi w : List Float) (m : Form) → momentsOf r s a xi w ≡ m → Tells s (answerOf key s m) (foundBy m)
 unfolding answerOf foundBy refusedAs
-tells-moments key s r a xi w (moments mean covariance) e =
+tells-moments key s r a xi w (form mean covariance) e =
     let long = moments-long s mean covariance r a xi w e in
     (refl, rw (take-at mean _ s (long .0), take-at covariance _ (s * s) (long .1)) refl)
 tells-moments key s r a xi w noPivot e = refl

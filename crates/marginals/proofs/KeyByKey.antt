@@ -14,7 +14,8 @@ use Rattle.graph.specs.declared.refusal.Refusal.{Refusal}
 use Rattle.graph.specs.declared.refusal.Refusal.the-variants.{CountedTwice}
 use Rattle.schedule.specs.Gather.{Gathered}
 use Rattle.gaussian.specs.Elimination.{Outcome, pivot, unbounded, message}
-use Rattle.gaussian.specs.Marginals.{Moments, moments, noPivot, noNumber, momentsOf}
+use Rattle.cholesky.specs.Forms.{Form, form, noPivot, noNumber}
+use Rattle.gaussian.specs.Marginals.{momentsOf}
 use Rattle.messages.specs.Values.{none, stopped}
 use Rattle.messages.specs.Asked.{stopOf}
 use Rattle.messages.proofs.Telling.{carried-tells}
@@ -23,7 +24,7 @@ use Rattle.messages.specs.declared.Carried.the-variants.{Through, Halted}
 use Rattle.marginals.specs.Marginals.{twice, Found, found, missing, foundBy, foundIn, missingFrom, marginalsIn}
 use Rattle.marginals.specs.Asked.{foundAt, foundFrom, lastBy, placeOf, Finds}
 use Rattle.marginals.proofs.Lengths.{moments-long}
-use Rattle.marginals.proofs.Laying.{lay-take, lay-drop, lay-length}
+use Rattle.factor.proofs.Laying.{lay-take, lay-drop, lay-length}
 
 -- ---- a list and its first
 
@@ -47,9 +48,9 @@ never-through k why e = let z : _≡_ {A = ℕ} 0 1 = cc in omega arith
 abbrev numbersIn : ℕ → ℕ
 numbersIn s = s + s * s
 
-moments-count : (s r : ℕ) (a xi w : List Float) (m : Moments) (k : ℕ) → momentsOf r s a xi w ≡ m → missingFrom k (foundBy m ∷ []) ≡ none → length (marginalsIn (foundBy m ∷ [])) ≡ numbersIn s
+moments-count : (s r : ℕ) (a xi w : List Float) (m : Form) (k : ℕ) → momentsOf r s a xi w ≡ m → missingFrom k (foundBy m ∷ []) ≡ none → length (marginalsIn (foundBy m ∷ [])) ≡ numbersIn s
 unfolding foundBy missingFrom marginalsIn
-moments-count s r a xi w (moments mean covariance) k e h =
+moments-count s r a xi w (form mean covariance) k e h =
     let long = moments-long s mean covariance r a xi w e in
     ap length (append-nil (mean ++ covariance)) ∙ length-append mean covariance ∙ omega (arith, long .0, long .1)
 moments-count s r a xi w noPivot k e h = absurd (let z : _≡_ {A = ℕ} 0 1 = cc in omega arith)
@@ -113,7 +114,7 @@ module _ (sizes : List ℕ) (factors messages : List Float) (keys heads : List �
           let t : to′ ≡ to + length (marginalsIn (f ∷ [])) = omega arith in
           let fits : to + length (marginalsIn (f ∷ [])) ≤ length results = omega arith in
           let one = through-first f (rest (k + 1)) k e in
-          let front : take to′ results′ ≡ take to results ++ marginalsIn (f ∷ []) = rw (el, t) (lay-take results (marginalsIn (f ∷ [])) to fits) in
+          let front : take to′ results′ ≡ take to results ++ marginalsIn (f ∷ []) = rw (el, t) (lay-take results (marginalsIn (f ∷ [])) to (omega arith)) in
           let l : length results′ ≡ length results = ap length el ∙ lay-length results (marginalsIn (f ∷ [])) to fits in
           record {
             low = omega arith;
@@ -126,7 +127,7 @@ module _ (sizes : List ℕ) (factors messages : List Float) (keys heads : List �
                 ∙ sym (append-assoc (take to results) (marginalsIn (f ∷ [])) (marginalsIn (rest (k + 1))))
                 ∙ ap (λ (r : List Float). r ++ marginalsIn (rest (k + 1))) (sym front);
             after =
-                rw (el, t) (lay-drop results (marginalsIn (f ∷ [])) to fits
+                rw (el, t) (lay-drop results (marginalsIn (f ∷ [])) to (omega arith)
                 ∙ sym (drop-drop (length (marginalsIn (f ∷ []))) to results) ∙ ap (drop (length (marginalsIn (f ∷ [])))) (w .after)
                 ∙ drop-drop (length (marginalsIn (f ∷ []))) to results₀);
           }

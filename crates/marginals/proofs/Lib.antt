@@ -1,6 +1,5 @@
 -- Laws of the marginals.
 pub mod Twice
-pub mod Laying
 pub mod Lengths
 pub mod Findings
 pub mod KeyByKey

@@ -5,7 +5,8 @@ use mathlib.Core.List.{[]}
 use Rattle.factor.specs.Told.{Told, value, refusal}
 use Rattle.graph.specs.Refusals.{numberOf}
 use Rattle.gaussian.specs.Elimination.{Outcome, pivot, unbounded, message}
-use Rattle.gaussian.specs.Marginals.{Moments, moments, noPivot, noNumber, momentsOf}
+use Rattle.cholesky.specs.Forms.{Form, form, noPivot, noNumber}
+use Rattle.gaussian.specs.Marginals.{momentsOf}
 use Rattle.gaussian.specs.Told.{momentsTold, lastTold}
 use Rattle.marginals.specs.Marginals.{Found, found, missing, foundBy, foundIn}
 
@@ -13,9 +14,9 @@ abbrev pub foundTold : Found → Told
 foundTold (found mean covariance) = value []
 foundTold (missing why) = refusal (numberOf why) []
 
-by-moments : (m : Moments) → foundTold (foundBy m) ≡ momentsTold m
+by-moments : (m : Form) → foundTold (foundBy m) ≡ momentsTold m
 unfolding foundBy momentsTold
-by-moments (moments mean covariance) = refl
+by-moments (form mean covariance) = refl
 by-moments noPivot = refl
 by-moments noNumber = refl
 

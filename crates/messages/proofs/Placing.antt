@@ -32,7 +32,7 @@ use Rattle.gaussian.specs.Asked.{HeadFits}
 use Rattle.gaussian.proofs.Enough.{cleared-at, counted-head}
 use Rattle.tables.specs.Originals.{withHead}
 use Rattle.tables.proofs.Heads.{head-length, head-put, head-else}
-use Rattle.tables.proofs.Writing.{lay-length, lay-in, lay-before}
+use Rattle.factor.proofs.Laying.{lay-length, lay-in, lay-before}
 use Rattle.tables.proofs.OriginalsRead.{originals-stay}
 use Rattle.lists.specs.Lists.{messageNumber, numberOf, Holds}
 use Rattle.lists.specs.declared.Lists.{Lists}
@@ -175,7 +175,7 @@ module _ (g : Graph) (ms : List ClosedFactor) (c : Carriable g ms) (shift start 
     pub before-more : Before shift keys heads keys′ heads′
     before-more =
         record {
-          of-keys = λ p h. rw ek (lay-before keys (m .kept) (firstKey shift j) room p (omega arith));
+          of-keys = λ p h. rw ek (lay-before keys (m .kept) (firstKey shift j) room 0 p (omega arith));
           of-heads = λ i h. rw eh (head-else heads (messageNumber shift j) false _ _ _ _ _ long i (λ e. omega arith));
         }
 
@@ -200,14 +200,14 @@ module _ (g : Graph) (ms : List ClosedFactor) (c : Carriable g ms) (shift start 
         go (yes b) =
             record {
               head = rw eh (head-else heads (messageNumber shift j) false _ _ _ _ _ long (messageNumber shift i) (λ e. omega arith)) ∙ placed i b .head;
-              key = λ k q. rw ek (lay-before keys (m .kept) (firstKey shift j) room (firstKey shift i + k) (omega (arith, message-few g ms c i (omega arith)))) ∙ placed i b .key k q;
+              key = λ k q. rw ek (lay-before keys (m .kept) (firstKey shift j) room 0 (firstKey shift i + k) (omega (arith, message-few g ms c i (omega arith)))) ∙ placed i b .key k q;
             }
         go (no b) =
             let e : i ≡ j = omega arith in
             rw e
             (record {
               head = rw (eh, ← slot-is) (head-put heads (messageNumber shift j) false _ _ _ _ _ long);
-              key = λ k q. rw ek (lay-in keys (m .kept) (firstKey shift j) room k q);
+              key = λ k q. rw ek (lay-in keys (m .kept) (firstKey shift j) room 0 k q);
             })
 
 -- ---- the whole pass

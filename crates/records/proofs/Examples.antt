@@ -11,7 +11,7 @@ use Rattle.cholesky.specs.Factor.{pivotOf, reduced, below, rooted, column, fact
 use Rattle.cholesky.specs.Solve.{solvedRow, solveLower, solveUpper, solved, unitColumn, inverted}
 use Rattle.factor.specs.Counting.{every, all, sum}
 use Rattle.factor.specs.Factor.{priorOf, above, isClear, firstColumn, aNumbers, numbers, lengthsFit, givenFinite}
-use Rattle.factor.specs.Weighing.{bounded, weighedBy, weighed}
+use Rattle.cholesky.specs.Forms.{bounded, exchangedBy, exchanged}
 use Rattle.graph.specs.Record.{fresh, scalar, sizeFits, same, free, total, registered, clear, place, variablesFit, factorPlace, factorsFit, offset, valid}
 use Rattle.graph.specs.Registration.{withVariable, withFactor, addVariable, factorVerdict, priorVerdict, addPrior, priorStore, countsFit, observationVerdict, addObservation, observationStore}
 use Rattle.graph.specs.declared.refusal.Refusal.the-variants.{KeysNotRising, CountOutside, BadRecord, NoSuchKey}
@@ -43,7 +43,7 @@ prior-bytes = 0x50 ∷ 0x52 ∷ 0 ∷ two-bytes ++ four-bytes
 
 -- the reading, opened for computing
 unfoldable job : List ℕ → Reading
-unfolding readAll readFrom recordAt markOf variableAt priorAt priorNumbers observationAt observed observedNumbers meaning wordAt numberAt listed addVariable addPrior priorStore addObservation observationStore priorVerdict observationVerdict countsFit factorVerdict valid every all above variablesFit factorsFit place registered clear same factorPlace isClear total sum scalar sizeFits free lengthsFit givenFinite aNumbers firstColumn numbers offset allFinite weighed weighedBy bounded factor column rooted below reduced pivotOf rootOf solved solveLower solveUpper solvedRow inverted unitColumn steps sweep deductOf deduct ofBits sub mul div
+unfolding readAll readFrom recordAt markOf variableAt priorAt priorNumbers observationAt observed observedNumbers meaning wordAt numberAt listed addVariable addPrior priorStore addObservation observationStore priorVerdict observationVerdict countsFit factorVerdict valid every all above variablesFit factorsFit place registered clear same factorPlace isClear total sum scalar sizeFits free lengthsFit givenFinite aNumbers firstColumn numbers offset allFinite exchanged exchangedBy bounded factor column rooted below reduced pivotOf rootOf solved solveLower solveUpper solvedRow inverted unitColumn steps sweep deductOf deduct ofBits sub mul div
 job bytes = readAll bytes (nan ∷ nan ∷ nan ∷ [])
 
 abbrev ended : List ℕ → Ended

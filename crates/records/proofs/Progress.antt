@@ -12,7 +12,7 @@ use lib.Seq.{getD-set-same, getD-set-other}
 use Rattle.factor.specs.Limits.{max-variables, max-total, max-factors}
 use Rattle.factor.specs.Counting.{every}
 use Rattle.factor.specs.Factor.{rising, known, past, keyAt, priorOf, observationOf, firstColumn, width, aNumbers, numbers, lengthsFit, givenFinite}
-use Rattle.factor.specs.Weighing.{Weight, weight, noPivot, noNumber, weighed}
+use Rattle.cholesky.specs.Forms.{Form, form, noPivot, noNumber, exchanged}
 use Rattle.factor.specs.declared.Factor.{Factor}
 use Rattle.factor.proofs.Counting.{sum-ext}
 use Rattle.factor.proofs.Fitting.{fits-key}
@@ -100,9 +100,9 @@ module _ (g : Graph) (ok : Good g) (len : ℕ) (held : offset g (g .count) ≤ l
     Settled : Verdict → Type 0
     Settled v = Grown (settle g f v)
 
-    weighed-grown : g .count < max-factors → offset g (g .count) + numbers (g .sizes) f ≤ len → (a : List Float) (w : Weight) → Settled (weighedVerdict a w)
+    weighed-grown : g .count < max-factors → offset g (g .count) + numbers (g .sizes) f ≤ len → (a : List Float) (w : Form) → Settled (weighedVerdict a w)
     unfolding Settled Grown
-    weighed-grown room fit a (weight xi w) n e =
+    weighed-grown room fit a (form xi w) n e =
         let z : next ≡ n = cc in
         let k : offset (withFactor g f) (g .count + 1) ≡ offset g (g .count) + numbers (g .sizes) f = factor-offset g (ok .0) f room in
         (omega arith, omega arith)
@@ -116,7 +116,7 @@ module _ (g : Graph) (ok : Good g) (len : ℕ) (held : offset g (g .count) ≤ l
         (λ h5. case Settled (ltb (g .count) max-factors) _ _
         (λ h12. case Settled (leb (offset g (g .count) + numbers (g .sizes) f) (length store)) _ _
         (λ h13. case Settled (givenFinite a mean variance) _ _
-        (λ h6. weighed-grown (ltb-true _ _ h12) (let m : offset g (g .count) + numbers (g .sizes) f ≤ length store = leb-true _ _ h13 in omega arith) a (weighed (f .rows) mean variance))
+        (λ h6. weighed-grown (ltb-true _ _ h12) (let m : offset g (g .count) + numbers (g .sizes) f ≤ length store = leb-true _ _ h13 in omega arith) a (exchanged (f .rows) mean variance))
         (λ _. turned _)) (λ _. turned _)) (λ _. turned _)) (λ _. turned _)
 
     prior-grown : (key : ℕ) (mean variance store : List Float) → f ≡ priorOf key (sizeAt g key) → length store ≡ len → Grown (addPrior g key mean variance store)

@@ -49,7 +49,7 @@ use Rattle.marginals.specs.Marginals.{marginalNumbers, missingFrom, marginalsIn
 use Rattle.marginals.proofs.KeyByKey.{place-more}
 use Rattle.marginals.proofs.Rooms.{numbers-most}
 use Rattle.marginals.proofs.Gathering.{findable}
-use Rattle.marginals.proofs.Laying.{lay-two}
+use Rattle.factor.proofs.Laying.{lay-lay}
 use Rattle.solver.specs.Plan.{graphPlan, read}
 use Rattle.solver.specs.Plan as spec
 use Rattle.solver.specs.declared.Arranged as calls
@@ -259,7 +259,7 @@ module _ (g : Graph) (p : Plan) (half figure : ℕ) (keys heads : List ℕ) (fac
         let s : stopFrom 0 (values g factors (messagesOf (p .forward))) ≡ none = sym et ∙ ap stopOf er in
         let k : half ≡ 0 + length l = omega (arith, ready .half-is, fw .long) in
         let t : lay after half m ≡ overlaid messages (l ++ m)
-        = rw (ea, k) (lay-two messages l 0 (omega (arith, forward-room, fw .long)) m) ∙ laid-first messages (l ++ m) in
+        = rw ea (lay-lay messages l 0 (omega arith) m half k) ∙ laid-first messages (l ++ m) in
         e ∙ rw (t, s) refl
 
 -- the lengths of the stores stay

@@ -18,7 +18,7 @@ use Rattle.slots.specs.Limits.{head-numbers}
 use Rattle.slots.specs.Tables.{slotOf}
 use Rattle.slots.specs.declared.Slot.the-variants.{Original}
 use Rattle.tables.specs.Originals.{widthOf, withHead, Entered}
-use Rattle.tables.proofs.Writing.{lay-in, lay-before}
+use Rattle.factor.proofs.Laying.{lay-in, lay-before}
 use Rattle.tables.proofs.Heads.{head-put, head-else}
 
 slot-is : (i : ℕ) → i < max-factors → slotOf i ≡ Original i
@@ -46,7 +46,7 @@ module _ (g : Graph) (v : valid g ≡ true) (keys heads : List ℕ) (long-keys :
       record {
         head = rw (← slot-is i low) (head-put heads i (f .prior) (offset g i) (f .rows) (widthOf (g .sizes) f) (max-keys * i) (f .touched) (omega (arith, low)));
         full = full;
-        key = λ j h. lay-in keys (f .keys) (max-keys * i) inside j (omega (arith, full, valid-touched g v i l));
+        key = λ j h. lay-in keys (f .keys) (max-keys * i) inside 0 j (omega (arith, full, valid-touched g v i l));
       }
 
   old : (k : ℕ) → k < i → Entered g keys heads k → Entered g keys′ heads′ k
@@ -54,7 +54,7 @@ module _ (g : Graph) (v : valid g ≡ true) (keys heads : List ℕ) (long-keys :
       record {
         head = head-else heads i (f .prior) (offset g i) (f .rows) (widthOf (g .sizes) f) (max-keys * i) (f .touched) (omega (arith, low)) k (λ x. omega arith) ∙ e .head;
         full = e .full;
-        key = λ j b. lay-before keys (f .keys) (max-keys * i) inside (max-keys * k + j) (omega (arith, valid-touched g v k (omega arith))) ∙ e .key j b;
+        key = λ j b. lay-before keys (f .keys) (max-keys * i) inside 0 (max-keys * k + j) (omega (arith, valid-touched g v k (omega arith))) ∙ e .key j b;
       }
 
   all-entered : ((k : ℕ) → k < i → Entered g keys heads k) → (k : ℕ) → k < i + 1 → Entered g keys′ heads′ k

@@ -10,7 +10,7 @@ use lib.ListN.{length, getD}
 use Rattle.slots.specs.Limits.{head-numbers}
 use Rattle.slots.specs.Tables.{slotOf, headOf}
 use Rattle.tables.specs.Originals.{headNumbers, withHead}
-use Rattle.tables.proofs.Writing.{lay-length, lay-in, lay-before, lay-after}
+use Rattle.factor.proofs.Laying.{lay-length, lay-in, lay-before, lay-after}
 
 -- a head from what the table holds at its places
 head-as : (heads : List ℕ) (number : ℕ) (p : Bool) (a r w f c : ℕ) → eqb (getD heads (head-numbers * number) 0) 1 ≡ p → getD heads (head-numbers * number + 1) 0 ≡ a
@@ -50,7 +50,7 @@ module _ (heads : List ℕ) (number : ℕ) (p : Bool) (at rows width first count
   unfolding withHead
   head-put =
       let e : head-numbers * number + 0 ≡ head-numbers * number = omega arith in
-      let there = lay-in heads (headNumbers p at rows width first count) (head-numbers * number) long in
+      let there = lay-in heads (headNumbers p at rows width first count) (head-numbers * number) long 0 in
       let z : getD (withHead heads number p at rows width first count) (head-numbers * number) 0 ≡ cond p 1 0 = rw e at (there 0 (omega arith)) in
       head-as _ number p at rows width first count (ap (λ (x : ℕ). eqb x 1) z ∙ one-or-none p) (there 1 (omega arith)) (there 2 (omega arith)) (there 3 (omega arith)) (there 4 (omega arith)) (there 5 (omega arith))
 
@@ -59,7 +59,7 @@ module _ (heads : List ℕ) (number : ℕ) (p : Bool) (at rows width first count
   head-else other d = go (decLt other number)
     where
       go : Dec (other < number) → headOf (withHead heads number p at rows width first count) other ≡ headOf heads other
-      go (yes h) = head-same _ heads other (λ k l. lay-before heads (headNumbers p at rows width first count) (head-numbers * number) long (head-numbers * other + k) (omega arith))
+      go (yes h) = head-same _ heads other (λ k l. lay-before heads (headNumbers p at rows width first count) (head-numbers * number) long 0 (head-numbers * other + k) (omega arith))
       go (no h) =
           let m : number < other = later other number h d in
-          head-same _ heads other (λ k l. lay-after heads (headNumbers p at rows width first count) (head-numbers * number) long (head-numbers * other + k) (omega arith))
+          head-same _ heads other (λ k l. lay-after heads (headNumbers p at rows width first count) (head-numbers * number) long 0 (head-numbers * other + k) (omega arith))

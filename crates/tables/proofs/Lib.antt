@@ -1,5 +1,4 @@
 -- Laws that several proofs cite.
-pub mod Writing
 pub mod Heads
 pub mod Filling
 pub mod OriginalsRead

@@ -12,7 +12,7 @@ use Rattle.matrix.specs.Products.{productEntry, product}
 use Rattle.matrix.specs.declared.View.{View}
 use Rattle.matrix.specs.declared.Update.the-variants.{Subtract}
 use Rattle.matrix.proofs.Agreement.{accumulate-same, deduct-same}
-use Rattle.matrix.proofs.Entries.{steps-length, block-length}
+use Rattle.matrix.proofs.Entries.{steps-length, sweep-length, block-length}
 use Rattle.matrix.proofs.Dense.{dense}
 use Rattle.cholesky.specs.Solve.{solvedRow, solveLower, solveLowerIn}
 use Rattle.workspace.specs.Blocks.{solvedColumns, solvedIn, subtractedColumnIn, subtractedIn}
@@ -20,7 +20,7 @@ use Rattle.workspace.specs.Sums.{pick, change}
 use Rattle.workspace.specs.Frames.{from, to, cut, Laid}
 use Rattle.workspace.specs.declared.Part.{Part}
 use Rattle.workspace.specs.declared.Frame.{Frame}
-use Rattle.workspace.proofs.Parts.{length-part, getD-part, splice-below, splice-in, splice-part, steps-part, sweep-part, sweep-length}
+use Rattle.workspace.proofs.Parts.{length-part, getD-part, splice-below, splice-in, splice-part, steps-part, sweep-part}
 use Rattle.workspace.proofs.Cuts.{bounds, picked, cut-splice, long}
 
 -- the view of n rows that begins at place p

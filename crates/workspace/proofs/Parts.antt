@@ -11,7 +11,7 @@ use lib.Ieee.{Float, nan}
 use Rattle.matrix.specs.Views.{Inside, part, splice}
 use Rattle.matrix.specs.Sums.{plus-zero}
 use Rattle.matrix.specs.Stores.{steps, sweep}
-use Rattle.matrix.proofs.Entries.{steps-length, steps-at}
+use Rattle.matrix.proofs.Entries.{steps-length, sweep-length, steps-at}
 use Rattle.workspace.specs.Blocks.{corner, zeroed}
 
 pub length-part : (s : List Float) (p q : ℕ) → q ≤ length s → length (part s p q) ≡ q - p
@@ -101,11 +101,6 @@ steps-part x p q at at′ f f′ (suc n) pq qx ea ba t lt ef =
     rw (ih, ea n (omega arith), ef n (omega arith) (steps at′ f′ t n) l)
     (set-splice x p q (steps at′ f′ t n) pq qx l (at′ n) (f′ n (steps at′ f′ t n)) (ba n (omega arith)))
 
-pub sweep-length : (g : ℕ → List Float → List Float) (t : List Float) (n : ℕ) → ((j : ℕ) (t : List Float) → length (g j t) ≡ length t) → length (sweep g t n) ≡ length t
-unfolding sweep
-sweep-length g t zero h = refl
-sweep-length g t (suc n) h = h n (sweep g t n) ∙ sweep-length g t n h
-
 pub sweep-part : (x : List Float) (p q : ℕ) (g g′ : ℕ → List Float → List Float) (n : ℕ) (t : List Float) → length t ≡ q - p
     → ((j : ℕ) (t : List Float) → length (g′ j t) ≡ length t)
     → ((j : ℕ) → j < n → (t : List Float) → length t ≡ q - p → g j (splice x p q t) ≡ splice x p q (g′ j t))
@@ -133,13 +128,6 @@ zeroed-is c =
     ext-getD nan _ _ (steps-length (λ i. i) (λ i t. plus-zero) c (length c) ∙ sym (length-replicate (length c) plus-zero))
     (λ k h. let l : k < length c = omega (arith, steps-length (λ i. i) (λ i t. plus-zero) c (length c)) in
     steps-at (λ i. i) (λ i t. plus-zero) c k (length c) (λ j a b e. omega arith) l l ∙ sym (getD-replicate (length c) k plus-zero nan l))
-
-pub part-replicate : (n p q : ℕ) → q ≤ n → part (replicate n plus-zero) p q ≡ replicate (q - p) plus-zero
-part-replicate n p q h =
-    let l : length (part (replicate n plus-zero) p q) ≡ q - p = length-part (replicate n plus-zero) p q (rw (length-replicate n plus-zero) h) in
-    ext-getD nan _ _ (l ∙ sym (length-replicate (q - p) plus-zero))
-    (λ k b. let m : k < q - p = omega arith in
-    getD-part (replicate n plus-zero) p q k m ∙ getD-replicate n (p + k) plus-zero nan (omega arith) ∙ sym (getD-replicate (q - p) k plus-zero nan m))
 
 -- one element more is copied
 pub copied-more : (to from : List Float) (i : ℕ) → i < length to → ((k : ℕ) → k < i → getD to k nan ≡ getD from k nan)

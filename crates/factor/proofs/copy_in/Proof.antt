@@ -45,7 +45,7 @@ loop-again c =
     let loop = c .before .before .loop in (
       loop .inv .0,
       omega arith,
-      copy-more (args .dst .now) (loop .dst) (args .at) (args .src .now) (loop .j) _ (loop .inv .2) (omega arith) (omega arith),
+      copy-more (args .dst .now) (loop .dst) (args .at) (args .src .now) (loop .j) _ _ (loop .inv .2) refl (omega arith) (omega arith),
       simp length-set (loop .inv .3),
     )
 

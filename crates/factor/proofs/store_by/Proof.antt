@@ -1,4 +1,4 @@
--- `factor::store_by` meets its contract: the slices hold the mean and the variance when they are weighed, and A, xi and W are laid one after the other. Assumes nothing.
+-- `factor::store_by` meets its contract: the slices hold the mean and the variance when they are exchanged, and A, xi and W are laid one after the other. Assumes nothing.
 use Prim.Native.Nat.{_*_}
 use mathlib.Core.Path.{ap}
 use native.Mathlib.Omega.{arith}
@@ -15,8 +15,8 @@ copy-in-requires c κs = search needs
 copy-in-requires-2 : tie.Need-copy-in-requires-2
 copy-in-requires-2 c κs = search needs
 
-weigh-requires : tie.Need-weigh-requires
-weigh-requires c κs = search needs
+exchange-requires : tie.Need-exchange-requires
+exchange-requires c κs = search needs
 
 enum-told : tie.Need-enum-told
 enum-told c = search needs
@@ -37,8 +37,8 @@ returns : tie.Need-returns
 returns c =
     let args = c .before .before .before .before .before .before .before .before .before .before .before .before .before .before .before .before .before .before .before .before .before .before .before .before .before .before .before .args in
     let pre = c .before .before .before .before .before .before .before .before .before .before .before .before .before .before .before .before .before .before .before .before .before .before .before .before .before .before .before .pre in
-    let weigh = c .before .before .before .before .before .before .before .before .weigh in
-    at-pivot (args .n) (args .at) (args .a .now) (args .mean .now) (args .variance .now) (args .store .now) _ _ _ _ _ _ (weigh .result) (pre .0) (pre .1 .of-l) (pre .1 .of-xi) (c .before .before .before .before .before .before .before .before .before .before .before .before .before .before .before .before .before .before .copy-in .ensures) (c .before .before .before .before .before .before .before .before .before .before .before .before .before .before .copy-in2 .ensures) (weigh .ensures) (c .enum-told2 .given .1)
+    let exchange = c .before .before .before .before .before .before .before .before .exchange in
+    at-pivot (args .n) (args .at) (args .a .now) (args .mean .now) (args .variance .now) (args .store .now) _ _ _ _ _ _ (exchange .result) (pre .0) (pre .1 .of-l) (pre .1 .of-x) (c .before .before .before .before .before .before .before .before .before .before .before .before .before .before .before .before .before .before .copy-in .ensures) (c .before .before .before .before .before .before .before .before .before .before .before .before .before .before .copy-in2 .ensures) (exchange .ensures) (c .enum-told2 .given .1)
 
 enum-told-3 : tie.Need-enum-told-3
 enum-told-3 c = search needs
@@ -56,8 +56,8 @@ returns-2 : tie.Need-returns-2
 returns-2 c =
     let args = c .before .before .before .before .before .before .before .before .before .before .before .before .before .before .before .before .before .before .before .before .before .before .before .before .before .before .before .args in
     let pre = c .before .before .before .before .before .before .before .before .before .before .before .before .before .before .before .before .before .before .before .before .before .before .before .before .before .before .before .pre in
-    let weigh = c .before .before .before .before .before .before .before .before .weigh in
-    at-overflow (args .n) (args .at) (args .a .now) (args .mean .now) (args .variance .now) (args .store .now) _ _ _ _ _ _ (weigh .result) (pre .0) (pre .1 .of-l) (pre .1 .of-xi) (c .before .before .before .before .before .before .before .before .before .before .before .before .before .before .before .before .before .before .copy-in .ensures) (c .before .before .before .before .before .before .before .before .before .before .before .before .before .before .copy-in2 .ensures) (weigh .ensures) (c .enum-told3 .given .1)
+    let exchange = c .before .before .before .before .before .before .before .before .exchange in
+    at-overflow (args .n) (args .at) (args .a .now) (args .mean .now) (args .variance .now) (args .store .now) _ _ _ _ _ _ (exchange .result) (pre .0) (pre .1 .of-l) (pre .1 .of-x) (c .before .before .before .before .before .before .before .before .before .before .before .before .before .before .before .before .before .before .copy-in .ensures) (c .before .before .before .before .before .before .before .before .before .before .before .before .before .before .copy-in2 .ensures) (exchange .ensures) (c .enum-told3 .given .1)
 
 add-second : tie.Need-add-second
 add-second c = search needs
@@ -75,7 +75,7 @@ copy-in-requires-5 : tie.Need-copy-in-requires-5
 copy-in-requires-5 c κs =
     let args = c .before .before .before .before .before .before .before .before .before .before .before .before .before .before .before .before .before .before .before .before .before .before .before .before .before .before .before .before .before .before .before .before .before .before .before .before .before .before .args in
     let pre = c .before .before .before .before .before .before .before .before .before .before .before .before .before .before .before .before .before .before .before .before .before .before .before .before .before .before .before .before .before .before .before .before .before .before .before .before .before .before .pre in
-    omega (arith, c .before .before .before .before .before .before .before .before .before .before .before .before .before .before .before .before .before .before .before .weigh .kept .1 .1 .1 .0, ap length (pre .1 .of-w), length-replicate (args .n * args .n) plus-zero, c .before .before .before .before .copy-in4 .kept .0, c .before .before .before .before .before .before .before .before .before .copy-in3 .kept .0, pre .0 .room)
+    omega (arith, c .before .before .before .before .before .before .before .before .before .before .before .before .before .before .before .before .before .before .before .exchange .kept .1 .1 .1 .0, ap length (pre .1 .of-y), length-replicate (args .n * args .n) plus-zero, c .before .before .before .before .copy-in4 .kept .0, c .before .before .before .before .before .before .before .before .before .copy-in3 .kept .0, pre .0 .room)
 
 same-length-7 : tie.Need-same-length-7
 same-length-7 c = search needs
@@ -94,8 +94,8 @@ returns-3 c =
     let args = c .before .before .before .before .before .before .before .before .before .before .before .before .before .before .before .before .before .before .before .before .before .before .before .before .before .before .before .before .before .before .before .before .before .before .before .before .before .before .before .before .before .args in
     let pre = c .before .before .before .before .before .before .before .before .before .before .before .before .before .before .before .before .before .before .before .before .before .before .before .before .before .before .before .before .before .before .before .before .before .before .before .before .before .before .before .before .before .pre in
     let copy-in2 = c .before .before .before .before .before .before .before .before .before .before .before .before .before .before .before .before .before .before .before .before .before .before .before .before .before .before .before .before .copy-in2 in
-    let weigh = c .before .before .before .before .before .before .before .before .before .before .before .before .before .before .before .before .before .before .before .before .before .before .weigh in
-    when-done (args .n) (args .at) (args .a .now) (args .mean .now) (args .variance .now) (args .store .now) _ _ _ _ _ _ (weigh .result) (pre .0) (pre .1 .of-l) (pre .1 .of-xi) (c .before .before .before .before .before .before .before .before .before .before .before .before .before .before .before .before .before .before .before .before .before .before .before .before .before .before .before .before .before .before .before .before .copy-in .ensures) (copy-in2 .ensures) (weigh .ensures) (c .before .before .before .before .before .before .before .before .before .before .before .before .before .before .enum-told .given .1) _ _ _ (omega (arith, weigh .kept .1 .1 .0, copy-in2 .kept .0, pre .1 .of-xi)) (c .before .before .before .before .before .before .before .before .before .before .before .before .copy-in3 .ensures) (c .before .before .before .before .before .before .before .copy-in4 .ensures) (c .before .before .copy-in5 .ensures)
+    let exchange = c .before .before .before .before .before .before .before .before .before .before .before .before .before .before .before .before .before .before .before .before .before .before .exchange in
+    when-done (args .n) (args .at) (args .a .now) (args .mean .now) (args .variance .now) (args .store .now) _ _ _ _ _ _ (exchange .result) (pre .0) (pre .1 .of-l) (pre .1 .of-x) (c .before .before .before .before .before .before .before .before .before .before .before .before .before .before .before .before .before .before .before .before .before .before .before .before .before .before .before .before .before .before .before .before .copy-in .ensures) (copy-in2 .ensures) (exchange .ensures) (c .before .before .before .before .before .before .before .before .before .before .before .before .before .before .enum-told .given .1) _ _ _ (omega (arith, exchange .kept .1 .1 .0, copy-in2 .kept .0, pre .1 .of-x)) (c .before .before .before .before .before .before .before .before .before .before .before .before .copy-in3 .ensures) (c .before .before .before .before .before .before .before .copy-in4 .ensures) (c .before .before .copy-in5 .ensures)
 
 pub store-by-spec : {M : Type 1} → statement M
 store-by-spec =
@@ -103,7 +103,7 @@ store-by-spec =
     (tie.spec
     copy-in-requires
     copy-in-requires-2
-    weigh-requires
+    exchange-requires
     enum-told
     enum-told-2
     same-length

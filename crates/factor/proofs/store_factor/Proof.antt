@@ -10,7 +10,7 @@ use lib.ListN.{length-replicate, replicate}
 use Rattle.factor.proofs.Laying.{front-replicate}
 use Rattle.factor.proofs.Telling.{weighed-tells}
 use Rattle.factor.specs.Limits.{max-rows}
-use Rattle.factor.specs.Weighing.{Lent}
+use Rattle.cholesky.specs.Forms.{Lent}
 use Rattle.matrix.specs.Sums.{plus-zero}
 use Rattle.factor.proofs.store_factor.Statement.{statement}
 use Rattle.factor.proofs.store_factor.Tie as tie
@@ -19,8 +19,8 @@ use Rattle.factor.proofs.store_factor.Tie as tie
 room : (n : ℕ) → n ≤ max-rows → n * n ≤ max-rows * max-rows
 room n l = mul-le-mul l l
 
-lent : (n : ℕ) (l xi w : List Float) → n ≤ max-rows → l ≡ replicate (n * n) plus-zero → xi ≡ replicate n plus-zero → w ≡ replicate (n * n) plus-zero → Lent n l xi w
-lent n l xi w h el ex ew = record { rows = h; of-l = rw el (length-replicate (n * n) plus-zero); of-xi = rw ex (length-replicate n plus-zero); of-w = ew }
+lent : (n : ℕ) (l xi w : List Float) → l ≡ replicate (n * n) plus-zero → xi ≡ replicate n plus-zero → w ≡ replicate (n * n) plus-zero → Lent n l xi w
+lent n l xi w el ex ew = record { of-l = rw el (length-replicate (n * n) plus-zero); of-x = rw ex (length-replicate n plus-zero); of-y = ew }
 
 mul-square : tie.Need-mul-square
 mul-square c = search needs
@@ -58,7 +58,7 @@ store-by-requires c κs =
     let args = c .before .before .before .before .before .before .before .before .args in
     let pre = c .before .before .before .before .before .before .before .before .pre in (
       pre,
-      lent (args .n) _ _ _ (pre .rows) (front-replicate plus-zero (max-rows * max-rows) (args .n * args .n) (room (args .n) (pre .rows))) (front-replicate plus-zero max-rows (args .n) (pre .rows)) (front-replicate plus-zero (max-rows * max-rows) (args .n * args .n) (room (args .n) (pre .rows))),
+      lent (args .n) _ _ _ (front-replicate plus-zero (max-rows * max-rows) (args .n * args .n) (room (args .n) (pre .rows))) (front-replicate plus-zero max-rows (args .n) (pre .rows)) (front-replicate plus-zero (max-rows * max-rows) (args .n * args .n) (room (args .n) (pre .rows))),
     )
 
 same-length : tie.Need-same-length

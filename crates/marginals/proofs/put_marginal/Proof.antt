@@ -1,13 +1,13 @@
 -- `marginals::put_marginal` meets its contract: two lists laid one after the other are laid as one. Assumes nothing.
-use mathlib.Core.Path.{_≡_, refl, sym, ap}
-use Prim.Native.Nat.{_*_}
+use mathlib.Core.Path.{_≡_, sym, ap}
+use Prim.Native.Nat.{_+_, _*_}
 use native.Mathlib.Omega.{arith}
 use native.Mathlib.Nat.{mul-le-mul}
 use borrow.Author.Needs.{needs}
 use lib.ListN.{length, take}
 use lib.Seq.{length-take-le}
 use Rattle.factor.specs.Limits.{max-size}
-use Rattle.marginals.proofs.Laying.{lay-length, two-laid}
+use Rattle.factor.proofs.Laying.{lay-length, two-laid}
 use Rattle.marginals.proofs.put_marginal.Statement.{statement}
 use Rattle.marginals.proofs.put_marginal.Tie as tie
 
@@ -68,8 +68,8 @@ returns c =
     let m = c .before .before .before .before .before .before .before .before .before .before .before .before .before .args .m in
     let pre = c .before .before .before .before .before .before .before .before .before .before .before .before .before .pre in
     let long : length (m .mean) ≡ max-size = search needs in
-    two-laid (args .results .now) (take (m .size) (m .mean)) (take (m .size * m .size) (m .covariance)) _ _ (args .at) (m .size) _
-    (length-take-le (m .size) (m .mean) (omega (arith, long, pre .0))) refl (omega (arith, pre .1)) (c .before .before .before .before .before .before .before .copy-in .ensures) (c .before .before .copy-in2 .ensures)
+    let first = length-take-le (m .size) (m .mean) (omega (arith, long, pre .0)) in
+    two-laid (args .results .now) (take (m .size) (m .mean)) (args .at) (omega (arith, pre .1)) (take (m .size * m .size) (m .covariance)) _ _ (args .at + m .size) (omega (arith, first)) (c .before .before .before .before .before .before .before .copy-in .ensures) (c .before .before .copy-in2 .ensures)
 
 pub put-marginal-spec : {M : Type 1} → statement M
 put-marginal-spec =

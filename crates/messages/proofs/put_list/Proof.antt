@@ -3,7 +3,7 @@ use mathlib.Core.Path.{_≡_, refl}
 use Prim.Native.Nat.{_-_, _≤_}
 use lib.ListN.{length, length-set}
 use lib.Seq.{paste, paste-zero}
-use Rattle.tables.proofs.Writing.{copy-done, copy-more}
+use Rattle.factor.proofs.Laying.{copy-done, copy-more}
 use native.Mathlib.Omega.{arith}
 use borrow.Author.Needs.{needs}
 use Rattle.messages.proofs.put_list.Statement.{statement}
@@ -44,7 +44,7 @@ loop-again c =
     let args = c .before .before .before .args in
     let loop = c .before .before .loop in (
       omega arith,
-      copy-more (args .table .now) (loop .table) (args .first) (args .list .now) (loop .i) _ (loop .inv .1) refl (omega arith) (omega arith),
+      copy-more (args .table .now) (loop .table) (args .first) (args .list .now) (loop .i) _ 0 (loop .inv .1) refl (omega arith) (omega arith),
       simp length-set (loop .inv .2),
     )
 

@@ -1,13 +1,27 @@
 -- `tables::put_head` meets its contract: six stores in a row. Assumes nothing.
-use Prim.Native.Nat.{_*_}
+use Prim.Native.Nat.{ℕ, suc, _+_, _*_, _≤_}
+use mathlib.Core.Path.{_≡_}
+use mathlib.Core.List.{List, [], _∷_}
 use native.Mathlib.Omega.{arith}
 use borrow.Author.Needs.{needs}
-use lib.ListN.{length-set}
+use lib.ListN.{length, set, length-set}
+use lib.Seq.{sets-eq}
+use Rattle.factor.specs.Factor.{lay}
 use Rattle.slots.specs.Limits.{head-numbers}
-use Rattle.tables.proofs.Writing.{six-laid}
 use Rattle.tables.specs.Originals.{withHead}
 use Rattle.tables.proofs.put_head.Statement.{statement}
 use Rattle.tables.proofs.put_head.Tie as tie
+
+-- six stores in a row
+six-laid : (l : List ℕ) (p a b c d e f : ℕ) → p + 6 ≤ length l
+    → set (set (set (set (set (set l p a) (p + 1) b) (p + 2) c) (p + 3) d) (p + 4) e) (p + 5) f ≡ lay l p (a ∷ b ∷ c ∷ d ∷ e ∷ f ∷ [])
+six-laid l p a b c d e f h =
+    let e1 : p + 1 ≡ suc p = omega arith in
+    let e2 : p + 2 ≡ suc (suc p) = omega arith in
+    let e3 : p + 3 ≡ suc (suc (suc p)) = omega arith in
+    let e4 : p + 4 ≡ suc (suc (suc (suc p))) = omega arith in
+    let e5 : p + 5 ≡ suc (suc (suc (suc (suc p)))) = omega arith in
+    rw (e1, e2, e3, e4, e5) (sets-eq (a ∷ b ∷ c ∷ d ∷ e ∷ f ∷ []) l p h)
 
 mul-p : tie.Need-mul-p
 mul-p c = search needs

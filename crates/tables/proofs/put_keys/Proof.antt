@@ -6,7 +6,7 @@ use borrow.Author.Needs.{needs, scaled-fits}
 use lib.ListN.{length, length-set}
 use lib.Seq.{paste, paste-zero}
 use Rattle.factor.specs.Limits.{max-keys}
-use Rattle.tables.proofs.Writing.{copy-done, copy-more}
+use Rattle.factor.proofs.Laying.{copy-done, copy-more}
 use Rattle.tables.proofs.put_keys.Statement.{statement}
 use Rattle.tables.proofs.put_keys.Tie as tie
 
@@ -45,7 +45,7 @@ loop-again c =
     let args = c .before .before .before .before .before .args in
     let loop = c .before .before .before .loop in (
       omega arith,
-      copy-more (args .keys .now) (loop .keys) (args .first) (args .t3 .keys) (loop .place) _ (loop .inv .1) (c .wide .ensures) (omega arith) (omega arith),
+      copy-more (args .keys .now) (loop .keys) (args .first) (args .t3 .keys) (loop .place) _ 0 (loop .inv .1) (c .wide .ensures) (omega arith) (omega arith),
       simp length-set (loop .inv .2),
       loop .inv .3,
     )

@@ -27,13 +27,11 @@ quadform-requires c κs =
       (λ i j hi hj. dense (args .y) (args .y) _ (pre .0 .2) i j hi hj, (λ i j hi hj. dense (args .y) (args .s) _ (pre .0 .0) i j hi hj, pre .0 .3)),
     )
 
-solve-moments-requires : tie.Need-solve-moments-requires
-solve-moments-requires c κs =
+exchange-requires : tie.Need-exchange-requires
+exchange-requires c κs =
     let args = c .before .before .before .before .before .before .before .before .before .before .before .before .before .before .before .before .before .before .before .before .before .args in
-    let pre = c .before .before .before .before .before .before .before .before .before .before .before .before .before .before .before .before .before .before .before .before .before .pre in (
-      record { of-xi = c .before .before .before .before .before .before .before .before .before .before .before .before .gemv-tr .kept .0 ∙ ap length (pre .1 .0) ∙ length-replicate (args .s) plus-zero; of-w = c .before .before .before .before .before .before .before .quadform .kept .0 ∙ ap length (pre .1 .1) ∙ length-replicate (args .s * args .s) plus-zero },
-      pre .1 .2,
-    )
+    let pre = c .before .before .before .before .before .before .before .before .before .before .before .before .before .before .before .before .before .before .before .before .before .pre in
+    record { of-x = c .before .before .before .before .before .before .before .before .before .before .before .before .gemv-tr .kept .0 ∙ ap length (pre .1 .0) ∙ length-replicate (args .s) plus-zero; of-l = c .before .before .before .before .before .before .before .quadform .kept .0 ∙ ap length (pre .1 .1) ∙ length-replicate (args .s * args .s) plus-zero; of-y = pre .1 .2 }
 
 same-length : tie.Need-same-length
 same-length c = search needs
@@ -52,7 +50,7 @@ unfolding momentsOf
 returns c =
     let pre = c .before .before .before .before .before .before .before .before .before .before .before .before .before .before .before .before .before .before .before .before .before .before .before .before .before .before .before .before .pre in
     solved-tells _ _ _ _
-    (rw (← pre .1 .0, ← pre .1 .1, ← c .before .before .before .before .before .before .before .before .before .before .before .before .before .before .before .before .before .before .before .gemv-tr .ensures, ← c .before .before .before .before .before .before .before .before .before .before .before .before .before .before .quadform .ensures) (c .before .before .before .before .before .before .solve-moments .ensures))
+    (rw (← pre .1 .0, ← pre .1 .1, ← c .before .before .before .before .before .before .before .before .before .before .before .before .before .before .before .before .before .before .before .gemv-tr .ensures, ← c .before .before .before .before .before .before .before .before .before .before .before .before .before .before .quadform .ensures) (c .before .before .before .before .before .before .exchange .ensures))
 
 pub moments-spec : {M : Type 1} → statement M
 moments-spec =
@@ -60,7 +58,7 @@ moments-spec =
     (tie.spec
     gemv-tr-requires
     quadform-requires
-    solve-moments-requires
+    exchange-requires
     same-length
     same-length-2
     same-length-3

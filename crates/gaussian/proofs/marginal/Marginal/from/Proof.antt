@@ -5,8 +5,10 @@ use native.Mathlib.Omega.{arith}
 use native.Mathlib.Nat.{mul-le-mul}
 use borrow.Author.Needs.{needs}
 use lib.Ieee.{ofBits}
+use Rattle.matrix.specs.Sums.{plus-zero}
+use Rattle.factor.proofs.Laying.{front-replicate}
 use Rattle.slots.proofs.Adding.{fits-part}
-use Rattle.gaussian.proofs.Moments.{zeros-part, zeros-long, from-done, from-pivot, from-unbounded}
+use Rattle.gaussian.proofs.Moments.{zeros-long, from-done, from-pivot, from-unbounded}
 use Rattle.gaussian.proofs.Telling.{from-tells}
 use Rattle.gaussian.proofs.marginal.Marginal.from.Statement.{statement}
 use Rattle.gaussian.proofs.marginal.Marginal.from.Tie as tie
@@ -222,7 +224,7 @@ moments-requires c κs =
     let b = mul-le-mul (pre .1) (pre .1) in
     let d = mul-le-mul (pre .0) (pre .0) in (
       (fits-part (args .message .now) (0) (args .rows * args .size) (args .rows * args .size) (omega (arith, pre .2)) (omega arith), fits-part (args .message .now) (args .rows * args .size) (args .rows * args .size + args .rows) (args .rows) (omega (arith, pre .2)) (omega arith), fits-part (args .message .now) (args .rows * args .size + args .rows) (args .rows * args .size + args .rows + args .rows * args .rows) (args .rows * args .rows) (omega (arith, pre .2)) (omega arith), omega arith, pre .0),
-      (zeros-part 6 (args .size) (pre .0), zeros-part 36 (args .size * args .size) d, zeros-part 36 (args .size * args .size) d),
+      (front-replicate plus-zero 6 (args .size) (pre .0), front-replicate plus-zero 36 (args .size * args .size) d, front-replicate plus-zero 36 (args .size * args .size) d),
     )
 
 enum-told : tie.Need-enum-told
