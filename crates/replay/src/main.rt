@@ -1,15 +1,12 @@
 // Replays recorded jobs: reads them from standard input and prints the number of each, from 0, and below it what the job prints.
-// A job stands behind the count of its bytes, which takes two bytes, the lower one first.
+// A job stands behind the count of its bytes.
 use job::OUTPUT_ROOM;
 use lines::Written;
-ghost use Prim.Native.Nat.{_<_, _≤_};
-ghost use lib.ListN.{length};
+use streams::COUNTED;
+use streams::read_counted;
 
 // More jobs aren't read.
 const JOBS: usize = 65536;
-
-// More bytes than two bytes can count.
-const INPUT: usize = 65536;
 
 fn main() {
     for number in 0..JOBS {
@@ -19,32 +16,17 @@ fn main() {
     }
 }
 
-fn wide(x: u8) -> usize
-    ensures { λ r. ⌜ r < 256 ⌝ }
-{
-    x as usize
-}
-
-// The first n bytes of input are read, or as many as there are.
-fn fill(input: &mut [u8], n: usize) -> usize
-    requires { ⌜ n ≤ length (now input) ⌝ }
-{
-    io::read_full(0, &mut input[0..n])
-}
-
 // The next job; or there is none.
 fn replay(number: u64) -> bool {
-    let mut head = [0u8; 2];
-    if io::read_full(0, &mut head) < 2 {
+    let mut input = [0u8; COUNTED];
+    let n = read_counted(&mut input);
+    if n == COUNTED {
         return false;
     }
-    let n = wide(head[0]) + 256 * wide(head[1]);
-    let mut input = [0u8; INPUT];
-    let got = fill(&mut input, n);
     io::print_decimal(1, number);
     io::write_all(1, b"\n");
     print_answer(&input[0..n]);
-    got == n
+    true
 }
 
 // The output is never too short.

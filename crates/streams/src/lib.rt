@@ -73,3 +73,35 @@ pub fn print(text: &[u8], complaint: &[u8]) {
         io::write_all(2, complaint);
     }
 }
+
+// The room that a counted text needs, and the answer where there is none: more bytes than two bytes can count.
+pub const COUNTED: usize = 65536;
+
+fn wide(x: u8) -> usize
+    ensures { λ r. ⌜ r < 256 ⌝ }
+{
+    x as usize
+}
+
+// The first n bytes of the room are read, or as many as there are.
+fn fill(room: &mut [u8], n: usize) -> usize
+    requires { ⌜ n ≤ length (now room) ⌝ }
+{
+    io::read_full(0, &mut room[0..n])
+}
+
+// The next text on standard input that stands behind the count of its bytes, which takes two bytes, the lower one first. The answer is
+// that count, or COUNTED where no whole text follows.
+pub fn read_counted(room: &mut [u8; COUNTED]) -> usize
+    ensures { λ r. ⌜ r ≤ 65536 ⌝ }
+{
+    let mut head = [0u8; 2];
+    if io::read_full(0, &mut head) < 2 {
+        return COUNTED;
+    }
+    let n = wide(head[0]) + 256 * wide(head[1]);
+    if fill(room, n) < n {
+        return COUNTED;
+    }
+    n
+}
