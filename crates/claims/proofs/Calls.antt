@@ -1,19 +1,16 @@
 -- What the calls answered is what the graph holds: the keys answered are those below the count of variables, each once, the numbers those below the count of factors, and a factor has the keys that its call gave. Assumes nothing.
 use mathlib.Core.Path.{_≡_, refl, sym, ap, _∙_}
-use mathlib.Core.Bool.{Bool, true, false, not, cond}
 use mathlib.Core.List.{List, [], _∷_, _++_, List·Memᴰ, List·Memᴰ·head, List·Memᴰ·tail, List·Memᴰ·not-nil}
 use Prim.Native.Nat.{ℕ, suc, _+_, _-_, _≤_, _<_}
 use native.Mathlib.Numerals.{add-one}
 use native.Mathlib.Omega.{arith}
 use borrow.Author.Tests.{lt-ltb}
-use lib.Dec.{ltb, leb}
 use lib.ListN.{length, take, replicate}
 use lib.Seq.{getD-set-same, getD-set-other, take-append-seam}
-use Rattle.factor.specs.Limits.{max-variables, max-total, max-keys}
-use Rattle.factor.specs.Counting.{every}
+use Rattle.factor.specs.Limits.{max-keys}
 use Rattle.factor.specs.Factor.{past, priorOf, observationOf}
 use Rattle.factor.specs.declared.Factor.{Factor}
-use Rattle.graph.specs.Record.{sizeAt, factorAt, fresh, scalar, sizeFits, free, total, valid}
+use Rattle.graph.specs.Record.{sizeAt, factorAt, fresh}
 use Rattle.graph.specs.Registration.{withVariable, addVariable, Verdict, accept, refuse, withFactor, settle, priorVerdict, addPrior, observationVerdict, addObservation}
 use Rattle.graph.specs.Reached.{Call, variable, prior, observation, after, yields, Reached}
 use Rattle.graph.specs.declared.Symbol.{Symbol}
@@ -22,7 +19,7 @@ use Rattle.graph.specs.declared.Added.{Added}
 use Rattle.graph.specs.declared.Outcome.{Outcome}
 use Rattle.graph.specs.declared.Outcome.the-variants.{Key, Number, Refused}
 use Rattle.graph.specs.declared.refusal.Refusal.{Refusal}
-use Rattle.graph.specs.declared.refusal.Refusal.the-variants.{NotALetter, SizeOutside, NameTaken, PastLimit, NoSuchGraph}
+use Rattle.graph.proofs.Checking.{variable-cases}
 use Rattle.graph.proofs.Keeping.{good-of}
 use Rattle.graph.proofs.Validity.{valid-count}
 use Rattle.schedule.specs.Count.{from}
@@ -37,25 +34,12 @@ data Did (g : Graph) (keys : List ℕ) : Outcome → Graph → Type 0 where
   named : (name : Symbol) (size : ℕ) → Did g keys (Key (g .variables)) (withVariable g name size)
   taken : (f : Factor) → take (f .touched) (f .keys) ≡ keys → Did g keys (Number (g .count)) (withFactor g f)
 
-either : (P : Added → Type 0) (b : Bool) (x y : Added) → P x → P y → P (cond (not b) x y)
-either P true x y p q = q
-either P false x y p q = p
-
 settled : (g : Graph) (f : Factor) (keys : List ℕ) → take (f .touched) (f .keys) ≡ keys → (v : Verdict) → Did g keys (settle g f v .outcome) (settle g f v .graph)
 settled g f keys e (accept numbers) = taken f e
 settled g f keys e (refuse why) = turned why
 
 variable-did : (g : Graph) (name : Symbol) (size : ℕ) → Did g [] (addVariable g name size .outcome) (addVariable g name size .graph)
-unfolding addVariable
-variable-did g name size =
-    either P (valid g) _ _ (turned NoSuchGraph)
-    (either P (scalar (name .0)) _ _ (turned NotALetter)
-    (either P (sizeFits size) _ _ (turned SizeOutside)
-    (either P (free g (g .variables) name) _ _ (turned NameTaken)
-    (either P (every (ltb (g .variables) max-variables ∷ leb (total g + size) max-total ∷ [])) _ _ (turned PastLimit) (named name size)))))
-  where
-    P : Added → Type 0
-    P x = Did g [] (x .outcome) (x .graph)
+variable-did g name size = variable-cases g name size (λ (x : Added). Did g [] (x .outcome) (x .graph)) turned (λ _. named name size)
 
 did : (g : Graph) (c : Call) → Did g (given c) (outcomeOf g c) (after g c)
 unfolding outcomeOf after given addPrior addObservation

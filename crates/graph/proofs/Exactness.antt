@@ -66,7 +66,7 @@ module _ (g : Graph) (sh : Shaped g) (so : Sound g) where
       let f : free (vars k) k (nameAt g k) ≡ true =
       free-ext (vars k) g k (nameAt g k) (λ j a. fill-below (g .symbols) max-variables (sh .symbols) noName noName k j (omega arith) a) ∙ every-at _ 2 r in
       let b : k < max-variables = omega arith in
-      variable-taken (vars k) (nameAt g k) (sizeAt g k) v (every-at _ 0 r) (every-at _ 1 r) f b (room-for k l)
+      variable-taken (vars k) (nameAt g k) (sizeAt g k) (record { sound = v; letter = every-at _ 0 r; sized = every-at _ 1 r; new = f; few = b; room = room-for k l })
       ∙ (λ i. record {
         symbols = fill-set (g .symbols) max-variables (sh .symbols) noName noName k b i;
         sizes = fill-set (g .sizes) max-variables (sh .sizes) 0 0 k b i;

@@ -1,4 +1,5 @@
 -- Laws that several proofs cite.
+pub mod Checking
 pub mod CheckOrder
 pub mod Places
 pub mod Validity

@@ -21,7 +21,8 @@ use Rattle.records.specs.declared.kinds.Flag.{Flag}
 use Rattle.records.specs.declared.kinds.Flag.the-variants.{Identity, Given, Unknown}
 use Rattle.records.specs.declared.kinds.Mark.{Mark}
 use Rattle.records.specs.declared.kinds.Mark.the-variants as mark
-use Rattle.records.proofs.Counts.{few-keys, most-rows, numbers-most}
+use Rattle.graph.proofs.Checking.{few-keys, most-rows}
+use Rattle.records.proofs.Counts.{numbers-most}
 use Rattle.records.proofs.Listing.{listed-length}
 
 -- the most bytes of a record: its mark, three bytes, eight keys, and the numbers of A, mean and variance

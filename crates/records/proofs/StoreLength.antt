@@ -1,11 +1,10 @@
 -- A record leaves the store as long as it was. Assumes nothing.
 use Prim.Native.Nat.{ℕ, zero, suc, _+_, _-_, _*_, _≤_}
-use mathlib.Core.Path.{_≡_, refl, _∙_}
+use mathlib.Core.Path.{_≡_, refl, subst, _∙_}
 use mathlib.Core.Bool.{Bool, true, false, not, cond}
 use mathlib.Core.List.{List, [], _∷_, _++_}
 use native.Mathlib.Omega.{arith}
-use borrow.Author.Tests.{leb-true, eqb-true}
-use lib.Dec.{ltb, leb}
+use lib.Dec.{ltb}
 use lib.Ieee.{Float}
 use lib.ListN.{length, take, drop, replicate, length-append, length-drop, length-replicate}
 use lib.Seq.{length-take-le}
@@ -17,21 +16,19 @@ use Rattle.matrix.specs.declared.View.{View}
 use Rattle.matrix.proofs.Entries.{steps-length}
 use Rattle.cholesky.specs.Factor.{Left, whole, stuck, factor}
 use Rattle.cholesky.specs.Solve.{solveLower, solveUpper, solved, unitColumn, inverted}
-use Rattle.factor.specs.Limits.{max-factors}
 use Rattle.factor.specs.Counting.{every}
-use Rattle.factor.specs.Factor.{rising, known, priorOf, observationOf, aNumbers, numbers, lengthsFit, givenFinite, lay}
+use Rattle.factor.specs.Factor.{rising, known, observationOf, aNumbers, numbers, lay}
 use Rattle.factor.specs.Weighing.{Weight, weight, noPivot, noNumber, xiOf, wOf, bounded, weighedBy, weighed}
 use Rattle.factor.specs.declared.Factor.{Factor}
-use Rattle.factor.proofs.Counting.{every-at}
-use Rattle.graph.specs.Record.{sizeAt, offset, valid}
-use Rattle.graph.specs.Registration.{Verdict, stored, weighedVerdict, factorVerdict, priorVerdict, priorStore, countsFit, observationVerdict, observationStore}
+use Rattle.graph.specs.Record.{sizeAt, offset}
+use Rattle.graph.specs.Registration.{Verdict, accept, stored, priorStore, countsFit, observationStore}
+use Rattle.graph.proofs.Checking.{Taken, a-long, mean-long, prior-cases, observation-cases}
 use Rattle.graph.specs.declared.Graph.{Graph}
 use Rattle.graph.specs.declared.refusal.Refusal.{Refusal}
 use Rattle.records.specs.Bytes.{byteAt, cut, keysAt}
 use Rattle.records.specs.Records.{Request, refuse, variableAt, priorNumbers, priorAt, meaning, flagKnown, given, observedNumbers, observed, observationAt, markOf, marked, recordAt, storeAfter}
 use Rattle.records.specs.declared.kinds.Mark.{Mark}
 use Rattle.records.specs.declared.kinds.Mark.the-variants as mark
-use Rattle.records.proofs.Progress.{case}
 
 -- ---- xi and W
 
@@ -79,15 +76,6 @@ lay-length store at vs l =
     let a : length (take at store ++ vs) ≡ length (take at store) + length vs = length-append (take at store) vs in
     omega arith)
 
--- the lengths that a factor's record asks for
-a-long : (sizes : List ℕ) (f : Factor) (a mean variance : ℕ) → lengthsFit sizes f a mean variance ≡ true → a ≡ aNumbers sizes f
-unfolding lengthsFit
-a-long sizes f a mean variance h = eqb-true _ _ (every-at _ 0 h)
-
-mean-long : (sizes : List ℕ) (f : Factor) (a mean variance : ℕ) → lengthsFit sizes f a mean variance ≡ true → mean ≡ f .rows
-unfolding lengthsFit
-mean-long sizes f a mean variance h = eqb-true _ _ (every-at _ 1 h)
-
 numbers-are : (sizes : List ℕ) (f : Factor) → numbers sizes f ≡ aNumbers sizes f + f .rows + f .rows * f .rows
 unfolding numbers
 numbers-are sizes f = refl
@@ -96,36 +84,21 @@ module _ (g : Graph) (store : List Float) where
   Kept : Verdict → Type 0
   Kept v = length (stored g store v) ≡ length store
 
-  weighed-kept : (f : Factor) (a mean : List Float) (w : Weight) → length a ≡ aNumbers (g .sizes) f → length mean ≡ f .rows → offset g (g .count) + numbers (g .sizes) f ≤ length store → Sized (f .rows) mean w → Kept (weighedVerdict a w)
+  taken-kept : (f : Factor) (a mean variance xi w : List Float) → Taken g f a mean variance store xi w → Kept (accept (a ++ xi ++ w))
   unfolding Kept Sized
-  weighed-kept f a mean (weight xi w) ea em l h =
-      lay-length store (offset g (g .count)) (a ++ xi ++ w) (omega (arith, length-append (a ++ xi) w, length-append a xi, numbers-are (g .sizes) f, h .0, h .1))
-  weighed-kept f a mean noPivot ea em l h = refl
-  weighed-kept f a mean noNumber ea em l h = refl
-
-  factor-kept : (f : Factor) (a mean variance : List Float) → Kept (factorVerdict g f a mean variance store)
-  unfolding Kept factorVerdict
-  factor-kept f a mean variance =
-      case Kept (lengthsFit (g .sizes) f (length a) (length mean) (length variance)) _ _
-      (λ h5. case Kept (ltb (g .count) max-factors) _ _
-      (λ h12. case Kept (leb (offset g (g .count) + numbers (g .sizes) f) (length store)) _ _
-      (λ h13. case Kept (givenFinite a mean variance) _ _
-      (λ h6. weighed-kept f a mean (weighed (f .rows) mean variance) (a-long _ _ _ _ _ h5) (mean-long _ _ _ _ _ h5) (leb-true _ _ h13) (weighed-sized (f .rows) mean variance))
-      (λ _. refl)) (λ _. refl)) (λ _. refl)) (λ _. refl)
+  taken-kept f a mean variance xi w t =
+      let p = t .passed in
+      let s : Sized (f .rows) mean (weight xi w) = subst (Sized (f .rows) mean) (t .weighing) (weighed-sized (f .rows) mean variance) in
+      lay-length store (offset g (g .count)) (a ++ xi ++ w)
+      (omega (arith, length-append (a ++ xi) w, length-append a xi, numbers-are (g .sizes) f, s .0, s .1, a-long g f _ _ _ (p .lengths), mean-long g f _ _ _ (p .lengths), p .room))
 
   prior-kept : (key : ℕ) (mean variance : List Float) → length (priorStore g key mean variance store) ≡ length store
-  unfolding Kept priorStore priorVerdict
-  prior-kept key mean variance =
-      case Kept (valid g) _ _
-      (λ _. case Kept (ltb key (g .variables)) _ _ (λ _. factor-kept (priorOf key (sizeAt g key)) [] mean variance) (λ _. refl)) (λ _. refl)
+  unfolding Kept priorStore
+  prior-kept key mean variance = prior-cases g key mean variance store Kept (λ _. refl) (λ xi w t. taken-kept _ _ _ _ _ _ t)
 
   observation-kept : (keys : List ℕ) (rows : ℕ) (a mean variance : List Float) → length (observationStore g keys rows a mean variance store) ≡ length store
-  unfolding Kept observationStore observationVerdict
-  observation-kept keys rows a mean variance =
-      case Kept (valid g) _ _
-      (λ _. case Kept (countsFit (length keys) rows) _ _
-      (λ _. case Kept (rising keys) _ _
-      (λ _. case Kept (known (g .variables) keys) _ _ (λ _. factor-kept (observationOf keys rows) a mean variance) (λ _. refl)) (λ _. refl)) (λ _. refl)) (λ _. refl)
+  unfolding Kept observationStore
+  observation-kept keys rows a mean variance = observation-cases g keys rows a mean variance store Kept (λ _. refl) (λ xi w t. taken-kept _ _ _ _ _ _ t)
 
   -- ---- the store of a record
 
