@@ -17,19 +17,10 @@ use Rattle.graph.specs.Record.{noName, nameAt, sizeAt, factorAt, fresh, 
 use Rattle.graph.specs.Registration.{withFactor}
 use Rattle.graph.specs.Reached.{Call, variable, after, yields, Reached}
 use Rattle.graph.specs.declared.Graph.{Graph}
+use Rattle.graph.proofs.Calls.{fresh-reached, reached-more}
 use Rattle.graph.proofs.Filling.{fill, fill-set, fill-below, fill-above, fill-all}
 use Rattle.graph.proofs.Keeping.{Shaped, Sound, sound-of, free-ext, clear-name, clear-size, good-of}
 use Rattle.graph.proofs.Passing.{variable-taken, prior-call, prior-taken, observation-call, observation-taken}
-
--- ---- one call more at the end
-
-yields-more : (cs : List Call) (g : Graph) (c : Call) → yields g (cs ++ (c ∷ [])) ≡ after (yields g cs) c
-unfolding yields
-yields-more [] g c = refl
-yields-more (b ∷ cs) g c = yields-more cs (after g b) c
-
-more : (g h : Graph) (c : Call) → Reached g → after g c ≡ h → Reached h
-more g h c r e = (r .0 ++ (c ∷ []), yields-more (r .0) fresh c ∙ ap (λ (x : Graph). after x c) (r .1) ∙ e)
 
 module _ (g : Graph) (sh : Shaped g) (so : Sound g) where
   -- ---- the first k variables, and no factors
@@ -80,7 +71,7 @@ module _ (g : Graph) (sh : Shaped g) (so : Sound g) where
   reach-variables zero l = ([], refl)
   reach-variables (suc k) l =
       let r : Reached (vars k) = reach-variables k (omega arith) in
-      let s : Reached (vars (k + 1)) = more (vars k) (vars (k + 1)) (variable (nameAt g k) (sizeAt g k)) r (next-variable k l (good-of (vars k) r .1)) in
+      let s : Reached (vars (k + 1)) = reached-more (vars k) (vars (k + 1)) (variable (nameAt g k) (sizeAt g k)) r (next-variable k l (good-of (vars k) r .1)) in
       rw add-one at s
 
   -- ---- all variables, and the first k factors
@@ -158,7 +149,7 @@ module _ (g : Graph) (sh : Shaped g) (so : Sound g) where
   reach-factors (suc k) l =
       let r : Reached (facs k) = reach-factors k (omega arith) in
       let s : (c : Call) × (after (facs k) c ≡ facs (k + 1)) = next-factor k l (good-of (facs k) r .1) in
-      let t : Reached (facs (k + 1)) = more (facs k) (facs (k + 1)) (s .0) r (s .1) in
+      let t : Reached (facs (k + 1)) = reached-more (facs k) (facs (k + 1)) (s .0) r (s .1) in
       rw add-one at t
 
 -- a record of the declared shape is valid if and only if some list of calls yields it

@@ -21,7 +21,8 @@ use Rattle.graph.specs.Reached.{Call, variable, prior, observation, afte
 use Rattle.graph.specs.declared.Symbol.{Symbol}
 use Rattle.graph.specs.declared.Graph.{Graph}
 use Rattle.graph.specs.declared.Added.{Added}
-use Rattle.graph.proofs.Checking.{Named, Taken, variable-cases, prior-cases, observation-cases}
+use Rattle.graph.proofs.Checking.{Named}
+use Rattle.graph.proofs.Calls.{Comes, turned, named, taken, comes}
 use Rattle.graph.proofs.Validity.{valid-variables, valid-count, valid-total, valid-registered, valid-clear, valid-factor, valid-no-factor}
 
 -- the arrays have the lengths that the struct declares
@@ -207,31 +208,12 @@ module _ (g : Graph) (ok : Good g) where
   abbrev so : Sound g
   so = sound-of g (ok .1)
 
-  variable-good : (name : Symbol) (size : ℕ) → Good (addVariable g name size .graph)
-  variable-good name size =
-      variable-cases g name size (λ (x : Added). Good (x .graph)) (λ _. ok)
-      (λ n. (variable-shaped g (ok .0) so name size n, valid-of _ (variable-sound g (ok .0) so name size n)))
-
-  taken-good : (f : Factor) (a mean variance store xi w : List Float) → Taken g f a mean variance store xi w → Good (withFactor g f)
-  taken-good f a mean variance store xi w t =
+  comes-good : {keys : List ℕ} {store s : List Float} {x : Added} → Comes g keys store x s → Good (x .graph)
+  comes-good (turned why) = ok
+  comes-good (named name size n) = (variable-shaped g (ok .0) so name size n, valid-of _ (variable-sound g (ok .0) so name size n))
+  comes-good (taken f a mean variance xi w t e) =
       let few = t .passed .few in
       (factor-shaped g (ok .0) so f few (t .fit) (t .long), valid-of _ (factor-sound g (ok .0) so f few (t .fit) (t .long)))
-
-  prior-good : (key : ℕ) (mean variance store : List Float) → Good (addPrior g key mean variance store .graph)
-  unfolding addPrior
-  prior-good key mean variance store =
-      prior-cases g key mean variance store (λ (v : Verdict). Good (settle g (priorOf key (sizeAt g key)) v .graph)) (λ _. ok) (λ xi w t. taken-good _ _ _ _ _ _ _ t)
-
-  observation-good : (keys : List ℕ) (rows : ℕ) (a mean variance store : List Float) → Good (addObservation g keys rows a mean variance store .graph)
-  unfolding addObservation
-  observation-good keys rows a mean variance store =
-      observation-cases g keys rows a mean variance store (λ (v : Verdict). Good (settle g (observationOf keys rows) v .graph)) (λ _. ok) (λ xi w t. taken-good _ _ _ _ _ _ _ t)
-
-  after-good : (c : Call) → Good (after g c)
-  unfolding after
-  after-good (variable name size) = variable-good name size
-  after-good (prior key mean variance store) = prior-good key mean variance store
-  after-good (observation keys rows a mean variance store) = observation-good keys rows a mean variance store
 
 fresh-good : Good fresh
 unfolding valid variablesFit factorsFit every all place clear same factorPlace isClear total sum
@@ -240,7 +222,7 @@ fresh-good = (record { symbols = refl; sizes = refl; factors = refl; keys = λ i
 yields-good : (cs : List Call) (g : Graph) → Good g → Good (yields g cs)
 unfolding yields
 yields-good [] g ok = ok
-yields-good (c ∷ cs) g ok = yields-good cs (after g c) (after-good g ok c)
+yields-good (c ∷ cs) g ok = yields-good cs (after g c) (comes-good g ok (comes g [] c))
 
 -- a graph that some list of calls yields is valid
 pub good-of : (g : Graph) → Reached g → Good g

@@ -18,14 +18,13 @@ use Rattle.factor.proofs.Counting.{every-3}
 use Rattle.factor.proofs.Witness.{identity-weighed}
 use Rattle.graph.specs.Record.{sizeAt, offset, valid}
 use Rattle.graph.specs.Registration.{withVariable, Verdict, accept, withFactor, settle, weighedVerdict, factorVerdict, priorVerdict, addPrior, countsFit, observationVerdict, addObservation}
-use Rattle.graph.specs.Reached.{Call, variable, prior, observation, after}
+use Rattle.graph.specs.Reached.{Call, prior, observation, variable, register, after}
 use Rattle.graph.specs.declared.Symbol.{Symbol}
 use Rattle.graph.specs.declared.Graph.{Graph}
 use Rattle.graph.specs.declared.Added.{Added}
 use Rattle.graph.proofs.Checking.{Named, named, weighs, prior-as, observation-as}
 
 pub variable-taken : (g : Graph) (name : Symbol) (size : ℕ) → Named g name size → after g (variable name size) ≡ withVariable g name size
-unfolding after
 variable-taken g name size n = ap (λ (a : Added). a .graph) (named g name size n)
 
 -- numbers that are all zero
@@ -54,7 +53,7 @@ module _ (g : Graph) (f : Factor) (h12 : g .count < max-factors) (a : List Float
 -- ---- a prior
 
 abbrev pub prior-call : Graph → ℕ → Call
-prior-call g key = prior key (zeros (sizeAt g key)) (identityOf (sizeAt g key)) (room g (priorOf key (sizeAt g key)))
+prior-call g key = register (prior key (zeros (sizeAt g key)) (identityOf (sizeAt g key))) (room g (priorOf key (sizeAt g key)))
 
 module _ (g : Graph) (h30 : valid g ≡ true) (h12 : g .count < max-factors) (key : ℕ) (h11 : key < g .variables) where
   prior-passes : priorVerdict g key (zeros (sizeAt g key)) (identityOf (sizeAt g key)) (room g (priorOf key (sizeAt g key))) ≡ accept ([] ++ zeros (sizeAt g key) ++ identityOf (sizeAt g key))
@@ -62,13 +61,13 @@ module _ (g : Graph) (h30 : valid g ≡ true) (h12 : g .count < max-factors) (ke
   prior-passes = prior-as g key _ _ _ h30 h11 ∙ factor-passes g (priorOf key (sizeAt g key)) h12 [] refl refl
 
   pub prior-taken : after g (prior-call g key) ≡ withFactor g (priorOf key (sizeAt g key))
-  unfolding after addPrior
+  unfolding addPrior
   prior-taken = ap (λ (v : Verdict). settle g (priorOf key (sizeAt g key)) v .graph) prior-passes
 
 -- ---- an observation
 
 abbrev pub observation-call : Graph → List ℕ → ℕ → Call
-observation-call g keys y = observation keys y (zeros (aNumbers (g .sizes) (observationOf keys y))) (zeros y) (identityOf y) (room g (observationOf keys y))
+observation-call g keys y = register (observation keys y (zeros (aNumbers (g .sizes) (observationOf keys y))) (zeros y) (identityOf y)) (room g (observationOf keys y))
 
 module _ (g : Graph) (h30 : valid g ≡ true) (h12 : g .count < max-factors) (keys : List ℕ) (y : ℕ) (few : length keys ≤ max-keys) (some : 1 ≤ y) (most : y ≤ max-rows)
     (h3 : rising keys ≡ true) (h11 : known (g .variables) keys ≡ true) where
@@ -83,5 +82,5 @@ module _ (g : Graph) (h30 : valid g ≡ true) (h12 : g .count < max-factors) (ke
   observation-passes = observation-as g keys y a _ _ _ h30 counts h3 h11 ∙ factor-passes g (observationOf keys y) h12 a (length-replicate (aNumbers (g .sizes) (observationOf keys y)) plus-zero) (zeros-finite (aNumbers (g .sizes) (observationOf keys y)))
 
   pub observation-taken : after g (observation-call g keys y) ≡ withFactor g (observationOf keys y)
-  unfolding after addObservation
+  unfolding addObservation
   observation-taken = ap (λ (v : Verdict). settle g (observationOf keys y) v .graph) observation-passes

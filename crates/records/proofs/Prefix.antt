@@ -22,7 +22,8 @@ use Rattle.records.specs.declared.answer.Next.the-variants.{At, Stop}
 use Rattle.records.specs.declared.answer.Ended.the-variants.{Whole}
 use Rattle.records.proofs.Agreement.{longest, Agree, record-as}
 use Rattle.records.proofs.Progress.{most-read, record-bounded}
-use Rattle.records.proofs.Reading.{step-reached, fresh-reached, record-next}
+use Rattle.graph.proofs.Calls.{fresh-reached}
+use Rattle.records.proofs.Reading.{step-reached, record-next}
 use Rattle.records.proofs.StoreLength.{record-same}
 
 -- the numbers of the store, and the bytes that decide

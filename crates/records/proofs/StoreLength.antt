@@ -22,7 +22,11 @@ use Rattle.factor.specs.Weighing.{Weight, weight, noPivot, noNumber, xiOf, wOf,
 use Rattle.factor.specs.declared.Factor.{Factor}
 use Rattle.graph.specs.Record.{sizeAt, offset}
 use Rattle.graph.specs.Registration.{Verdict, accept, stored, priorStore, countsFit, observationStore}
-use Rattle.graph.proofs.Checking.{Taken, a-long, mean-long, prior-cases, observation-cases}
+use Rattle.graph.specs.Reached as calls
+use Rattle.graph.specs.Reached.{Call, prior, observation, register, lent}
+use Rattle.graph.proofs.Checking.{Taken, a-long, mean-long}
+use Rattle.graph.proofs.Calls.{Comes, turned, named, taken, comes}
+use Rattle.graph.specs.declared.Added.{Added}
 use Rattle.graph.specs.declared.Graph.{Graph}
 use Rattle.graph.specs.declared.refusal.Refusal.{Refusal}
 use Rattle.records.specs.Bytes.{byteAt, cut, keysAt}
@@ -80,25 +84,22 @@ numbers-are : (sizes : List ℕ) (f : Factor) → numbers sizes f ≡ aNumbers s
 unfolding numbers
 numbers-are sizes f = refl
 
+taken-kept : (g : Graph) (store : List Float) (f : Factor) (a mean variance xi w : List Float) → Taken g f a mean variance store xi w → length (stored g store (accept (a ++ xi ++ w))) ≡ length store
+unfolding Sized
+taken-kept g store f a mean variance xi w t =
+    let p = t .passed in
+    let s : Sized (f .rows) mean (weight xi w) = subst (Sized (f .rows) mean) (t .weighing) (weighed-sized (f .rows) mean variance) in
+    lay-length store (offset g (g .count)) (a ++ xi ++ w)
+    (omega (arith, length-append (a ++ xi) w, length-append a xi, numbers-are (g .sizes) f, s .0, s .1, a-long g f _ _ _ (p .lengths), mean-long g f _ _ _ (p .lengths), p .room))
+
+comes-kept : {g : Graph} {keys : List ℕ} {store s : List Float} {x : Added} → Comes g keys store x s → length s ≡ length store
+comes-kept (turned why) = refl
+comes-kept (named name size n) = refl
+comes-kept {g} {store = store} (taken f a mean variance xi w t e) = taken-kept g store f a mean variance xi w t
+
 module _ (g : Graph) (store : List Float) where
-  Kept : Verdict → Type 0
-  Kept v = length (stored g store v) ≡ length store
-
-  taken-kept : (f : Factor) (a mean variance xi w : List Float) → Taken g f a mean variance store xi w → Kept (accept (a ++ xi ++ w))
-  unfolding Kept Sized
-  taken-kept f a mean variance xi w t =
-      let p = t .passed in
-      let s : Sized (f .rows) mean (weight xi w) = subst (Sized (f .rows) mean) (t .weighing) (weighed-sized (f .rows) mean variance) in
-      lay-length store (offset g (g .count)) (a ++ xi ++ w)
-      (omega (arith, length-append (a ++ xi) w, length-append a xi, numbers-are (g .sizes) f, s .0, s .1, a-long g f _ _ _ (p .lengths), mean-long g f _ _ _ (p .lengths), p .room))
-
-  prior-kept : (key : ℕ) (mean variance : List Float) → length (priorStore g key mean variance store) ≡ length store
-  unfolding Kept priorStore
-  prior-kept key mean variance = prior-cases g key mean variance store Kept (λ _. refl) (λ xi w t. taken-kept _ _ _ _ _ _ t)
-
-  observation-kept : (keys : List ℕ) (rows : ℕ) (a mean variance : List Float) → length (observationStore g keys rows a mean variance store) ≡ length store
-  unfolding Kept observationStore
-  observation-kept keys rows a mean variance = observation-cases g keys rows a mean variance store Kept (λ _. refl) (λ xi w t. taken-kept _ _ _ _ _ _ t)
+  call-kept : (c : Call) → length (calls.storeAfter g store c) ≡ length (lent store c)
+  call-kept c = comes-kept (comes g store c)
 
   -- ---- the store of a record
 
@@ -115,13 +116,13 @@ module _ (g : Graph) (store : List Float) where
   marked-same mark.Variable bytes at = else-same (cut bytes at 9) _ _ refl
   marked-same mark.Prior bytes at =
       else-same (cut bytes at 1) _ _ (else-same (not (ltb (byteAt bytes at) (g .variables))) _ _
-      (else-same (cut bytes (at + 1) (8 * (sizeAt g (byteAt bytes at) + sizeAt g (byteAt bytes at) * sizeAt g (byteAt bytes at)))) _ _ (prior-kept _ _ _)))
+      (else-same (cut bytes (at + 1) (8 * (sizeAt g (byteAt bytes at) + sizeAt g (byteAt bytes at) * sizeAt g (byteAt bytes at)))) _ _ (call-kept (register (prior _ _ _) store))))
   marked-same mark.Observation bytes at =
       else-same (cut bytes at 3) _ _ (else-same (not (flagKnown (meaning (byteAt bytes (at + 2))))) _ _
       (else-same (not (countsFit (byteAt bytes at) (byteAt bytes (at + 1)))) _ _ (else-same (cut bytes (at + 3) (byteAt bytes at)) _ _
       (else-same (not (rising (keysAt bytes (at + 3) (byteAt bytes at)))) _ _ (else-same (not (known (g .variables) (keysAt bytes (at + 3) (byteAt bytes at)))) _ _
       (else-same (cut bytes (at + 3 + byteAt bytes at) (8 * (aNumbers (g .sizes) (observationOf (keysAt bytes (at + 3) (byteAt bytes at)) (byteAt bytes (at + 1))) + byteAt bytes (at + 1) + given (meaning (byteAt bytes (at + 2))) (byteAt bytes (at + 1))))) _ _
-      (observation-kept _ _ _ _ _)))))))
+      (call-kept (register (observation _ _ _ _ _) store))))))))
   marked-same mark.Unmarked bytes at = refl
 
   pub record-same : (bytes : List ℕ) (at : ℕ) → length (storeAfter g store (recordAt g store bytes at)) ≡ length store
