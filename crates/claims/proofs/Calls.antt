@@ -1,25 +1,21 @@
 -- What the calls answered is what the graph holds: the keys answered are those below the count of variables, each once, the numbers those below the count of factors, and a factor has the keys that its call gave. Assumes nothing.
 use mathlib.Core.Path.{_≡_, refl, sym, ap, _∙_}
 use mathlib.Core.List.{List, [], _∷_, _++_, List·Memᴰ, List·Memᴰ·head, List·Memᴰ·tail, List·Memᴰ·not-nil}
-use Prim.Native.Nat.{ℕ, suc, _+_, _-_, _≤_, _<_}
+use Prim.Native.Nat.{ℕ, suc, _+_, _≤_, _<_}
 use native.Mathlib.Numerals.{add-one}
 use native.Mathlib.Omega.{arith}
 use borrow.Author.Tests.{lt-ltb}
 use lib.Ieee.{Float}
-use lib.ListN.{length, take, replicate}
-use lib.Seq.{getD-set-same, getD-set-other, take-append-seam}
-use Rattle.factor.specs.Limits.{max-keys}
-use Rattle.factor.specs.Factor.{past, priorOf, observationOf}
+use lib.ListN.{length, take}
+use lib.Seq.{getD-set-same, getD-set-other}
+use Rattle.factor.specs.Factor.{past}
 use Rattle.factor.specs.declared.Factor.{Factor}
-use Rattle.graph.specs.Record.{sizeAt, factorAt, fresh}
-use Rattle.graph.specs.Registration.{withVariable, addVariable, Verdict, accept, refuse, withFactor, settle, priorVerdict, addPrior, observationVerdict, addObservation}
+use Rattle.graph.specs.Record.{factorAt, fresh}
+use Rattle.graph.specs.Registration.{withVariable, withFactor}
 use Rattle.graph.specs.Reached.{Call, answered, lent, storeAfter, given, after, yields, Reached}
 use Rattle.graph.specs.declared.Symbol.{Symbol}
 use Rattle.graph.specs.declared.Graph.{Graph}
 use Rattle.graph.specs.declared.Added.{Added}
-use Rattle.graph.specs.declared.Outcome.{Outcome}
-use Rattle.graph.specs.declared.Outcome.the-variants.{Key, Number, Refused}
-use Rattle.graph.specs.declared.refusal.Refusal.{Refusal}
 use Rattle.graph.proofs.Calls.{Comes, turned, named, taken, comes, fresh-reached, reached-more}
 use Rattle.graph.proofs.Keeping.{good-of}
 use Rattle.graph.proofs.Validity.{valid-count}

@@ -6,7 +6,6 @@ use Prim.Native.Nat.{ℕ, _+_, _≤_}
 use lib.ListN.{length, getD}
 use lib.Ieee.{Float}
 use Rattle.graph.specs.Record.{sizeAt, fresh}
-use Rattle.graph.specs.Registration.{addVariable, addPrior, addObservation}
 use Rattle.graph.specs.Reached.{Call, answered, given, after, yields}
 use Rattle.graph.specs.declared.Graph.{Graph}
 use Rattle.graph.specs.declared.Outcome.{Outcome}

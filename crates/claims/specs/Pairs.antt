@@ -10,7 +10,6 @@ use Rattle.root.specs.declared.Pivot.the-variants.{Root}
 use Rattle.factor.specs.Limits.{max-size}
 use Rattle.graph.specs.Refusals.{numberOf}
 use Rattle.graph.specs.Record.{fresh, valid}
-use Rattle.graph.specs.Registration.{priorStore, observationStore}
 use Rattle.graph.specs.Reached.{Call, prior, observation, variable, register, answered, after, storeAfter}
 use Rattle.graph.specs.declared.Graph.{Graph}
 use Rattle.graph.specs.declared.Outcome.the-variants as outcome
@@ -34,7 +33,6 @@ use Rattle.lines.specs.Lines.{refusedWord}
 use Rattle.job.specs.Job.{factor-room, zeros, jobText}
 use Rattle.solver.specs.Run.{Verdict, run}
 use Rattle.solver.specs.declared.run.Ended.the-variants.{Done, Refused}
-use Rattle.claims.specs.Demand3.{outcomeOf}
 
 -- ---- numbers, by their bits
 

@@ -3,7 +3,7 @@ use Prim.Native.Nat.{ℕ, zero, suc, _+_, _<_, _≤_}
 use mathlib.Core.Path.{_≡_, refl, sym, ap, _∙_}
 use mathlib.Core.Bool.{Bool, true, false}
 use mathlib.Core.Logic.{_↔_}
-use mathlib.Core.List.{List, [], _∷_, _++_}
+use mathlib.Core.List.{[], _∷_}
 use native.Mathlib.Numerals.{add-one}
 use native.Mathlib.Omega.{arith}
 use lib.ListN.{length, replicate}
@@ -13,11 +13,11 @@ use Rattle.factor.specs.Factor.{keyAt, noFactor, past}
 use Rattle.factor.specs.declared.Factor.{Factor}
 use Rattle.factor.proofs.Counting.{every-at, sum-le, sum-more, sum-ext, sum-stop}
 use Rattle.factor.proofs.Fitting.{fits-touched, fits-key, prior-touched, prior-is, some-rows, few-rows, touches, touches-long, touches-rising, touches-known, observation-is, clear-is}
-use Rattle.graph.specs.Record.{noName, nameAt, sizeAt, factorAt, fresh, scalar, sizeFits, free, total, registered, valid}
+use Rattle.graph.specs.Record.{noName, nameAt, sizeAt, factorAt, scalar, sizeFits, free, total, registered, valid}
 use Rattle.graph.specs.Registration.{withFactor}
 use Rattle.graph.specs.Reached.{Call, variable, after, yields, Reached}
 use Rattle.graph.specs.declared.Graph.{Graph}
-use Rattle.graph.proofs.Calls.{fresh-reached, reached-more}
+use Rattle.graph.proofs.Calls.{reached-more}
 use Rattle.graph.proofs.Filling.{fill, fill-set, fill-below, fill-above, fill-all}
 use Rattle.graph.proofs.Keeping.{Shaped, Sound, sound-of, free-ext, clear-name, clear-size, good-of}
 use Rattle.graph.proofs.Passing.{variable-taken, prior-call, prior-taken, observation-call, observation-taken}

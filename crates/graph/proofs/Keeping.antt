@@ -11,13 +11,13 @@ use lib.ListN.{length, getD-replicate, length-set}
 use lib.Seq.{getD-set-same, getD-set-other}
 use Rattle.factor.specs.Limits.{max-variables, max-total, max-factors, max-keys}
 use Rattle.factor.specs.Counting.{every, all, sum}
-use Rattle.factor.specs.Factor.{noFactor, past, priorOf, observationOf, fits, isClear}
+use Rattle.factor.specs.Factor.{noFactor, past, fits, isClear}
 use Rattle.factor.specs.declared.Factor.{Factor}
 use Rattle.factor.proofs.Counting.{every-at, every-3, every-5, by-test, all-of, all-ext, sum-put}
 use Rattle.factor.proofs.Fitting.{fits-more}
 use Rattle.graph.specs.Record.{noName, nameAt, sizeAt, factorAt, fresh, scalar, sizeFits, same, free, total, registered, clear, place, variablesFit, factorPlace, factorsFit, valid}
-use Rattle.graph.specs.Registration.{withVariable, addVariable, Verdict, withFactor, settle, addPrior, addObservation}
-use Rattle.graph.specs.Reached.{Call, variable, prior, observation, after, yields, Reached}
+use Rattle.graph.specs.Registration.{withVariable, withFactor}
+use Rattle.graph.specs.Reached.{Call, after, yields, Reached}
 use Rattle.graph.specs.declared.Symbol.{Symbol}
 use Rattle.graph.specs.declared.Graph.{Graph}
 use Rattle.graph.specs.declared.Added.{Added}

@@ -2,14 +2,14 @@
 use Prim.Native.Nat.{ℕ, zero, suc, _+_, _-_, _*_, _≤_, _<_}
 use mathlib.Core.Path.{_≡_, refl, sym, ap, _∙_}
 use mathlib.Core.Bool.{Bool, true, false, not, cond}
-use mathlib.Core.List.{List, [], _∷_, _++_}
+use mathlib.Core.List.{List}
 use native.Mathlib.Omega.{arith}
 use borrow.Author.Tests.{lt-ltb, le-ltb, ltb-false}
 use lib.Dec.{ltb}
 use lib.Ieee.{Float}
 use lib.ListN.{length}
 use Rattle.factor.specs.Factor.{rising, known}
-use Rattle.graph.specs.Record.{fresh, sizeAt}
+use Rattle.graph.specs.Record.{sizeAt}
 use Rattle.graph.specs.Registration.{countsFit}
 use Rattle.graph.proofs.Calls.{reached-more}
 use Rattle.graph.specs.Reached.{Call, answered, Reached}

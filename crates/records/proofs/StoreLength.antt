@@ -21,7 +21,7 @@ use Rattle.factor.specs.Factor.{rising, known, observationOf, aNumbers, numbers
 use Rattle.factor.specs.Weighing.{Weight, weight, noPivot, noNumber, xiOf, wOf, bounded, weighedBy, weighed}
 use Rattle.factor.specs.declared.Factor.{Factor}
 use Rattle.graph.specs.Record.{sizeAt, offset}
-use Rattle.graph.specs.Registration.{Verdict, accept, stored, priorStore, countsFit, observationStore}
+use Rattle.graph.specs.Registration.{accept, stored, countsFit}
 use Rattle.graph.specs.Reached as calls
 use Rattle.graph.specs.Reached.{Call, prior, observation, register, lent}
 use Rattle.graph.proofs.Checking.{Taken, a-long, mean-long}
