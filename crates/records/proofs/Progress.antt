@@ -23,17 +23,17 @@ use Rattle.graph.specs.declared.refusal.Refusal.{Refusal}
 use Rattle.graph.proofs.Validity.{valid-factor, offset-more}
 use Rattle.graph.proofs.Checking.{Taken, variable-cases, prior-cases, observation-cases, few-keys}
 use Rattle.graph.proofs.Keeping.{Shaped, Good}
-use Rattle.records.specs.Bytes.{byteAt, cut, keysAt}
-use Rattle.records.specs.Records.{Request, refuse, variableAt, priorNumbers, priorAt, meaning, flagKnown, given, observedNumbers, observed, observationAt, markOf, marked, recordAt, nextOf, stepOf}
+use Rattle.records.specs.Bytes.{float-bytes, byteAt, cut, keysAt}
+use Rattle.records.specs.Records.{Request, refuse, variable-record, factor-frame, variableAt, priorNumbers, priorAt, meaning, flagKnown, given, observedNumbers, observed, observationAt, markOf, marked, recordAt, nextOf, stepOf}
 use Rattle.records.specs.declared.answer.Next.the-variants.{At}
 use Rattle.records.specs.declared.kinds.Flag.{Flag}
 use Rattle.records.specs.declared.kinds.Mark.{Mark}
 use Rattle.records.specs.declared.kinds.Mark.the-variants as mark
 use Rattle.records.proofs.Agreement.{given-most}
 
--- the bytes that a graph's records can have taken: 11 for a variable, and for a factor 13 and eight for each number stored
+-- the bytes that a graph's records can have taken: those of its variables, and for each factor its frame and its numbers
 abbrev pub most-read : Graph → ℕ
-most-read g = 11 * g .variables + 13 * g .count + 8 * offset g (g .count)
+most-read g = variable-record * g .variables + factor-frame * g .count + float-bytes * offset g (g .count)
 
 -- ---- the numbers stored, after a variable and after a factor
 
@@ -75,7 +75,7 @@ module _ (g : Graph) (ok : Good g) (len : ℕ) (held : offset g (g .count) ≤ l
   unfolding Grown
   turned why n e = let z : _≡_ {A = ℕ} 0 1 = cc in (omega arith, omega arith)
 
-  variable-grown : (name : Symbol) (size : ℕ) → next ≡ start + 11 → Grown (addVariable g name size)
+  variable-grown : (name : Symbol) (size : ℕ) → next ≡ start + variable-record → Grown (addVariable g name size)
   unfolding Grown
   variable-grown name size l =
       variable-cases g name size Grown turned
@@ -84,7 +84,7 @@ module _ (g : Graph) (ok : Good g) (len : ℕ) (held : offset g (g .count) ≤ l
       let k : offset (withVariable g name size) (g .count) ≡ offset g (g .count) = variable-offset g (ok .1) name size in
       (omega arith, omega arith))
 
-  taken-grown : (f : Factor) (a mean variance store xi w : List Float) → next ≤ start + 13 + 8 * numbers (g .sizes) f → length store ≡ len → Taken g f a mean variance store xi w → Grown (settle g f (accept (a ++ xi ++ w)))
+  taken-grown : (f : Factor) (a mean variance store xi w : List Float) → next ≤ start + factor-frame + float-bytes * numbers (g .sizes) f → length store ≡ len → Taken g f a mean variance store xi w → Grown (settle g f (accept (a ++ xi ++ w)))
   unfolding Grown
   taken-grown f a mean variance store xi w took s t n e =
       let z : next ≡ n = cc in
@@ -92,12 +92,12 @@ module _ (g : Graph) (ok : Good g) (len : ℕ) (held : offset g (g .count) ≤ l
       let room = t .passed .room in
       (omega arith, omega arith)
 
-  prior-grown : (key : ℕ) (mean variance store : List Float) → next ≤ start + 13 + 8 * numbers (g .sizes) (priorOf key (sizeAt g key)) → length store ≡ len → Grown (addPrior g key mean variance store)
+  prior-grown : (key : ℕ) (mean variance store : List Float) → next ≤ start + factor-frame + float-bytes * numbers (g .sizes) (priorOf key (sizeAt g key)) → length store ≡ len → Grown (addPrior g key mean variance store)
   unfolding addPrior
   prior-grown key mean variance store took s =
       prior-cases g key mean variance store (λ v. Grown (settle g (priorOf key (sizeAt g key)) v)) turned (λ xi w t. taken-grown _ _ _ _ _ _ _ took s t)
 
-  observation-grown : (keys : List ℕ) (rows : ℕ) (a mean variance store : List Float) → next ≤ start + 13 + 8 * numbers (g .sizes) (observationOf keys rows) → length store ≡ len → Grown (addObservation g keys rows a mean variance store)
+  observation-grown : (keys : List ℕ) (rows : ℕ) (a mean variance store : List Float) → next ≤ start + factor-frame + float-bytes * numbers (g .sizes) (observationOf keys rows) → length store ≡ len → Grown (addObservation g keys rows a mean variance store)
   unfolding addObservation
   observation-grown keys rows a mean variance store took s =
       observation-cases g keys rows a mean variance store (λ v. Grown (settle g (observationOf keys rows) v)) turned (λ xi w t. taken-grown _ _ _ _ _ _ _ took s t)
@@ -129,7 +129,7 @@ module _ (g : Graph) (ok : Good g) (store : List Float) (held : offset g (g .cou
     unfolding Bounded Grown variableAt
     variable-bounded at e = else-bounded (cut bytes at 9) _ _ (λ _. variable-grown g ok (length store) held start (at + 9) _ _ (omega arith))
 
-    prior-numbers-bounded : (key at : ℕ) → at ≤ start + 13 → Bounded (priorNumbers store bytes key (sizeAt g key) at)
+    prior-numbers-bounded : (key at : ℕ) → at ≤ start + factor-frame → Bounded (priorNumbers store bytes key (sizeAt g key) at)
     unfolding Bounded Grown priorNumbers
     prior-numbers-bounded key at l =
         else-bounded (cut bytes at (8 * (sizeAt g key + sizeAt g key * sizeAt g key))) _ _
@@ -142,7 +142,7 @@ module _ (g : Graph) (ok : Good g) (store : List Float) (held : offset g (g .cou
         (λ _. else-bounded (not (ltb (byteAt bytes at) (g .variables))) _ _
         (λ _. prior-numbers-bounded (byteAt bytes at) (at + 1) (omega arith)))
 
-    observed-bounded : (keys : List ℕ) (rows : ℕ) (flag : Flag) (at : ℕ) → at ≤ start + 13 → Bounded (observed g store bytes keys rows flag at)
+    observed-bounded : (keys : List ℕ) (rows : ℕ) (flag : Flag) (at : ℕ) → at ≤ start + factor-frame → Bounded (observed g store bytes keys rows flag at)
     unfolding Bounded Grown observed observedNumbers
     observed-bounded keys rows flag at l =
         else-bounded (not (rising keys)) _ _

@@ -6,9 +6,10 @@ use lib.Dec.{ltb, eqb}
 use lib.Ieee.{Float}
 use lib.ListN.{length}
 use Rattle.matrix.specs.Triangles.{identityOf}
+use Rattle.factor.specs.Limits.{max-variables, max-total, max-factors, max-keys, max-rows}
 use Rattle.factor.specs.Factor.{rising, known, observationOf, aNumbers}
 use Rattle.graph.specs.Record.{sizeAt, fresh}
-use Rattle.graph.specs.Registration.{addVariable, addPrior, priorStore, countsFit, addObservation, observationStore}
+use Rattle.graph.specs.Registration.{countsFit}
 use Rattle.graph.specs.Reached as calls
 use Rattle.graph.specs.Reached.{Call, prior, observation, variable, register, answered}
 use Rattle.graph.specs.declared.Graph.{Graph}
@@ -43,6 +44,24 @@ variable-bytes = 9
 
 abbrev pub header-bytes : ℕ
 header-bytes = 3
+
+-- the bytes of a variable's record, and at most of a factor's beside its numbers
+abbrev pub variable-record : ℕ
+variable-record = mark-bytes + variable-bytes
+
+abbrev pub factor-frame : ℕ
+factor-frame = mark-bytes + header-bytes + max-keys
+
+-- the numbers of an observation at most, those of A, mean and variance, and the bytes of the longest record
+abbrev pub most-given : ℕ
+most-given = max-rows * max-total + max-rows + max-rows * max-rows
+
+abbrev pub longest : ℕ
+longest = factor-frame + float-bytes * most-given
+
+-- the bytes that decide what is read into a store of so many numbers: those of all records that it has room for, and of one record more
+abbrev pub enough : ℕ → ℕ
+enough room = variable-record * max-variables + factor-frame * max-factors + float-bytes * room + longest
 
 -- ---- a variable: letter, index and size
 
