@@ -14,7 +14,9 @@
 /* A buffer of as many bytes takes the text of every job. */
 #define STRIPS_OUTPUT 22944
 
-/* Past as many bytes nothing in a job changes its text, so that no more need be kept of it. */
+/* Past as many bytes nothing in a job changes its text, so that no more need be kept of it. They are those of all records
+ * that there is room for, and of one record more: 11 for each of 32 variables, 5 and 8 keys for each of 64 factors, 8 for
+ * each of 2,048 numbers, and 5 + 8 + 8 * (12 * 32 + 12 + 12 * 12) for the longest record. */
 #define STRIPS_INPUT 21901
 
 /* The answer where the buffer is too short. */

@@ -1,8 +1,10 @@
 //! Reads a job from standard input and prints its text: what the program `strips` does, from Rust.
 use std::io::{self, Read, Write};
 
-/// A buffer of as many bytes takes the text of every job; past as many bytes nothing in a job changes its text.
+/// A buffer of as many bytes takes the text of every job.
 const OUTPUT: usize = 22944;
+/// Past as many bytes nothing in a job changes its text (firmware/strips.h):
+/// 11 * 32 + (5 + 8) * 64 + 8 * 2048 + 5 + 8 + 8 * (12 * 32 + 12 + 12 * 12).
 const INPUT: u64 = 21901;
 
 extern "C" {

@@ -1,67 +1,27 @@
 -- What the calls answered is what the graph holds: the keys answered are those below the count of variables, each once, the numbers those below the count of factors, and a factor has the keys that its call gave. Assumes nothing.
 use mathlib.Core.Path.{_≡_, refl, sym, ap, _∙_}
-use mathlib.Core.Bool.{Bool, true, false, not, cond}
 use mathlib.Core.List.{List, [], _∷_, _++_, List·Memᴰ, List·Memᴰ·head, List·Memᴰ·tail, List·Memᴰ·not-nil}
-use Prim.Native.Nat.{ℕ, suc, _+_, _-_, _≤_, _<_}
+use Prim.Native.Nat.{ℕ, suc, _+_, _≤_, _<_}
 use native.Mathlib.Numerals.{add-one}
 use native.Mathlib.Omega.{arith}
 use borrow.Author.Tests.{lt-ltb}
-use lib.Dec.{ltb, leb}
-use lib.ListN.{length, take, replicate}
-use lib.Seq.{getD-set-same, getD-set-other, take-append-seam}
-use Rattle.factor.specs.Limits.{max-variables, max-total, max-keys}
-use Rattle.factor.specs.Counting.{every}
-use Rattle.factor.specs.Factor.{past, priorOf, observationOf}
+use lib.Ieee.{Float}
+use lib.ListN.{length, take}
+use lib.Seq.{getD-set-same, getD-set-other}
+use Rattle.factor.specs.Factor.{past}
 use Rattle.factor.specs.declared.Factor.{Factor}
-use Rattle.graph.specs.Record.{sizeAt, factorAt, fresh, scalar, sizeFits, free, total, valid}
-use Rattle.graph.specs.Registration.{withVariable, addVariable, Verdict, accept, refuse, withFactor, settle, priorVerdict, addPrior, observationVerdict, addObservation}
-use Rattle.graph.specs.Reached.{Call, variable, prior, observation, after, yields, Reached}
+use Rattle.graph.specs.Record.{factorAt, fresh}
+use Rattle.graph.specs.Registration.{withVariable, withFactor}
+use Rattle.graph.specs.Reached.{Call, answered, lent, storeAfter, given, after, yields, Reached}
 use Rattle.graph.specs.declared.Symbol.{Symbol}
 use Rattle.graph.specs.declared.Graph.{Graph}
 use Rattle.graph.specs.declared.Added.{Added}
-use Rattle.graph.specs.declared.Outcome.{Outcome}
-use Rattle.graph.specs.declared.Outcome.the-variants.{Key, Number, Refused}
-use Rattle.graph.specs.declared.refusal.Refusal.{Refusal}
-use Rattle.graph.specs.declared.refusal.Refusal.the-variants.{NotALetter, SizeOutside, NameTaken, PastLimit, NoSuchGraph}
+use Rattle.graph.proofs.Calls.{Comes, turned, named, taken, comes, fresh-reached, reached-more}
 use Rattle.graph.proofs.Keeping.{good-of}
 use Rattle.graph.proofs.Validity.{valid-count}
 use Rattle.schedule.specs.Count.{from}
 use Rattle.messages.specs.Tables.{keysOf}
-use Rattle.claims.specs.Demand3.{outcomeOf, given, Accepted, keyIn, factorIn, registered, accepted, numbers}
-
--- ---- one call
-
--- a call is turned back and leaves the graph, or adds a variable, or adds a factor of the keys given
-data Did (g : Graph) (keys : List ℕ) : Outcome → Graph → Type 0 where
-  turned : (why : Refusal) → Did g keys (Refused why) g
-  named : (name : Symbol) (size : ℕ) → Did g keys (Key (g .variables)) (withVariable g name size)
-  taken : (f : Factor) → take (f .touched) (f .keys) ≡ keys → Did g keys (Number (g .count)) (withFactor g f)
-
-either : (P : Added → Type 0) (b : Bool) (x y : Added) → P x → P y → P (cond (not b) x y)
-either P true x y p q = q
-either P false x y p q = p
-
-settled : (g : Graph) (f : Factor) (keys : List ℕ) → take (f .touched) (f .keys) ≡ keys → (v : Verdict) → Did g keys (settle g f v .outcome) (settle g f v .graph)
-settled g f keys e (accept numbers) = taken f e
-settled g f keys e (refuse why) = turned why
-
-variable-did : (g : Graph) (name : Symbol) (size : ℕ) → Did g [] (addVariable g name size .outcome) (addVariable g name size .graph)
-unfolding addVariable
-variable-did g name size =
-    either P (valid g) _ _ (turned NoSuchGraph)
-    (either P (scalar (name .0)) _ _ (turned NotALetter)
-    (either P (sizeFits size) _ _ (turned SizeOutside)
-    (either P (free g (g .variables) name) _ _ (turned NameTaken)
-    (either P (every (ltb (g .variables) max-variables ∷ leb (total g + size) max-total ∷ [])) _ _ (turned PastLimit) (named name size)))))
-  where
-    P : Added → Type 0
-    P x = Did g [] (x .outcome) (x .graph)
-
-did : (g : Graph) (c : Call) → Did g (given c) (outcomeOf g c) (after g c)
-unfolding outcomeOf after given addPrior addObservation
-did g (variable name size) = variable-did g name size
-did g (prior key mean variance store) = settled g (priorOf key (sizeAt g key)) (key ∷ []) refl (priorVerdict g key mean variance store)
-did g (observation keys rows a mean variance store) = settled g (observationOf keys rows) keys (take-append-seam keys (replicate (max-keys - length keys) 0)) (observationVerdict g keys rows a mean variance store)
+use Rattle.claims.specs.Demand3.{Accepted, keyIn, factorIn, registered, accepted, numbers}
 
 -- ---- the calls of a list
 
@@ -100,10 +60,11 @@ unfolding from
 from-more a n = ap (λ (b : ℕ). a ∷ from b n) (add-one a)
 
 -- a call before the others
-one-more : (g m h : Graph) (keys : List ℕ) (o : Outcome) (ks : List ℕ) (fs : List Accepted) → m .count ≤ length (g .factors) → Did g keys o m → Read m h ks fs → Read g h (keyIn o ++ ks) (factorIn o keys ++ fs)
+one-more : (g h : Graph) (keys : List ℕ) (store s : List Float) (x : Added) (ks : List ℕ) (fs : List Accepted) → x .graph .count ≤ length (g .factors) → Comes g keys store x s → Read (x .graph) h ks fs
+    → Read g h (keyIn (x .outcome) ++ ks) (factorIn (x .outcome) keys ++ fs)
 unfolding keyIn factorIn
-one-more g m h keys o ks fs room (turned why) r = r
-one-more g m h keys o ks fs room (named name size) r =
+one-more g h keys store s x ks fs room (turned why) r = r
+one-more g h keys store s x ks fs room (named name size n) r =
     record {
       more-keys = suc (r .more-keys);
       keys = ap (λ (l : List ℕ). g .variables ∷ l) (r .keys) ∙ from-more (g .variables) (r .more-keys);
@@ -114,7 +75,7 @@ one-more g m h keys o ks fs room (named name size) r =
       older = λ i l. r .older i l ∙ same-keys g name size i;
       given = r .given;
     }
-one-more g m h keys o ks fs room (taken f e) r =
+one-more g h keys store s x ks fs room (taken f a mean variance xi w t e) r =
     record {
       more-keys = r .more-keys;
       keys = r .keys;
@@ -133,17 +94,8 @@ one-more g m h keys o ks fs room (taken f e) r =
     given-too a (List·Memᴰ·head q) = ap (λ (x : Accepted). x .keys) q ∙ own ∙ ap (λ (x : Accepted). keysOf h (x .number)) (sym q)
     given-too a (List·Memᴰ·tail t) = r .given a t
 
--- a graph that calls yield, and one call more
-yields-more : (cs : List Call) (g : Graph) (c : Call) → yields g (cs ++ (c ∷ [])) ≡ after (yields g cs) c
-unfolding yields
-yields-more [] g c = refl
-yields-more (b ∷ cs) g c = yields-more cs (after g b) c
-
-reached-more : (g : Graph) (c : Call) → Reached g → Reached (after g c)
-reached-more g c r = (r .0 ++ (c ∷ []), yields-more (r .0) fresh c ∙ ap (λ (x : Graph). after x c) (r .1))
-
 room-in : (g : Graph) (c : Call) → Reached g → after g c .count ≤ length (g .factors)
-room-in g c r = omega (arith, valid-count (after g c) (good-of (after g c) (reached-more g c r) .1), good-of g r .0 .factors)
+room-in g c r = omega (arith, valid-count (after g c) (good-of (after g c) (reached-more g _ c r refl) .1), good-of g r .0 .factors)
 
 read-from : (cs : List Call) (g : Graph) → Reached g → Read g (yields g cs) (registered g cs) (accepted g cs)
 unfolding yields registered accepted from
@@ -159,8 +111,8 @@ read-from [] g r =
       given = λ f m. absurd (List·Memᴰ·not-nil m);
     }
 read-from (c ∷ cs) g r =
-    one-more g (after g c) (yields (after g c) cs) (given c) (outcomeOf g c) (registered (after g c) cs) (accepted (after g c) cs)
-    (room-in g c r) (did g c) (read-from cs (after g c) (reached-more g c r))
+    one-more g (yields (after g c) cs) (given c) (lent [] c) (storeAfter g [] c) (answered g c) (registered (after g c) cs) (accepted (after g c) cs)
+    (room-in g c r) (comes g [] c) (read-from cs (after g c) (reached-more g _ c r refl))
 
 -- ---- from a fresh graph
 
@@ -173,7 +125,7 @@ module _ (cs : List Call) where
 
   read : Read fresh g (registered fresh cs) (accepted fresh cs)
   unfolding yields
-  read = read-from cs fresh ([], refl)
+  read = read-from cs fresh fresh-reached
 
   pub keys-are : registered fresh cs ≡ from 0 (g .variables)
   keys-are = let e : read .more-keys ≡ g .variables = omega (arith, read .variables) in read .keys ∙ ap (from 0) e

@@ -13,7 +13,7 @@ use Rattle.factor.specs.Counting.{every, all, sum}
 use Rattle.factor.specs.Factor.{above, keyFits, rowsFit, fits, isClear, firstColumn, aNumbers, numbers, lengthsFit, givenFinite}
 use Rattle.graph.specs.Record.{scalar, sizeFits, same, free, total, registered, clear, place, variablesFit, factorPlace, factorsFit, offset, valid}
 use Rattle.graph.specs.Registration.{addVariable, factorVerdict, priorVerdict, addPrior, priorStore, countsFit, observationVerdict, addObservation, observationStore}
-use Rattle.graph.specs.Reached.{Call, after}
+use Rattle.graph.specs.Reached.{Call}
 use Rattle.graph.specs.declared.Graph.{Graph}
 use Rattle.schedule.specs.Count as counts
 use Rattle.schedule.specs.Plan as lists
@@ -28,11 +28,11 @@ use Rattle.solver.specs.Plan.{graphPlan, planned}
 use Rattle.marginals.specs.Marginals as found
 use Rattle.solver.specs.Run as runs
 use Rattle.solver.specs.Run.{Verdict, run}
-use Rattle.claims.specs.Pairs.{Lent, storeAfter, next, lentTo, made}
+use Rattle.claims.specs.Pairs.{Lent, next, lentTo, made}
 
 -- the graph and the store that calls make
 unfoldable pub computedCalls : ℕ → List (List Float → Call) → Lent
-unfolding made lentTo next storeAfter after addVariable factorVerdict priorVerdict addPrior priorStore countsFit observationVerdict addObservation observationStore valid every all sum variablesFit factorsFit place registered clear same factorPlace fits keyFits rowsFit isClear total scalar sizeFits free above firstColumn aNumbers numbers lengthsFit givenFinite offset allFinite exchanged exchangedBy bounded factor column rooted below reduced pivotOf solved solveLower solveUpper solvedRow inverted unitColumn steps sweep deductOf deduct ofBits sub mul div computed
+unfolding made lentTo next addVariable factorVerdict priorVerdict addPrior priorStore countsFit observationVerdict addObservation observationStore valid every all sum variablesFit factorsFit place registered clear same factorPlace fits keyFits rowsFit isClear total scalar sizeFits free above firstColumn aNumbers numbers lengthsFit givenFinite offset allFinite exchanged exchangedBy bounded factor column rooted below reduced pivotOf solved solveLower solveUpper solvedRow inverted unitColumn steps sweep deductOf deduct ofBits sub mul div computed
 computedCalls n cs = made n cs
 
 -- the run

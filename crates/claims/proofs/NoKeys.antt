@@ -19,7 +19,8 @@ use Rattle.records.specs.declared.answer.Next.{Next}
 use Rattle.records.specs.declared.answer.Next.the-variants.{At, Stop}
 use Rattle.records.specs.declared.answer.Ended.the-variants.{Whole}
 use Rattle.records.proofs.Progress.{record-bounded}
-use Rattle.records.proofs.Reading.{step-reached, fresh-reached}
+use Rattle.graph.proofs.Calls.{fresh-reached}
+use Rattle.records.proofs.Reading.{step-reached}
 use Rattle.records.proofs.StoreLength.{record-same}
 use Rattle.schedule.specs.Plan as lists
 use Rattle.workspace.specs.Frames.{work-numbers}

@@ -11,7 +11,8 @@ use Rattle.factor.specs.declared.Factor.{Factor}
 use Rattle.factor.specs.Counting.{sum}
 use Rattle.factor.specs.Factor.{noFactor, priorOf, observationOf, firstColumn, aNumbers, numbers}
 use Rattle.graph.specs.Record.{noName, fresh, offset, valid}
-use Rattle.graph.specs.declared.Outcome.the-variants as answered
+use Rattle.graph.specs.Reached.{answered}
+use Rattle.graph.specs.declared.Outcome.the-variants as outcome
 use Rattle.graph.specs.declared.refusal.Refusal.the-variants.{KeysNotRising, MarginalPivot}
 use Rattle.graph.specs.declared.Graph.{Graph}
 use Rattle.schedule.specs.Count.{In}
@@ -32,7 +33,6 @@ use Rattle.solver.proofs.GraphOnce as once
 use Rattle.marginals.specs.Marginals.{marginalNumbers, gatheredViews, found, marginalsFrom, missingFrom, marginalsIn}
 use Rattle.solver.specs.Run.{figureOf, Verdict, first, second, third, carried, checked, run}
 use Rattle.solver.specs.declared.run.Ended.the-variants.{Done, Refused}
-use Rattle.claims.specs.Demand3.{outcomeOf}
 use Rattle.claims.specs.Pairs.{zer, one, minus-one, two, three, four, three-quarters, Lent, next, lentTo, made, named, observed, weak, between, float, bare, held, pair, keyless, planOf, runOf, gatheredAt, Pairs}
 use Rattle.claims.proofs.Computing.{computedRun, computedCalls}
 use Rattle.claims.proofs.NoKeys.{no-lines}
@@ -223,8 +223,8 @@ held-run : runOf held 0 2 ≡ record { answer = record { figure = 0; ended = Don
 unfolding computedRun
 held-run = refl
 
-equal-keys : outcomeOf graph (observed (1 ∷ 1 ∷ []) (one ∷ one ∷ []) one (replicate 14 nan)) ≡ answered.Refused KeysNotRising
-unfolding computedCalls outcomeOf
+equal-keys : answered graph (observed (1 ∷ 1 ∷ []) (one ∷ one ∷ []) one (replicate 14 nan)) .outcome ≡ outcome.Refused KeysNotRising
+unfolding computedCalls
 equal-keys = refl
 
 -- ---- the statement
@@ -257,7 +257,7 @@ pairs =
       p7-four = refl;
       p7-two = refl;
       p7-least = refl;
-      p8 = of-pair (λ (r : Lent). outcomeOf (r .graph) (observed (1 ∷ 1 ∷ []) (one ∷ one ∷ []) one (replicate 14 nan)) ≡ answered.Refused KeysNotRising) equal-keys;
+      p8 = of-pair (λ (r : Lent). answered (r .graph) (observed (1 ∷ 1 ∷ []) (one ∷ one ∷ []) one (replicate 14 nan)) .outcome ≡ outcome.Refused KeysNotRising) equal-keys;
       p8-number = refl;
       p9-every = λ g v i k l e h d. subst (λ (p : lists.Plan). In i (getD (p .at-key) k d .originals)) (sym (planned-made g v)) (once.keyless g v i k l e h d);
       p9 = subst (λ (r : Lent). map (λ (q : Gathered). q .originals) (planOf r .at-key) ≡ (0 ∷ 1 ∷ []) ∷ (1 ∷ []) ∷ []) (sym keyless-is) uncovered;

@@ -6,8 +6,7 @@ use Prim.Native.Nat.{ℕ, _+_, _≤_}
 use lib.ListN.{length, getD}
 use lib.Ieee.{Float}
 use Rattle.graph.specs.Record.{sizeAt, fresh}
-use Rattle.graph.specs.Registration.{addVariable, addPrior, addObservation}
-use Rattle.graph.specs.Reached.{Call, variable, prior, observation, after, yields}
+use Rattle.graph.specs.Reached.{Call, answered, given, after, yields}
 use Rattle.graph.specs.declared.Graph.{Graph}
 use Rattle.graph.specs.declared.Outcome.{Outcome}
 use Rattle.graph.specs.declared.Outcome.the-variants.{Key, Number, Refused}
@@ -26,18 +25,6 @@ use Rattle.solver.specs.declared.Outcome.the-variants as plans
 use Rattle.solver.specs.declared.run.Ended.the-variants as ended
 
 -- ---- what the calls answered
-
--- the answer of a call that is handed the graph g
-unfoldable pub outcomeOf : Graph → Call → Outcome
-outcomeOf g (variable name size) = addVariable g name size .outcome
-outcomeOf g (prior key mean variance store) = addPrior g key mean variance store .outcome
-outcomeOf g (observation keys rows a mean variance store) = addObservation g keys rows a mean variance store .outcome
-
--- the keys that a call gives for its factor
-unfoldable pub given : Call → List ℕ
-given (variable name size) = []
-given (prior key mean variance store) = key ∷ []
-given (observation keys rows a mean variance store) = keys
 
 -- an accepted factor: the number that its call answered, and the keys that this call gave
 pub record Accepted : Type 0 where
@@ -59,12 +46,12 @@ factorIn (Refused why) keys = []
 -- the registered keys: those that the calls answered, the first call being handed g and each other one what the call before it returned
 unfoldable pub registered : Graph → List Call → List ℕ
 registered g [] = []
-registered g (c ∷ cs) = keyIn (outcomeOf g c) ++ registered (after g c) cs
+registered g (c ∷ cs) = keyIn (answered g c .outcome) ++ registered (after g c) cs
 
 -- the accepted factors, likewise
 unfoldable pub accepted : Graph → List Call → List Accepted
 accepted g [] = []
-accepted g (c ∷ cs) = factorIn (outcomeOf g c) (given c) ++ accepted (after g c) cs
+accepted g (c ∷ cs) = factorIn (answered g c .outcome) (given c) ++ accepted (after g c) cs
 
 abbrev pub numbers : List Accepted → List ℕ
 numbers = map (λ (f : Accepted). f .number)

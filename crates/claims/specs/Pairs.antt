@@ -10,10 +10,9 @@ use Rattle.root.specs.declared.Pivot.the-variants.{Root}
 use Rattle.factor.specs.Limits.{max-size}
 use Rattle.graph.specs.Refusals.{numberOf}
 use Rattle.graph.specs.Record.{fresh, valid}
-use Rattle.graph.specs.Registration.{priorStore, observationStore}
-use Rattle.graph.specs.Reached.{Call, variable, prior, observation, after}
+use Rattle.graph.specs.Reached.{Call, prior, observation, variable, register, answered, after, storeAfter}
 use Rattle.graph.specs.declared.Graph.{Graph}
-use Rattle.graph.specs.declared.Outcome.the-variants as answered
+use Rattle.graph.specs.declared.Outcome.the-variants as outcome
 use Rattle.graph.specs.declared.refusal.Refusal.the-variants.{KeysNotRising, MarginalPivot}
 use Rattle.records.specs.Records.{readAll}
 use Rattle.records.specs.declared.answer.Ended.the-variants.{Whole}
@@ -34,7 +33,6 @@ use Rattle.lines.specs.Lines.{refusedWord}
 use Rattle.job.specs.Job.{factor-room, zeros, jobText}
 use Rattle.solver.specs.Run.{Verdict, run}
 use Rattle.solver.specs.declared.run.Ended.the-variants.{Done, Refused}
-use Rattle.claims.specs.Demand3.{outcomeOf}
 
 -- ---- numbers, by their bits
 
@@ -68,11 +66,6 @@ pub record Lent : Type 0 where
   pub graph : Graph
   pub store : List Float
 
-unfoldable pub storeAfter : Graph → List Float → Call → List Float
-storeAfter g lent (variable name size) = lent
-storeAfter g lent (prior key mean variance store) = priorStore g key mean variance store
-storeAfter g lent (observation keys rows a mean variance store) = observationStore g keys rows a mean variance store
-
 -- a call is given the store
 unfoldable pub next : Lent → (List Float → Call) → Lent
 next r c = record { graph = after (r .graph) (c (r .store)); store = storeAfter (r .graph) (r .store) (c (r .store)) }
@@ -90,11 +83,11 @@ abbrev pub named : ℕ → List Float → Call
 named i store = variable (97, i) 1
 
 abbrev pub prior-on : ℕ → Float → Float → List Float → Call
-prior-on key mean variance store = prior key (mean ∷ []) (variance ∷ []) store
+prior-on key mean variance store = register (prior key (mean ∷ []) (variance ∷ [])) store
 
 -- one row, variance 1
 abbrev pub observed : List ℕ → List Float → Float → List Float → Call
-observed keys a mean store = observation keys 1 a (mean ∷ []) (one ∷ []) store
+observed keys a mean store = register (observation keys 1 a (mean ∷ []) (one ∷ [])) store
 
 -- the prior and the observation of P4
 abbrev pub weak : List Float → Call
@@ -196,7 +189,7 @@ pub record Pairs : Type 0 where
   pub p7-two : rootOf two ≡ Root (float 0x3FF6A09E667F3BCD)
   pub p7-least : rootOf (float 1) ≡ Root (float 0x1E60000000000000)
   -- P8: keys 1, 1 are refused with 3
-  pub p8 : outcomeOf (pair .graph) (observed (1 ∷ 1 ∷ []) (one ∷ one ∷ []) one (replicate 14 nan)) ≡ answered.Refused KeysNotRising
+  pub p8 : answered (pair .graph) (observed (1 ∷ 1 ∷ []) (one ∷ one ∷ []) one (replicate 14 nan)) .outcome ≡ outcome.Refused KeysNotRising
   pub p8-number : numberOf KeysNotRising ≡ 3
   -- P9: an observation without keys is uncovered at every key; in a graph of two, the one of number 1
   pub p9-every : (g : Graph) → valid g ≡ true → (i k : ℕ) → i < g .count → keysOf g i ≡ [] → k < g .variables → (d : Gathered) → In i (getD (planned g .plan .at-key) k d .originals)

@@ -3,7 +3,7 @@ use Prim.Native.Nat.{ℕ, zero, suc, _+_, _<_, _≤_}
 use mathlib.Core.Path.{_≡_, refl, sym, ap, _∙_}
 use mathlib.Core.Bool.{Bool, true, false}
 use mathlib.Core.Logic.{_↔_}
-use mathlib.Core.List.{List, [], _∷_, _++_}
+use mathlib.Core.List.{[], _∷_}
 use native.Mathlib.Numerals.{add-one}
 use native.Mathlib.Omega.{arith}
 use lib.ListN.{length, replicate}
@@ -13,23 +13,14 @@ use Rattle.factor.specs.Factor.{keyAt, noFactor, past}
 use Rattle.factor.specs.declared.Factor.{Factor}
 use Rattle.factor.proofs.Counting.{every-at, sum-le, sum-more, sum-ext, sum-stop}
 use Rattle.factor.proofs.Fitting.{fits-touched, fits-key, prior-touched, prior-is, some-rows, few-rows, touches, touches-long, touches-rising, touches-known, observation-is, clear-is}
-use Rattle.graph.specs.Record.{noName, nameAt, sizeAt, factorAt, fresh, scalar, sizeFits, free, total, registered, valid}
+use Rattle.graph.specs.Record.{noName, nameAt, sizeAt, factorAt, scalar, sizeFits, free, total, registered, valid}
 use Rattle.graph.specs.Registration.{withFactor}
 use Rattle.graph.specs.Reached.{Call, variable, after, yields, Reached}
 use Rattle.graph.specs.declared.Graph.{Graph}
+use Rattle.graph.proofs.Calls.{reached-more}
 use Rattle.graph.proofs.Filling.{fill, fill-set, fill-below, fill-above, fill-all}
 use Rattle.graph.proofs.Keeping.{Shaped, Sound, sound-of, free-ext, clear-name, clear-size, good-of}
 use Rattle.graph.proofs.Passing.{variable-taken, prior-call, prior-taken, observation-call, observation-taken}
-
--- ---- one call more at the end
-
-yields-more : (cs : List Call) (g : Graph) (c : Call) → yields g (cs ++ (c ∷ [])) ≡ after (yields g cs) c
-unfolding yields
-yields-more [] g c = refl
-yields-more (b ∷ cs) g c = yields-more cs (after g b) c
-
-more : (g h : Graph) (c : Call) → Reached g → after g c ≡ h → Reached h
-more g h c r e = (r .0 ++ (c ∷ []), yields-more (r .0) fresh c ∙ ap (λ (x : Graph). after x c) (r .1) ∙ e)
 
 module _ (g : Graph) (sh : Shaped g) (so : Sound g) where
   -- ---- the first k variables, and no factors
@@ -66,7 +57,7 @@ module _ (g : Graph) (sh : Shaped g) (so : Sound g) where
       let f : free (vars k) k (nameAt g k) ≡ true =
       free-ext (vars k) g k (nameAt g k) (λ j a. fill-below (g .symbols) max-variables (sh .symbols) noName noName k j (omega arith) a) ∙ every-at _ 2 r in
       let b : k < max-variables = omega arith in
-      variable-taken (vars k) (nameAt g k) (sizeAt g k) v (every-at _ 0 r) (every-at _ 1 r) f b (room-for k l)
+      variable-taken (vars k) (nameAt g k) (sizeAt g k) (record { sound = v; letter = every-at _ 0 r; sized = every-at _ 1 r; new = f; few = b; room = room-for k l })
       ∙ (λ i. record {
         symbols = fill-set (g .symbols) max-variables (sh .symbols) noName noName k b i;
         sizes = fill-set (g .sizes) max-variables (sh .sizes) 0 0 k b i;
@@ -80,7 +71,7 @@ module _ (g : Graph) (sh : Shaped g) (so : Sound g) where
   reach-variables zero l = ([], refl)
   reach-variables (suc k) l =
       let r : Reached (vars k) = reach-variables k (omega arith) in
-      let s : Reached (vars (k + 1)) = more (vars k) (vars (k + 1)) (variable (nameAt g k) (sizeAt g k)) r (next-variable k l (good-of (vars k) r .1)) in
+      let s : Reached (vars (k + 1)) = reached-more (vars k) (vars (k + 1)) (variable (nameAt g k) (sizeAt g k)) r (next-variable k l (good-of (vars k) r .1)) in
       rw add-one at s
 
   -- ---- all variables, and the first k factors
@@ -158,7 +149,7 @@ module _ (g : Graph) (sh : Shaped g) (so : Sound g) where
   reach-factors (suc k) l =
       let r : Reached (facs k) = reach-factors k (omega arith) in
       let s : (c : Call) × (after (facs k) c ≡ facs (k + 1)) = next-factor k l (good-of (facs k) r .1) in
-      let t : Reached (facs (k + 1)) = more (facs k) (facs (k + 1)) (s .0) r (s .1) in
+      let t : Reached (facs (k + 1)) = reached-more (facs k) (facs (k + 1)) (s .0) r (s .1) in
       rw add-one at t
 
 -- a record of the declared shape is valid if and only if some list of calls yields it

@@ -1,28 +1,28 @@
 -- Each registering call keeps a record valid, whether it refuses or not. Assumes nothing.
 use Prim.Native.Nat.{ℕ, _+_, _<_, _≤_}
 use mathlib.Core.Path.{_≡_, refl, sym, ap, _∙_}
-use mathlib.Core.Bool.{Bool, true, false, not, cond}
+use mathlib.Core.Bool.{true, not}
 use mathlib.Core.List.{List, [], _∷_}
 use native.Mathlib.Omega.{arith}
 use native.Mathlib.Decide.{decLt}
-use borrow.Author.Tests.{ltb-true, ltb-false, leb-true, eqb-true, le-leb}
-use lib.Dec.{ltb, leb}
+use borrow.Author.Tests.{ltb-true, ltb-false, eqb-true, le-leb}
 use lib.Ieee.{Float}
 use lib.ListN.{length, getD-replicate, length-set}
 use lib.Seq.{getD-set-same, getD-set-other}
 use Rattle.factor.specs.Limits.{max-variables, max-total, max-factors, max-keys}
 use Rattle.factor.specs.Counting.{every, all, sum}
-use Rattle.factor.specs.Factor.{rising, known, noFactor, past, priorOf, observationOf, fits, isClear, lengthsFit, givenFinite, numbers}
-use Rattle.cholesky.specs.Forms.{Form, form, noPivot, noNumber, exchanged}
+use Rattle.factor.specs.Factor.{noFactor, past, fits, isClear}
 use Rattle.factor.specs.declared.Factor.{Factor}
 use Rattle.factor.proofs.Counting.{every-at, every-3, every-5, by-test, all-of, all-ext, sum-put}
-use Rattle.factor.proofs.Fitting.{fits-more, prior-fits, observation-fits, observation-long}
-use Rattle.graph.specs.Record.{noName, nameAt, sizeAt, factorAt, fresh, scalar, sizeFits, same, free, total, registered, clear, place, variablesFit, factorPlace, factorsFit, offset, valid}
-use Rattle.graph.specs.Registration.{withVariable, addVariable, Verdict, withFactor, settle, weighedVerdict, factorVerdict, priorVerdict, addPrior, countsFit, observationVerdict, addObservation}
-use Rattle.graph.specs.Reached.{Call, variable, prior, observation, after, yields, Reached}
+use Rattle.factor.proofs.Fitting.{fits-more}
+use Rattle.graph.specs.Record.{noName, nameAt, sizeAt, factorAt, fresh, scalar, sizeFits, same, free, total, registered, clear, place, variablesFit, factorPlace, factorsFit, valid}
+use Rattle.graph.specs.Registration.{withVariable, withFactor}
+use Rattle.graph.specs.Reached.{Call, after, yields, Reached}
 use Rattle.graph.specs.declared.Symbol.{Symbol}
 use Rattle.graph.specs.declared.Graph.{Graph}
 use Rattle.graph.specs.declared.Added.{Added}
+use Rattle.graph.proofs.Checking.{Named}
+use Rattle.graph.proofs.Calls.{Comes, turned, named, taken, comes}
 use Rattle.graph.proofs.Validity.{valid-variables, valid-count, valid-total, valid-registered, valid-clear, valid-factor, valid-no-factor}
 
 -- the arrays have the lengths that the struct declares
@@ -95,8 +95,7 @@ clear-size g i e = eqb-true _ _ (every-at _ 1 e)
 
 -- ---- a variable more
 
-module _ (g : Graph) (sh : Shaped g) (so : Sound g) (name : Symbol) (size : ℕ) (h1 : scalar (name .0) ≡ true) (h2 : sizeFits size ≡ true) (h10 : free g (g .variables) name ≡ true)
-    (h12 : g .variables < max-variables) (h12′ : total g + size ≤ max-total) where
+module _ (g : Graph) (sh : Shaped g) (so : Sound g) (name : Symbol) (size : ℕ) (new : Named g name size) where
   abbrev n : ℕ
   n = g .variables
 
@@ -104,10 +103,10 @@ module _ (g : Graph) (sh : Shaped g) (so : Sound g) (name : Symbol) (size : ℕ)
   h = withVariable g name size
 
   name-at : nameAt h n ≡ name
-  name-at = getD-set-same (g .symbols) n name noName (omega (arith, sh .symbols))
+  name-at = getD-set-same (g .symbols) n name noName (omega (arith, sh .symbols, new .few))
 
   size-at : sizeAt h n ≡ size
-  size-at = getD-set-same (g .sizes) n size 0 (omega (arith, sh .sizes))
+  size-at = getD-set-same (g .sizes) n size 0 (omega (arith, sh .sizes, new .few))
 
   name-else : (i : ℕ) → (i ≡ n → ⊥) → nameAt h i ≡ nameAt g i
   name-else i d = getD-set-other (g .symbols) n i name noName d
@@ -118,8 +117,8 @@ module _ (g : Graph) (sh : Shaped g) (so : Sound g) (name : Symbol) (size : ℕ)
   new-place : registered h n ≡ true
   unfolding registered
   new-place =
-      every-3 _ _ _ (ap (λ (s : Symbol). scalar (s .0)) name-at ∙ h1) (ap sizeFits size-at ∙ h2)
-      (ap (λ (s : Symbol). free h n s) name-at ∙ free-ext h g n name (λ j k. name-else j (λ x. omega arith)) ∙ h10)
+      every-3 _ _ _ (ap (λ (s : Symbol). scalar (s .0)) name-at ∙ new .letter) (ap sizeFits size-at ∙ new .sized)
+      (ap (λ (s : Symbol). free h n s) name-at ∙ free-ext h g n name (λ j k. name-else j (λ x. omega arith)) ∙ new .new)
 
   used-more : (i : ℕ) → i < n + 1 → registered h i ≡ true
   used-more i l = go (decLt i n)
@@ -131,17 +130,17 @@ module _ (g : Graph) (sh : Shaped g) (so : Sound g) (name : Symbol) (size : ℕ)
   total-more : total h ≡ total g + size
   unfolding total
   total-more =
-      sum-put (λ i. sizeAt g i) (λ i. sizeAt h i) n max-variables h12 (λ i l d. size-else i d) (clear-size g n (so .unused n (omega arith) h12))
+      sum-put (λ i. sizeAt g i) (λ i. sizeAt h i) n max-variables (new .few) (λ i l d. size-else i d) (clear-size g n (so .unused n (omega arith) (new .few)))
       ∙ ap (λ (x : ℕ). sum (λ i. sizeAt g i) max-variables + x) size-at
 
   variable-sound : Sound h
   variable-sound =
       record {
-        few = omega arith;
+        few = omega (arith, new .few);
         few-factors = so .few-factors;
         used = used-more;
         unused = λ i l m. clear-ext h g i (name-else i (λ x. omega arith)) (size-else i (λ x. omega arith)) ∙ so .unused i (omega arith) m;
-        room = omega (arith, total-more);
+        room = omega (arith, total-more, new .room);
         good = λ i l. fits-more (g .sizes) (h .sizes) (g .variables) (h .variables) (omega arith) (λ j k. sym (size-else j (λ x. omega arith))) (factorAt g i) (so .good i l);
         none = so .none;
       }
@@ -202,11 +201,6 @@ module _ (g : Graph) (sh : Shaped g) (so : Sound g) (f : Factor) (h12 : g .count
 
 -- ---- each call
 
--- by a check: what holds of the refusal and of the rest holds of both
-case {ℓ} : {A : Type ℓ} (P : A → Type 0) (b : Bool) (x y : A) → (b ≡ true → P y) → (b ≡ false → P x) → P (cond (not b) x y)
-case P true x y f h = f refl
-case P false x y f h = h refl
-
 abbrev pub Good : Graph → Type 0
 Good g = Shaped g × (valid g ≡ true)
 
@@ -214,75 +208,12 @@ module _ (g : Graph) (ok : Good g) where
   abbrev so : Sound g
   so = sound-of g (ok .1)
 
-  variable-good : (name : Symbol) (size : ℕ) → Good (addVariable g name size .graph)
-  unfolding addVariable
-  variable-good name size =
-      case P (valid g) _ _
-      (λ h30. case P (scalar (name .0)) _ _
-      (λ h1. case P (sizeFits size) _ _
-      (λ h2. case P (free g (g .variables) name) _ _
-      (λ h10. case P (every (ltb (g .variables) max-variables ∷ leb (total g + size) max-total ∷ [])) _ _
-      (λ h12.
-      let a : g .variables < max-variables = ltb-true _ _ (every-at _ 0 h12) in
-      let b : total g + size ≤ max-total = leb-true _ _ (every-at _ 1 h12) in
-      (variable-shaped g (ok .0) so name size h1 h2 h10 a b, valid-of _ (variable-sound g (ok .0) so name size h1 h2 h10 a b)))
-      (λ _. ok)) (λ _. ok)) (λ _. ok)) (λ _. ok)) (λ _. ok)
-    where
-      P : Added → Type 0
-      P x = Good (x .graph)
-
-  module _ (f : Factor) (fit : fits (g .sizes) (g .variables) f ≡ true) (long : length (f .keys) ≡ max-keys) where
-    weighed-good : g .count < max-factors → (a : List Float) (w : Form) → Good (settle g f (weighedVerdict a w) .graph)
-    weighed-good l a (form xi w) = (factor-shaped g (ok .0) so f l fit long, valid-of _ (factor-sound g (ok .0) so f l fit long))
-    weighed-good l a noPivot = ok
-    weighed-good l a noNumber = ok
-
-    factor-good : (a mean variance store : List Float) → Good (settle g f (factorVerdict g f a mean variance store) .graph)
-    unfolding factorVerdict
-    factor-good a mean variance store =
-        case P (lengthsFit (g .sizes) f (length a) (length mean) (length variance)) _ _
-        (λ h5. case P (ltb (g .count) max-factors) _ _
-        (λ h12. case P (leb (offset g (g .count) + numbers (g .sizes) f) (length store)) _ _
-        (λ h13. case P (givenFinite a mean variance) _ _
-        (λ h6. weighed-good (ltb-true _ _ h12) a (exchanged (f .rows) mean variance))
-        (λ _. ok)) (λ _. ok)) (λ _. ok)) (λ _. ok)
-      where
-        P : Verdict → Type 0
-        P x = Good (settle g f x .graph)
-
-  prior-good : (key : ℕ) (mean variance store : List Float) → Good (addPrior g key mean variance store .graph)
-  unfolding addPrior priorVerdict
-  prior-good key mean variance store =
-      case P (valid g) _ _
-      (λ h30. case P (ltb key (g .variables)) _ _
-      (λ h11. factor-good (priorOf key (sizeAt g key)) (prior-fits (g .sizes) (g .variables) key (ltb-true _ _ h11)) refl [] mean variance store)
-      (λ _. ok)) (λ _. ok)
-    where
-      P : Verdict → Type 0
-      P x = Good (settle g (priorOf key (sizeAt g key)) x .graph)
-
-  observation-good : (keys : List ℕ) (rows : ℕ) (a mean variance store : List Float) → Good (addObservation g keys rows a mean variance store .graph)
-  unfolding addObservation observationVerdict countsFit
-  observation-good keys rows a mean variance store =
-      case P (valid g) _ _
-      (λ h30. case P (countsFit (length keys) rows) _ _
-      (λ h4. case P (rising keys) _ _
-      (λ h3. case P (known (g .variables) keys) _ _
-      (λ h11.
-      let few : length keys ≤ max-keys = leb-true _ _ (every-at _ 0 h4) in
-      let fit : fits (g .sizes) (g .variables) (observationOf keys rows) ≡ true =
-      observation-fits keys (g .sizes) (g .variables) rows few (leb-true _ _ (every-at _ 1 h4)) (leb-true _ _ (every-at _ 2 h4)) h3 h11 in
-      factor-good (observationOf keys rows) fit (observation-long keys few) a mean variance store)
-      (λ _. ok)) (λ _. ok)) (λ _. ok)) (λ _. ok)
-    where
-      P : Verdict → Type 0
-      P x = Good (settle g (observationOf keys rows) x .graph)
-
-  after-good : (c : Call) → Good (after g c)
-  unfolding after
-  after-good (variable name size) = variable-good name size
-  after-good (prior key mean variance store) = prior-good key mean variance store
-  after-good (observation keys rows a mean variance store) = observation-good keys rows a mean variance store
+  comes-good : {keys : List ℕ} {store s : List Float} {x : Added} → Comes g keys store x s → Good (x .graph)
+  comes-good (turned why) = ok
+  comes-good (named name size n) = (variable-shaped g (ok .0) so name size n, valid-of _ (variable-sound g (ok .0) so name size n))
+  comes-good (taken f a mean variance xi w t e) =
+      let few = t .passed .few in
+      (factor-shaped g (ok .0) so f few (t .fit) (t .long), valid-of _ (factor-sound g (ok .0) so f few (t .fit) (t .long)))
 
 fresh-good : Good fresh
 unfolding valid variablesFit factorsFit every all place clear same factorPlace isClear total sum
@@ -291,7 +222,7 @@ fresh-good = (record { symbols = refl; sizes = refl; factors = refl; keys = λ i
 yields-good : (cs : List Call) (g : Graph) → Good g → Good (yields g cs)
 unfolding yields
 yields-good [] g ok = ok
-yields-good (c ∷ cs) g ok = yields-good cs (after g c) (after-good g ok c)
+yields-good (c ∷ cs) g ok = yields-good cs (after g c) (comes-good g ok (comes g [] c))
 
 -- a graph that some list of calls yields is valid
 pub good-of : (g : Graph) → Reached g → Good g

@@ -1,5 +1,7 @@
 -- Laws that several proofs cite.
+pub mod Checking
 pub mod CheckOrder
+pub mod Calls
 pub mod Places
 pub mod Validity
 pub mod Keeping

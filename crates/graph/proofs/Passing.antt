@@ -1,40 +1,31 @@
 -- Calls whose checks pass: a variable with a free name, and factors with means of zeros and identities as variances. Assumes nothing.
 use Prim.Native.Nat.{ℕ, _+_, _<_, _≤_}
-use mathlib.Core.Path.{_≡_, refl, ap}
+use mathlib.Core.Path.{_≡_, refl, ap, _∙_}
 use mathlib.Core.Bool.{true}
 use mathlib.Core.List.{List, [], _++_}
 use native.Mathlib.Omega.{arith}
-use borrow.Author.Tests.{eq-eqb, lt-ltb, le-leb}
-use lib.Dec.{leb}
+use borrow.Author.Tests.{eq-eqb, le-leb}
 use lib.Ieee.{Float}
 use lib.ListN.{length, replicate, length-replicate}
 use Rattle.matrix.specs.Sums.{plus-zero}
 use Rattle.matrix.specs.Triangles.{identityOf}
 use Rattle.matrix.specs.Finite.{allFinite}
 use Rattle.cholesky.proofs.Identity.{identity-length, identity-finite, zeros-finite}
-use Rattle.factor.specs.Limits.{max-variables, max-total, max-factors, max-keys, max-rows}
-use Rattle.factor.specs.Counting.{every}
+use Rattle.factor.specs.Limits.{max-factors, max-keys, max-rows}
 use Rattle.factor.specs.Factor.{rising, known, priorOf, observationOf, aNumbers, numbers, lengthsFit, givenFinite}
 use Rattle.factor.specs.declared.Factor.{Factor}
 use Rattle.factor.proofs.Counting.{every-3}
-use Rattle.cholesky.proofs.Forms.{identity-exchanged}
-use Rattle.graph.specs.Record.{sizeAt, scalar, sizeFits, free, total, offset, valid}
-use Rattle.graph.specs.Registration.{withVariable, addVariable, Verdict, accept, withFactor, settle, weighedVerdict, factorVerdict, priorVerdict, addPrior, countsFit, observationVerdict, addObservation}
-use Rattle.graph.specs.Reached.{Call, variable, prior, observation, after}
+use Rattle.factor.proofs.Witness.{identity-weighed}
+use Rattle.graph.specs.Record.{sizeAt, offset, valid}
+use Rattle.graph.specs.Registration.{withVariable, Verdict, accept, withFactor, settle, weighedVerdict, factorVerdict, priorVerdict, addPrior, countsFit, observationVerdict, addObservation}
+use Rattle.graph.specs.Reached.{Call, prior, observation, variable, register, after}
 use Rattle.graph.specs.declared.Symbol.{Symbol}
 use Rattle.graph.specs.declared.Graph.{Graph}
 use Rattle.graph.specs.declared.Added.{Added}
-use Rattle.graph.specs.declared.Outcome.the-variants.{Key}
+use Rattle.graph.proofs.Checking.{Named, named, weighs, prior-as, observation-as}
 
-variable-answer : (g : Graph) (name : Symbol) (size : ℕ) → valid g ≡ true → scalar (name .0) ≡ true → sizeFits size ≡ true → free g (g .variables) name ≡ true
-    → g .variables < max-variables → total g + size ≤ max-total → addVariable g name size ≡ record { graph = withVariable g name size; outcome = Key (g .variables) }
-unfolding addVariable every
-variable-answer g name size h30 h1 h2 h10 h12 h12′ = simp (h30, h1, h2, h10, lt-ltb _ _ h12, le-leb _ _ h12′)
-
-pub variable-taken : (g : Graph) (name : Symbol) (size : ℕ) → valid g ≡ true → scalar (name .0) ≡ true → sizeFits size ≡ true → free g (g .variables) name ≡ true
-    → g .variables < max-variables → total g + size ≤ max-total → after g (variable name size) ≡ withVariable g name size
-unfolding after
-variable-taken g name size h30 h1 h2 h10 h12 h12′ = ap (λ (a : Added). a .graph) (variable-answer g name size h30 h1 h2 h10 h12 h12′)
+pub variable-taken : (g : Graph) (name : Symbol) (size : ℕ) → Named g name size → after g (variable name size) ≡ withVariable g name size
+variable-taken g name size n = ap (λ (a : Added). a .graph) (named g name size n)
 
 -- numbers that are all zero
 abbrev zeros : ℕ → List Float
@@ -54,33 +45,29 @@ module _ (g : Graph) (f : Factor) (h12 : g .count < max-factors) (a : List Float
   unfolding givenFinite
   given = every-3 _ _ _ finite (zeros-finite (f .rows)) (identity-finite (f .rows))
 
-  fitting : leb (offset g (g .count) + numbers (g .sizes) f) (length (room g f)) ≡ true
-  fitting =
-      let l : offset g (g .count) + numbers (g .sizes) f ≤ length (room g f) = omega (arith, length-replicate (offset g (g .count) + numbers (g .sizes) f) plus-zero) in
-      le-leb _ _ l
-
   factor-passes : factorVerdict g f a (zeros (f .rows)) (identityOf (f .rows)) (room g f) ≡ accept (a ++ zeros (f .rows) ++ identityOf (f .rows))
-  unfolding factorVerdict
-  factor-passes = simp (lengths, lt-ltb _ _ h12, fitting, given) (ap (weighedVerdict a) (identity-exchanged (f .rows)))
+  factor-passes =
+      let l : offset g (g .count) + numbers (g .sizes) f ≤ length (room g f) = omega (arith, length-replicate (offset g (g .count) + numbers (g .sizes) f) plus-zero) in
+      weighs g f a _ _ _ (record { lengths = lengths; few = h12; room = l; finite = given }) ∙ ap (weighedVerdict a) (identity-weighed (f .rows))
 
 -- ---- a prior
 
 abbrev pub prior-call : Graph → ℕ → Call
-prior-call g key = prior key (zeros (sizeAt g key)) (identityOf (sizeAt g key)) (room g (priorOf key (sizeAt g key)))
+prior-call g key = register (prior key (zeros (sizeAt g key)) (identityOf (sizeAt g key))) (room g (priorOf key (sizeAt g key)))
 
 module _ (g : Graph) (h30 : valid g ≡ true) (h12 : g .count < max-factors) (key : ℕ) (h11 : key < g .variables) where
   prior-passes : priorVerdict g key (zeros (sizeAt g key)) (identityOf (sizeAt g key)) (room g (priorOf key (sizeAt g key))) ≡ accept ([] ++ zeros (sizeAt g key) ++ identityOf (sizeAt g key))
-  unfolding priorVerdict aNumbers allFinite
-  prior-passes = simp (h30, lt-ltb _ _ h11) (factor-passes g (priorOf key (sizeAt g key)) h12 [] refl refl)
+  unfolding aNumbers allFinite
+  prior-passes = prior-as g key _ _ _ h30 h11 ∙ factor-passes g (priorOf key (sizeAt g key)) h12 [] refl refl
 
   pub prior-taken : after g (prior-call g key) ≡ withFactor g (priorOf key (sizeAt g key))
-  unfolding after addPrior
+  unfolding addPrior
   prior-taken = ap (λ (v : Verdict). settle g (priorOf key (sizeAt g key)) v .graph) prior-passes
 
 -- ---- an observation
 
 abbrev pub observation-call : Graph → List ℕ → ℕ → Call
-observation-call g keys y = observation keys y (zeros (aNumbers (g .sizes) (observationOf keys y))) (zeros y) (identityOf y) (room g (observationOf keys y))
+observation-call g keys y = register (observation keys y (zeros (aNumbers (g .sizes) (observationOf keys y))) (zeros y) (identityOf y)) (room g (observationOf keys y))
 
 module _ (g : Graph) (h30 : valid g ≡ true) (h12 : g .count < max-factors) (keys : List ℕ) (y : ℕ) (few : length keys ≤ max-keys) (some : 1 ≤ y) (most : y ≤ max-rows)
     (h3 : rising keys ≡ true) (h11 : known (g .variables) keys ≡ true) where
@@ -92,9 +79,8 @@ module _ (g : Graph) (h30 : valid g ≡ true) (h12 : g .count < max-factors) (ke
   counts = every-3 _ _ _ (le-leb _ _ few) (le-leb _ _ some) (le-leb _ _ most)
 
   observation-passes : observationVerdict g keys y a (zeros y) (identityOf y) (room g (observationOf keys y)) ≡ accept (a ++ zeros y ++ identityOf y)
-  unfolding observationVerdict
-  observation-passes = simp (h30, counts, h3, h11) (factor-passes g (observationOf keys y) h12 a (length-replicate (aNumbers (g .sizes) (observationOf keys y)) plus-zero) (zeros-finite (aNumbers (g .sizes) (observationOf keys y))))
+  observation-passes = observation-as g keys y a _ _ _ h30 counts h3 h11 ∙ factor-passes g (observationOf keys y) h12 a (length-replicate (aNumbers (g .sizes) (observationOf keys y)) plus-zero) (zeros-finite (aNumbers (g .sizes) (observationOf keys y)))
 
   pub observation-taken : after g (observation-call g keys y) ≡ withFactor g (observationOf keys y)
-  unfolding after addObservation
+  unfolding addObservation
   observation-taken = ap (λ (v : Verdict). settle g (observationOf keys y) v .graph) observation-passes

@@ -1,5 +1,5 @@
 // The factor graph as a plain value, and the calls that register its variables and factors.
-mod checks;
+pub mod checks;
 pub mod refusal;
 
 use checks::counts_fit;

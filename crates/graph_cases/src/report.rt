@@ -1,5 +1,8 @@
 // The lines that are printed: an outcome, and whether the graph and the store are as they were.
 use factor::Factor;
+use factor::limits::FACTORS;
+use factor::limits::KEYS;
+use factor::limits::VARIABLES;
 use graph::Added;
 use graph::Graph;
 use graph::Outcome;
@@ -38,7 +41,7 @@ fn same_factor(a: Factor, b: Factor) -> bool {
     if a.rows != b.rows {
         return false;
     }
-    for j in 0..8 {
+    for j in 0..KEYS {
         if a.keys[j] != b.keys[j] {
             return false;
         }
@@ -47,7 +50,7 @@ fn same_factor(a: Factor, b: Factor) -> bool {
 }
 
 fn same_variables(a: Graph, b: Graph) -> bool {
-    for i in 0..32 {
+    for i in 0..VARIABLES {
         let x = a.symbols[i];
         let y = b.symbols[i];
         if !same_symbol(x, y) {
@@ -61,7 +64,7 @@ fn same_variables(a: Graph, b: Graph) -> bool {
 }
 
 fn same_graph(a: Graph, b: Graph) -> bool {
-    for i in 0..64 {
+    for i in 0..FACTORS {
         let x = a.factors[i];
         let y = b.factors[i];
         if !same_factor(x, y) {

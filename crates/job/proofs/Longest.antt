@@ -17,7 +17,7 @@ use Rattle.graph.proofs.Keeping.{good-of}
 use Rattle.records.specs.Records.{Reading, readAll}
 use Rattle.records.specs.declared.answer.Ended as records
 use Rattle.records.specs.declared.answer.Ended.the-variants as reads
-use Rattle.records.proofs.Reading.{fresh-reached}
+use Rattle.graph.proofs.Calls.{fresh-reached}
 use Rattle.records.proofs.Prefix.{first-decide}
 use Rattle.workspace.specs.Frames.{work-numbers}
 use Rattle.solver.specs.Run.{run}
@@ -36,7 +36,7 @@ use Rattle.job.proofs.Refusals.{number-most, Placed, read-fine, Keyed, 
 pub first-bytes-decide : Decide deciding-bytes
 unfolding Decide jobText
 first-bytes-decide bytes most l =
-    let e = first-decide bytes most (zeros factor-room) l (omega (arith, length-replicate factor-room plus-zero)) in
+    let e = first-decide bytes factor-room most (zeros factor-room) l (omega (arith, length-replicate factor-room plus-zero)) in
     (e, ap readingText e)
 
 -- ---- the length

@@ -1,13 +1,14 @@
 -- What a job prints: a line for each key, or one line that says why there are none. Definitions only.
-use Prim.Native.Nat.{ℕ, _≤_}
+use Prim.Native.Nat.{ℕ, _+_, _*_, _≤_}
 use mathlib.Core.Path.{_≡_}
 use mathlib.Core.List.{List}
 use lib.Ieee.{Float}
 use lib.ListN.{take, replicate}
 use Rattle.matrix.specs.Sums.{plus-zero}
+use Rattle.factor.specs.Limits.{max-size, max-total}
 use Rattle.graph.specs.Refusals.{numberOf}
 use Rattle.graph.specs.declared.Graph.{Graph}
-use Rattle.records.specs.Records.{Reading, readAll}
+use Rattle.records.specs.Records.{enough, Reading, readAll}
 use Rattle.records.specs.declared.answer.Ended as records
 use Rattle.records.specs.declared.answer.Ended.the-variants as reading
 use Rattle.workspace.specs.Frames.{work-numbers}
@@ -26,7 +27,7 @@ abbrev pub message-room : ℕ
 message-room = 3072
 
 abbrev pub marginal-room : ℕ
-marginal-room = 224
+marginal-room = max-total + max-size * max-total
 
 abbrev pub zeros : ℕ → List Float
 zeros n = replicate n plus-zero
@@ -63,7 +64,7 @@ jobText bytes = readingText (readAll bytes (zeros factor-room))
 -- ---- the bytes that decide
 
 abbrev pub deciding-bytes : ℕ
-deciding-bytes = 21901
+deciding-bytes = enough factor-room
 
 -- the first n bytes, or any more of them, decide the graph with its store, and so what is printed
 unfoldable pub Decide : ℕ → Type 0

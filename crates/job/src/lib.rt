@@ -1,17 +1,29 @@
 // A whole job in one call: its bytes are read into a graph, the graph is run, and the answer is laid as text.
+use factor::limits::FACTORS;
+use factor::limits::SIZE;
+use factor::limits::TOTAL;
+use factor::limits::VARIABLES;
 use graph::Graph;
 use lines::Written;
 use lines::lay_lines;
 use lines::lay_refusal;
+use records::bytes::FACTOR_FRAME;
+use records::bytes::FLOAT_BYTES;
+use records::bytes::LONGEST;
+use records::bytes::VARIABLE_RECORD;
 use solver::run::run;
+use workspace::WORK;
 ghost use mathlib.Core.Path.{_≡_};
 ghost use mathlib.Core.Bool.{true};
 ghost use Rattle.graph.specs.Record.{valid};
 ghost use Rattle.lines.specs.Lines.{written, laidIn};
 ghost use Rattle.job.specs.Job as spec;
 
-// Past these first bytes of a job nothing changes its text.
-const DECIDING: usize = 21901;
+// Past these first bytes of a job nothing changes its text: the records that the stores have room for, and one record more. They are 21,901.
+pub const DECIDING: usize = VARIABLE_RECORD * VARIABLES
+    + FACTOR_FRAME * FACTORS
+    + FLOAT_BYTES * FACTOR_ROOM
+    + LONGEST;
 
 // Room for the bytes of a job that decide, and for more.
 pub const INPUT_ROOM: usize = 32768;
@@ -19,14 +31,12 @@ pub const INPUT_ROOM: usize = 32768;
 // Room for the text: none is longer than 22,944 bytes (`job-most`).
 pub const OUTPUT_ROOM: usize = 32768;
 
-// The numbers of the factor, message, work and marginal stores. No graph has more marginals.
+// The numbers of the factor, message and marginal stores. No graph has more marginals.
 pub const FACTOR_ROOM: usize = 2048;
 
 const MESSAGE_ROOM: usize = 3072;
 
-const WORK_ROOM: usize = 2304;
-
-const MARGINAL_ROOM: usize = 224;
+const MARGINAL_ROOM: usize = TOTAL + SIZE * TOTAL;
 
 // The stage of a refusal by reading.
 pub const READING: usize = 0;
@@ -45,7 +55,7 @@ fn solve_graph(g: Graph, factors: &[f64], out: &mut [u8]) -> Written
     ensures { λ _. ⌜ now (out .exit) ≡ laidIn (now (out .entry)) (spec.runText g (now (factors .entry))) ⌝ }
 {
     let mut messages = [0.0; MESSAGE_ROOM];
-    let mut work = [0.0; WORK_ROOM];
+    let mut work = [0.0; WORK];
     let mut marginals = [0.0; MARGINAL_ROOM];
     let ran = run(g, factors, &mut messages, &mut work, &mut marginals);
     let ended = ran.ended;

@@ -6,6 +6,7 @@ use mathlib.Core.List.{List, []}
 use Prim.Native.Nat.{ℕ, _≤_, _<_}
 use lib.Dec.{ltb}
 use lib.ListN.{length, getD, take}
+use Rattle.factor.specs.Limits.{max-keys}
 use Rattle.plan.specs.Pass.{Agrees}
 use Rattle.plan.specs.declared.factors.FactorKeys.{FactorKeys}
 
@@ -15,8 +16,8 @@ keysOf f = take (f .touched) (f .keys)
 
 -- each of them can be a member of a set of keys
 pub record Fits (f : FactorKeys) : Type 0 where
-  pub long : length (f .keys) ≡ 8
-  pub few : f .touched ≤ 8
+  pub long : length (f .keys) ≡ max-keys
+  pub few : f .touched ≤ max-keys
   pub low : (i : ℕ) → i < f .touched → getD (f .keys) i 0 < 32
 
 abbrev pub noKeys : FactorKeys

@@ -1,5 +1,5 @@
--- What a job comes to is decided by its first bytes: with a store of at most 2,048 numbers no reading looks past byte 21,901. Assumes nothing.
-use Prim.Native.Nat.{ℕ, zero, suc, _+_, _*_, _≤_, _<_}
+-- What a job comes to is decided by its first bytes: with a store of at most so many numbers no reading looks past the first `enough` of them. Assumes nothing.
+use Prim.Native.Nat.{ℕ, zero, suc, _+_, _≤_, _<_}
 use mathlib.Core.Path.{_≡_, refl, sym, ap, _∙_}
 use mathlib.Core.Bool.{Bool, true, false, cond}
 use mathlib.Core.List.{List}
@@ -9,28 +9,21 @@ use lib.Dec.{ltb}
 use lib.Ieee.{Float}
 use lib.ListN.{length, take}
 use lib.Seq.{getD-take, take-all, length-take-le}
-use Rattle.factor.specs.Limits.{max-variables, max-factors}
 use Rattle.factor.specs.Counting.{sum}
 use Rattle.graph.specs.Record.{fresh, offset}
 use Rattle.graph.specs.Reached.{Reached}
 use Rattle.graph.specs.declared.Graph.{Graph}
 use Rattle.graph.proofs.Validity.{valid-variables, valid-count}
 use Rattle.graph.proofs.Keeping.{good-of}
-use Rattle.records.specs.Records.{stepOf, storeAfter, recordAt, Reading, reading, onward, readFrom, readAll}
+use Rattle.records.specs.Records.{longest, enough, stepOf, storeAfter, recordAt, Reading, reading, onward, readFrom, readAll}
 use Rattle.records.specs.declared.answer.Next.{Next}
 use Rattle.records.specs.declared.answer.Next.the-variants.{At, Stop}
 use Rattle.records.specs.declared.answer.Ended.the-variants.{Whole}
-use Rattle.records.proofs.Agreement.{longest, Agree, record-as}
+use Rattle.records.proofs.Agreement.{Agree, record-as}
 use Rattle.records.proofs.Progress.{most-read, record-bounded}
-use Rattle.records.proofs.Reading.{step-reached, fresh-reached, record-next}
+use Rattle.graph.proofs.Calls.{fresh-reached}
+use Rattle.records.proofs.Reading.{step-reached, record-next}
 use Rattle.records.proofs.StoreLength.{record-same}
-
--- the numbers of the store, and the bytes that decide
-abbrev pub room : ℕ
-room = 2048
-
-abbrev pub enough : ℕ
-enough = 11 * max-variables + 13 * max-factors + 8 * room + longest
 
 -- the tests of the end agree
 ends-as : (b c at : ℕ) → ltb b (at + 1) ≡ ltb c (at + 1) → ltb at b ≡ ltb at c
@@ -40,7 +33,7 @@ ends-as b c at e = by (ltb c (at + 1)) refl
     by true h = let l : c < at + 1 = ltb-true _ _ h in let m : b < at + 1 = ltb-true _ _ (e ∙ h) in le-ltb at b (omega arith) ∙ sym (le-ltb at c (omega arith))
     by false h = let l : at + 1 ≤ c = ltb-false _ _ h in let m : at + 1 ≤ b = ltb-false _ _ (e ∙ h) in lt-ltb at b (omega arith) ∙ sym (lt-ltb at c (omega arith))
 
-module _ (b c : List ℕ) (most : ℕ) (much : enough ≤ most) (same : Agree b c most) where
+module _ (b c : List ℕ) (room most : ℕ) (much : enough room ≤ most) (same : Agree b c most) where
   -- how a step goes on, in both
   onward-as : (next : Next) (g : Graph) (s : List Float) (place : ℕ) (f h : ℕ → Reading) → ((n : ℕ) → next ≡ At n → f n ≡ h n) → onward next g s place f ≡ onward next g s place h
   onward-as (At n) g s place f h e = e n refl
@@ -109,5 +102,5 @@ taken bytes most = record { bytes = λ i l. getD-take most bytes i 0 l; ends = �
     by false e m l = ap (λ (s : List ℕ). ltb (length s) m) (take-all most bytes (ltb-false _ _ e))
 
 -- the first `enough` bytes, or any more of them, decide the answer and the store
-pub first-decide : (bytes : List ℕ) (most : ℕ) (store : List Float) → enough ≤ most → length store ≤ room → readAll (take most bytes) store ≡ readAll bytes store
-first-decide bytes most store much st = as-whole (take most bytes) bytes most much (taken bytes most) store st
+pub first-decide : (bytes : List ℕ) (room most : ℕ) (store : List Float) → enough room ≤ most → length store ≤ room → readAll (take most bytes) store ≡ readAll bytes store
+first-decide bytes room most store much st = as-whole (take most bytes) bytes room most much (taken bytes most) store st

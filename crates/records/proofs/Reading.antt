@@ -2,22 +2,23 @@
 use Prim.Native.Nat.{ℕ, zero, suc, _+_, _-_, _*_, _≤_, _<_}
 use mathlib.Core.Path.{_≡_, refl, sym, ap, _∙_}
 use mathlib.Core.Bool.{Bool, true, false, not, cond}
-use mathlib.Core.List.{List, [], _∷_, _++_}
+use mathlib.Core.List.{List}
 use native.Mathlib.Omega.{arith}
 use borrow.Author.Tests.{lt-ltb, le-ltb, ltb-false}
 use lib.Dec.{ltb}
 use lib.Ieee.{Float}
 use lib.ListN.{length}
 use Rattle.factor.specs.Factor.{rising, known}
-use Rattle.graph.specs.Record.{fresh, sizeAt}
+use Rattle.graph.specs.Record.{sizeAt}
 use Rattle.graph.specs.Registration.{countsFit}
-use Rattle.graph.specs.Reached.{Call, variable, prior, observation, after, yields, Reached}
+use Rattle.graph.proofs.Calls.{reached-more}
+use Rattle.graph.specs.Reached.{Call, answered, Reached}
 use Rattle.graph.specs.declared.Graph.{Graph}
 use Rattle.graph.specs.declared.Outcome.{Outcome}
 use Rattle.graph.specs.declared.Outcome.the-variants as outcome
 use Rattle.graph.specs.declared.refusal.Refusal.{Refusal}
 use Rattle.records.specs.Bytes.{byteAt, cut, keysAt}
-use Rattle.records.specs.Records.{Request, ask, refuse, variableAt, priorNumbers, priorAt, meaning, flagKnown, given, observedNumbers, observed, observationAt, markOf, marked, recordAt, called, nextOf, stepOf, storeAfter, Reading, reading, onward, readFrom}
+use Rattle.records.specs.Records.{Request, ask, refuse, variableAt, priorNumbers, priorAt, meaning, flagKnown, given, observedNumbers, observed, observationAt, markOf, marked, recordAt, nextOf, stepOf, storeAfter, Reading, reading, onward, readFrom}
 use Rattle.records.specs.declared.answer.Next.the-variants.{At, Stop}
 use Rattle.records.specs.declared.answer.Step.{Step}
 use Rattle.records.specs.declared.answer.Ended.the-variants.{Whole, Refused}
@@ -89,7 +90,7 @@ module _ (bytes : List ℕ) where
 -- the place that a step goes on at is that of its request
 goes-on : (len at : ℕ) (g : Graph) (q : Request) (n : ℕ) → Within len at q → stepOf g q .next ≡ At n → (at < n) × (n ≤ len)
 unfolding Within
-goes-on len at g (ask call next) n w e = by (called g call .outcome) e
+goes-on len at g (ask call next) n w e = by (answered g call .outcome) e
   where
     by : (o : Outcome) → nextOf o next ≡ At n → (at < n) × (n ≤ len)
     by (outcome.Key k) h = let z : next ≡ n = cc in (omega arith, omega arith)
@@ -103,24 +104,9 @@ record-next bytes g store at n e = goes-on (length bytes) at g (recordAt g store
 
 -- ---- the graphs on the way are those that calls yield
 
-yields-one : (g : Graph) (cs : List Call) (c : Call) → yields g (cs ++ (c ∷ [])) ≡ after (yields g cs) c
-unfolding yields
-yields-one g [] c = refl
-yields-one g (d ∷ cs) c = yields-one (after g d) cs c
-
-called-after : (g : Graph) (c : Call) → called g c .graph ≡ after g c
-unfolding after
-called-after g (variable name size) = refl
-called-after g (prior key mean variance store) = refl
-called-after g (observation keys rows a mean variance store) = refl
-
 pub step-reached : (g : Graph) (q : Request) → Reached g → Reached (stepOf g q .graph)
-step-reached g (ask call next) r = (r .0 ++ (call ∷ []), yields-one fresh (r .0) call ∙ ap (λ (h : Graph). after h call) (r .1) ∙ sym (called-after g call))
+step-reached g (ask call next) r = reached-more g _ call r refl
 step-reached g (refuse why) r = r
-
-pub fresh-reached : Reached fresh
-unfolding yields
-fresh-reached = ([], refl)
 
 -- ---- a turn of the reading
 

@@ -1,80 +1,106 @@
 -- A record leaves the store as long as it was. Assumes nothing.
-use Prim.Native.Nat.{ℕ, _+_, _-_, _*_, _≤_}
-use mathlib.Core.Path.{_≡_, refl}
+use Prim.Native.Nat.{ℕ, zero, suc, _+_, _-_, _*_, _≤_}
+use mathlib.Core.Path.{_≡_, refl, subst, _∙_}
 use mathlib.Core.Bool.{Bool, true, false, not, cond}
-use mathlib.Core.List.{List, [], _++_}
+use mathlib.Core.List.{List, [], _∷_, _++_}
 use native.Mathlib.Omega.{arith}
-use borrow.Author.Tests.{leb-true, eqb-true}
-use lib.Dec.{ltb, leb}
+use lib.Dec.{ltb}
 use lib.Ieee.{Float}
-use lib.ListN.{length, length-append}
-use Rattle.factor.specs.Limits.{max-factors}
-use Rattle.factor.specs.Factor.{rising, known, priorOf, observationOf, aNumbers, numbers, lengthsFit, givenFinite}
-use Rattle.cholesky.specs.Forms.{Form, form, noPivot, noNumber, exchanged}
-use Rattle.cholesky.proofs.Forms.{exchanged-long}
+use lib.ListN.{length, take, drop, replicate, length-append, length-drop, length-replicate}
+use lib.Seq.{length-take-le}
+use Rattle.matrix.specs.Stores.{sweep}
+use Rattle.matrix.specs.Sums.{plus-zero}
+use Rattle.matrix.specs.Views.{columns}
+use Rattle.matrix.specs.Finite.{allFinite}
+use Rattle.matrix.specs.declared.View.{View}
+use Rattle.matrix.proofs.Entries.{steps-length}
+use Rattle.cholesky.specs.Factor.{Left, whole, stuck, factor}
+use Rattle.cholesky.specs.Solve.{solveLower, solveUpper, solved, unitColumn, inverted}
+use Rattle.factor.specs.Counting.{every}
+use Rattle.factor.specs.Factor.{rising, known, observationOf, aNumbers, numbers, lay}
+use Rattle.cholesky.specs.Forms.{Form, form, noPivot, noNumber, bounded, exchangedBy, exchanged}
+use Rattle.factor.specs.Storing.{xiOf, wOf}
 use Rattle.factor.specs.declared.Factor.{Factor}
-use Rattle.factor.proofs.Counting.{every-at}
-use Rattle.factor.proofs.Laying.{lay-length}
-use Rattle.graph.specs.Record.{sizeAt, offset, valid}
-use Rattle.graph.specs.Registration.{Verdict, stored, weighedVerdict, factorVerdict, priorVerdict, priorStore, countsFit, observationVerdict, observationStore}
+use Rattle.graph.specs.Record.{sizeAt, offset}
+use Rattle.graph.specs.Registration.{accept, stored, countsFit}
+use Rattle.graph.specs.Reached as calls
+use Rattle.graph.specs.Reached.{Call, prior, observation, register, lent}
+use Rattle.graph.proofs.Checking.{Taken, a-long, mean-long}
+use Rattle.graph.proofs.Calls.{Comes, turned, named, taken, comes}
+use Rattle.graph.specs.declared.Added.{Added}
 use Rattle.graph.specs.declared.Graph.{Graph}
 use Rattle.graph.specs.declared.refusal.Refusal.{Refusal}
 use Rattle.records.specs.Bytes.{byteAt, cut, keysAt}
 use Rattle.records.specs.Records.{Request, refuse, variableAt, priorNumbers, priorAt, meaning, flagKnown, given, observedNumbers, observed, observationAt, markOf, marked, recordAt, storeAfter}
 use Rattle.records.specs.declared.kinds.Mark.{Mark}
 use Rattle.records.specs.declared.kinds.Mark.the-variants as mark
-use Rattle.records.proofs.Progress.{case}
+
+-- ---- xi and W
+
+solved-length : (l : List Float) (lv : View) (n : ℕ) (xv : View) (c : ℕ) (x : List Float) → length (solved l lv n xv c x) ≡ length x
+unfolding solved solveLower solveUpper
+solved-length l lv n xv c x = steps-length _ _ _ n ∙ steps-length _ _ x n
+
+sweep-length : (f : ℕ → List Float → List Float) (s : List Float) → ((k : ℕ) (t : List Float) → length (f k t) ≡ length t) → (n : ℕ) → length (sweep f s n) ≡ length s
+unfolding sweep
+sweep-length f s h zero = refl
+sweep-length f s h (suc n) = h n (sweep f s n) ∙ sweep-length f s h n
+
+inverted-length : (l : List Float) (lv : View) (n : ℕ) (xv : View) (x : List Float) (m : ℕ) → length (inverted l lv n xv x m) ≡ length x
+unfolding inverted unitColumn
+inverted-length l lv n xv x m = sweep-length _ x (λ c t. solved-length l lv n xv c _ ∙ steps-length _ _ t n) m
+
+Sized : ℕ → List Float → Form → Type 0
+Sized n mean (form xi w) = (length xi ≡ length mean) × (length w ≡ n * n)
+Sized n mean noPivot = Unit
+Sized n mean noNumber = Unit
+
+bounded-sized : (n : ℕ) (mean xi w : List Float) → (length xi ≡ length mean) × (length w ≡ n * n) → Sized n mean (bounded xi w)
+unfolding Sized bounded
+bounded-sized n mean xi w h = by (every (allFinite xi ∷ allFinite w ∷ []))
+  where
+    by : (b : Bool) → Sized n mean (cond b (form xi w) noNumber)
+    by true = h
+    by false = tt
+
+weighed-sized : (n : ℕ) (mean variance : List Float) → Sized n mean (exchanged n mean variance)
+unfolding exchanged exchangedBy Sized
+weighed-sized n mean variance = by (factor (columns n) n variance n)
+  where
+    by : (l : Left) → Sized n mean (exchangedBy n mean l)
+    by (whole l) = bounded-sized n mean (xiOf n l mean) (wOf n l) (solved-length l (columns n) n (columns n) 0 mean, inverted-length l (columns n) n (columns n) (replicate (n * n) plus-zero) n ∙ length-replicate (n * n) plus-zero)
+    by (stuck l) = tt
 
 -- ---- the store of a call
 
--- the lengths that a factor's record asks for
-a-long : (sizes : List ℕ) (f : Factor) (a mean variance : ℕ) → lengthsFit sizes f a mean variance ≡ true → a ≡ aNumbers sizes f
-unfolding lengthsFit
-a-long sizes f a mean variance h = eqb-true _ _ (every-at _ 0 h)
-
-mean-long : (sizes : List ℕ) (f : Factor) (a mean variance : ℕ) → lengthsFit sizes f a mean variance ≡ true → mean ≡ f .rows
-unfolding lengthsFit
-mean-long sizes f a mean variance h = eqb-true _ _ (every-at _ 1 h)
+lay-length : (store : List Float) (at : ℕ) (vs : List Float) → at + length vs ≤ length store → length (lay store at vs) ≡ length store
+lay-length store at vs l =
+    length-append (take at store ++ vs) (drop (at + length vs) store)
+    ∙ (let t : length (take at store) ≡ at = length-take-le at store (omega arith) in
+    let d : length (drop (at + length vs) store) ≡ length store - (at + length vs) = length-drop (at + length vs) store in
+    let a : length (take at store ++ vs) ≡ length (take at store) + length vs = length-append (take at store) vs in
+    omega arith)
 
 numbers-are : (sizes : List ℕ) (f : Factor) → numbers sizes f ≡ aNumbers sizes f + f .rows + f .rows * f .rows
 unfolding numbers
 numbers-are sizes f = refl
 
+taken-kept : (g : Graph) (store : List Float) (f : Factor) (a mean variance xi w : List Float) → Taken g f a mean variance store xi w → length (stored g store (accept (a ++ xi ++ w))) ≡ length store
+unfolding Sized
+taken-kept g store f a mean variance xi w t =
+    let p = t .passed in
+    let s : Sized (f .rows) mean (form xi w) = subst (Sized (f .rows) mean) (t .weighing) (weighed-sized (f .rows) mean variance) in
+    lay-length store (offset g (g .count)) (a ++ xi ++ w)
+    (omega (arith, length-append (a ++ xi) w, length-append a xi, numbers-are (g .sizes) f, s .0, s .1, a-long g f _ _ _ (p .lengths), mean-long g f _ _ _ (p .lengths), p .room))
+
+comes-kept : {g : Graph} {keys : List ℕ} {store s : List Float} {x : Added} → Comes g keys store x s → length s ≡ length store
+comes-kept (turned why) = refl
+comes-kept (named name size n) = refl
+comes-kept {g} {store = store} (taken f a mean variance xi w t e) = taken-kept g store f a mean variance xi w t
+
 module _ (g : Graph) (store : List Float) where
-  Kept : Verdict → Type 0
-  Kept v = length (stored g store v) ≡ length store
-
-  weighed-kept : (f : Factor) (a mean variance : List Float) → length a ≡ aNumbers (g .sizes) f → length mean ≡ f .rows → offset g (g .count) + numbers (g .sizes) f ≤ length store → (w : Form) → exchanged (f .rows) mean variance ≡ w → Kept (weighedVerdict a w)
-  unfolding Kept
-  weighed-kept f a mean variance ea em l (form xi w) e =
-      let h = exchanged-long (f .rows) mean variance xi w e in
-      lay-length store (a ++ xi ++ w) (offset g (g .count)) (omega (arith, length-append (a ++ xi) w, length-append a xi, numbers-are (g .sizes) f, h .0, h .1))
-  weighed-kept f a mean variance ea em l noPivot e = refl
-  weighed-kept f a mean variance ea em l noNumber e = refl
-
-  factor-kept : (f : Factor) (a mean variance : List Float) → Kept (factorVerdict g f a mean variance store)
-  unfolding Kept factorVerdict
-  factor-kept f a mean variance =
-      case Kept (lengthsFit (g .sizes) f (length a) (length mean) (length variance)) _ _
-      (λ h5. case Kept (ltb (g .count) max-factors) _ _
-      (λ h12. case Kept (leb (offset g (g .count) + numbers (g .sizes) f) (length store)) _ _
-      (λ h13. case Kept (givenFinite a mean variance) _ _
-      (λ h6. weighed-kept f a mean variance (a-long _ _ _ _ _ h5) (mean-long _ _ _ _ _ h5) (leb-true _ _ h13) (exchanged (f .rows) mean variance) refl)
-      (λ _. refl)) (λ _. refl)) (λ _. refl)) (λ _. refl)
-
-  prior-kept : (key : ℕ) (mean variance : List Float) → length (priorStore g key mean variance store) ≡ length store
-  unfolding Kept priorStore priorVerdict
-  prior-kept key mean variance =
-      case Kept (valid g) _ _
-      (λ _. case Kept (ltb key (g .variables)) _ _ (λ _. factor-kept (priorOf key (sizeAt g key)) [] mean variance) (λ _. refl)) (λ _. refl)
-
-  observation-kept : (keys : List ℕ) (rows : ℕ) (a mean variance : List Float) → length (observationStore g keys rows a mean variance store) ≡ length store
-  unfolding Kept observationStore observationVerdict
-  observation-kept keys rows a mean variance =
-      case Kept (valid g) _ _
-      (λ _. case Kept (countsFit (length keys) rows) _ _
-      (λ _. case Kept (rising keys) _ _
-      (λ _. case Kept (known (g .variables) keys) _ _ (λ _. factor-kept (observationOf keys rows) a mean variance) (λ _. refl)) (λ _. refl)) (λ _. refl)) (λ _. refl)
+  call-kept : (c : Call) → length (calls.storeAfter g store c) ≡ length (lent store c)
+  call-kept c = comes-kept (comes g store c)
 
   -- ---- the store of a record
 
@@ -91,13 +117,13 @@ module _ (g : Graph) (store : List Float) where
   marked-same mark.Variable bytes at = else-same (cut bytes at 9) _ _ refl
   marked-same mark.Prior bytes at =
       else-same (cut bytes at 1) _ _ (else-same (not (ltb (byteAt bytes at) (g .variables))) _ _
-      (else-same (cut bytes (at + 1) (8 * (sizeAt g (byteAt bytes at) + sizeAt g (byteAt bytes at) * sizeAt g (byteAt bytes at)))) _ _ (prior-kept _ _ _)))
+      (else-same (cut bytes (at + 1) (8 * (sizeAt g (byteAt bytes at) + sizeAt g (byteAt bytes at) * sizeAt g (byteAt bytes at)))) _ _ (call-kept (register (prior _ _ _) store))))
   marked-same mark.Observation bytes at =
       else-same (cut bytes at 3) _ _ (else-same (not (flagKnown (meaning (byteAt bytes (at + 2))))) _ _
       (else-same (not (countsFit (byteAt bytes at) (byteAt bytes (at + 1)))) _ _ (else-same (cut bytes (at + 3) (byteAt bytes at)) _ _
       (else-same (not (rising (keysAt bytes (at + 3) (byteAt bytes at)))) _ _ (else-same (not (known (g .variables) (keysAt bytes (at + 3) (byteAt bytes at)))) _ _
       (else-same (cut bytes (at + 3 + byteAt bytes at) (8 * (aNumbers (g .sizes) (observationOf (keysAt bytes (at + 3) (byteAt bytes at)) (byteAt bytes (at + 1))) + byteAt bytes (at + 1) + given (meaning (byteAt bytes (at + 2))) (byteAt bytes (at + 1))))) _ _
-      (observation-kept _ _ _ _ _)))))))
+      (call-kept (register (observation _ _ _ _ _) store))))))))
   marked-same mark.Unmarked bytes at = refl
 
   pub record-same : (bytes : List ℕ) (at : ℕ) → length (storeAfter g store (recordAt g store bytes at)) ≡ length store

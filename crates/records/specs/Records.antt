@@ -6,10 +6,12 @@ use lib.Dec.{ltb, eqb}
 use lib.Ieee.{Float}
 use lib.ListN.{length}
 use Rattle.matrix.specs.Triangles.{identityOf}
+use Rattle.factor.specs.Limits.{max-variables, max-total, max-factors, max-keys, max-rows}
 use Rattle.factor.specs.Factor.{rising, known, observationOf, aNumbers}
 use Rattle.graph.specs.Record.{sizeAt, fresh}
-use Rattle.graph.specs.Registration.{addVariable, addPrior, priorStore, countsFit, addObservation, observationStore}
-use Rattle.graph.specs.Reached.{Call, variable, prior, observation}
+use Rattle.graph.specs.Registration.{countsFit}
+use Rattle.graph.specs.Reached as calls
+use Rattle.graph.specs.Reached.{Call, prior, observation, variable, register, answered}
 use Rattle.graph.specs.declared.Graph.{Graph}
 use Rattle.graph.specs.declared.Added.{Added}
 use Rattle.graph.specs.declared.Outcome.{Outcome}
@@ -43,6 +45,24 @@ variable-bytes = 9
 abbrev pub header-bytes : ℕ
 header-bytes = 3
 
+-- the bytes of a variable's record, and at most of a factor's beside its numbers
+abbrev pub variable-record : ℕ
+variable-record = mark-bytes + variable-bytes
+
+abbrev pub factor-frame : ℕ
+factor-frame = mark-bytes + header-bytes + max-keys
+
+-- the numbers of an observation at most, those of A, mean and variance, and the bytes of the longest record
+abbrev pub most-given : ℕ
+most-given = max-rows * max-total + max-rows + max-rows * max-rows
+
+abbrev pub longest : ℕ
+longest = factor-frame + float-bytes * most-given
+
+-- the bytes that decide what is read into a store of so many numbers: those of all records that it has room for, and of one record more
+abbrev pub enough : ℕ → ℕ
+enough room = variable-record * max-variables + factor-frame * max-factors + float-bytes * room + longest
+
 -- ---- a variable: letter, index and size
 
 unfoldable pub variableAt : List ℕ → ℕ → Request
@@ -56,7 +76,7 @@ variableAt bytes at =
 unfoldable pub priorNumbers : List Float → List ℕ → ℕ → ℕ → ℕ → Request
 priorNumbers store bytes key s at =
     cond (cut bytes at (float-bytes * (s + s * s))) (refuse BadRecord)
-    (ask (prior key (numbersAt bytes at s) (numbersAt bytes (at + float-bytes * s) (s * s)) store) (at + float-bytes * (s + s * s)))
+    (ask (register (prior key (numbersAt bytes at s) (numbersAt bytes (at + float-bytes * s) (s * s))) store) (at + float-bytes * (s + s * s)))
 
 unfoldable pub priorAt : Graph → List Float → List ℕ → ℕ → Request
 priorAt g store bytes at =
@@ -90,7 +110,7 @@ varianceAt Unknown bytes at y = []
 unfoldable pub observedNumbers : List Float → List ℕ → List ℕ → ℕ → Flag → ℕ → ℕ → Request
 observedNumbers store bytes keys rows flag n at =
     cond (cut bytes at (float-bytes * (n + rows + given flag rows))) (refuse BadRecord)
-    (ask (observation keys rows (numbersAt bytes at n) (numbersAt bytes (at + float-bytes * n) rows) (varianceAt flag bytes (at + float-bytes * (n + rows)) rows) store) (at + float-bytes * (n + rows + given flag rows)))
+    (ask (register (observation keys rows (numbersAt bytes at n) (numbersAt bytes (at + float-bytes * n) rows) (varianceAt flag bytes (at + float-bytes * (n + rows)) rows)) store) (at + float-bytes * (n + rows + given flag rows)))
 
 -- from the judging of the keys on
 unfoldable pub observed : Graph → List Float → List ℕ → List ℕ → ℕ → Flag → ℕ → Request
@@ -129,16 +149,6 @@ recordAt g store bytes at =
 
 -- ---- what a request comes to
 
-abbrev pub called : Graph → Call → Added
-called g (variable name size) = addVariable g name size
-called g (prior key mean variance store) = addPrior g key mean variance store
-called g (observation keys rows a mean variance store) = addObservation g keys rows a mean variance store
-
-abbrev pub storeOf : Graph → List Float → Call → List Float
-storeOf g store (variable name size) = store
-storeOf g store (prior key mean variance lent) = priorStore g key mean variance lent
-storeOf g store (observation keys rows a mean variance lent) = observationStore g keys rows a mean variance lent
-
 -- an accepted record leads to the next one
 abbrev pub nextOf : Outcome → ℕ → Next
 nextOf (outcome.Key key) next = At next
@@ -152,11 +162,11 @@ abbrev pub stopped : Graph → Refusal → Step
 stopped g why = record { graph = g; next = Stop why }
 
 abbrev pub stepOf : Graph → Request → Step
-stepOf g (ask call next) = wentTo (called g call) next
+stepOf g (ask call next) = wentTo (answered g call) next
 stepOf g (refuse why) = stopped g why
 
 abbrev pub storeAfter : Graph → List Float → Request → List Float
-storeAfter g store (ask call next) = storeOf g store call
+storeAfter g store (ask call next) = calls.storeAfter g store call
 storeAfter g store (refuse why) = store
 
 -- ---- all records

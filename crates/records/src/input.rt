@@ -1,14 +1,13 @@
 // The numbers in a job's bytes. All stand with their lowest byte first.
+use crate::bytes::FLOAT_BYTES;
 ghost use mathlib.Core.Path.{_≡_};
 ghost use mathlib.Core.List.{_++_};
 ghost use Prim.Native.Nat.{_+_, _*_, _<_, _≤_};
 ghost use lib.Ieee.{binary64, ofBits};
 ghost use lib.ListN.{length, drop};
 ghost use Rattle.matrix.specs.Triangles.{identityOf};
+ghost use Rattle.factor.specs.Limits.{max-rows};
 ghost use Rattle.records.specs.Bytes as spec;
-
-// The bytes of a float.
-pub const FLOAT_BYTES: usize = 8;
 
 // Fewer than n bytes stand from a place on.
 pub fn cut(bytes: &[u8], at: usize, n: usize) -> bool
@@ -92,7 +91,7 @@ fn unit(n: usize, i: usize) -> f64
 
 // The first numbers of out become the identity of n rows, column by column.
 pub fn identity(out: &mut [f64], n: usize)
-    requires { ⌜ (0 < n) × (n ≤ 12) × (n * n ≤ length (now out)) ⌝ }
+    requires { ⌜ (0 < n) × (n ≤ max-rows) × (n * n ≤ length (now out)) ⌝ }
     ensures { λ _. ⌜ now (out .exit) ≡ identityOf n ++ drop (n * n) (now (out .entry)) ⌝ }
 {
     for i in 0..n * n {

@@ -1,20 +1,10 @@
 // The kinds of records, and what an observation's flag means.
-use factor::limits::KEYS;
-use factor::limits::ROWS;
 ghost use mathlib.Core.Path.{_≡_};
 ghost use mathlib.Core.Bool.{_&&_};
 ghost use Prim.Native.Nat.{_*_, _≤_};
 ghost use lib.Dec.{eqb};
 ghost use Rattle.factor.specs.Limits.{max-rows};
-ghost use Rattle.graph.specs.Registration.{countsFit};
 ghost use Rattle.records.specs.Records as spec;
-
-// The bytes of a mark, of a variable after its mark, and of an observation's counts and flag.
-pub const MARK_BYTES: usize = 2;
-
-pub const VARIABLE_BYTES: usize = 9;
-
-pub const HEADER_BYTES: usize = 3;
 
 pub enum Mark {
     Variable,
@@ -72,16 +62,6 @@ pub fn flag_known(flag: Flag) -> bool
         Flag::Given => true,
         Flag::Unknown => false,
     }
-}
-
-// The counts of an observation's keys and rows are within their limits.
-pub fn counts_fit(keys: usize, rows: usize) -> bool
-    ensures { λ r. ⌜ r ≡ countsFit keys rows ⌝ }
-{
-    if KEYS < keys {
-        return false;
-    }
-    1 <= rows && rows <= ROWS
 }
 
 // How many numbers of the variance the record has.

@@ -1,5 +1,6 @@
 // A job file read into a graph, record by record.
 pub mod answer;
+pub mod bytes;
 mod input;
 mod kinds;
 
@@ -7,6 +8,10 @@ use answer::Ended;
 use answer::Next;
 use answer::Read;
 use answer::Step;
+use bytes::FLOAT_BYTES;
+use bytes::HEADER_BYTES;
+use bytes::MARK_BYTES;
+use bytes::VARIABLE_BYTES;
 use factor::limits::KEYS;
 use factor::limits::ROWS;
 use factor::limits::SIZE;
@@ -17,15 +22,11 @@ use graph::Graph;
 use graph::Outcome;
 use graph::Symbol;
 use graph::refusal::Refusal;
-use input::FLOAT_BYTES;
 use input::byte;
 use input::cut;
 use input::word;
 use kinds::Flag;
-use kinds::HEADER_BYTES;
-use kinds::MARK_BYTES;
 use kinds::Mark;
-use kinds::VARIABLE_BYTES;
 ghost use mathlib.Core.Path.{_≡_};
 ghost use mathlib.Core.Bool.{true};
 ghost use mathlib.Core.List.{_++_};
@@ -226,7 +227,7 @@ fn read_observation(g: Graph, bytes: &[u8], at: usize, store: &mut [f64]) -> Ste
     if !kinds::flag_known(flag) {
         return stop(g, Refusal::BadRecord);
     }
-    if !kinds::counts_fit(count, rows) {
+    if !graph::checks::counts_fit(count, rows) {
         return stop(g, Refusal::CountOutside);
     }
     if cut(bytes, at + HEADER_BYTES, count) {

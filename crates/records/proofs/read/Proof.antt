@@ -16,7 +16,8 @@ use Rattle.records.specs.declared.answer.Ended.{Ended}
 use Rattle.records.specs.declared.answer.Ended.the-variants.{Whole}
 use Rattle.records.specs.declared.answer.Read.{Read}
 use Rattle.records.specs.declared.answer.Step.{Step}
-use Rattle.records.proofs.Reading.{step-reached, fresh-reached, all-read, on, off}
+use Rattle.graph.proofs.Calls.{fresh-reached}
+use Rattle.records.proofs.Reading.{step-reached, all-read, on, off}
 use borrow.Author.Needs.{needs}
 use Rattle.records.proofs.read.Statement.{statement}
 use Rattle.records.proofs.read.Tie as tie

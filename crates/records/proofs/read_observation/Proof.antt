@@ -14,7 +14,7 @@ use Rattle.graph.specs.declared.refusal.Refusal.the-variants.{BadRecord, CountO
 use Rattle.records.specs.Bytes.{byteAt, cut, keysAt}
 use Rattle.records.specs.Records.{refuse, meaning, flagKnown, observed, observationAt}
 use Rattle.records.specs.declared.kinds.Flag.{Flag}
-use Rattle.records.proofs.Counts.{few-keys}
+use Rattle.graph.proofs.Checking.{few-keys}
 use Rattle.records.proofs.Listing.{listed-length, front}
 use Rattle.records.proofs.Requests.{turned, met, there}
 use borrow.Author.Needs.{needs}

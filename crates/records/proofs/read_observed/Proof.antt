@@ -17,7 +17,8 @@ use Rattle.graph.specs.declared.Graph.{Graph}
 use Rattle.graph.specs.declared.refusal.Refusal.the-variants.{KeysNotRising, NoSuchKey}
 use Rattle.records.specs.Records.{refuse, observedNumbers, observed}
 use Rattle.records.specs.declared.kinds.Flag.{Flag}
-use Rattle.records.proofs.Counts.{few-keys, some-rows, most-rows, numbers-most}
+use Rattle.graph.proofs.Checking.{few-keys, some-rows, most-rows}
+use Rattle.records.proofs.Counts.{numbers-most}
 use Rattle.records.proofs.Requests.{turned, met}
 use borrow.Author.Needs.{needs}
 use Rattle.records.proofs.read_observed.Statement.{statement}

@@ -1,11 +1,14 @@
 -- `graph::Graph::add_factor` meets its contract: its ways out are those of the verdict (`proofs/CheckOrder.antt`). Assumes nothing.
 use mathlib.Core.Path.{_∙_, refl, sym}
+use native.Mathlib.Omega.{arith}
 use borrow.Author.Needs.{needs}
 use borrow.Author.Tests.{not-false, not-true}
 use Rattle.factor.proofs.Counting.{tells}
 use Rattle.factor.proofs.Fitting.{fits-touched}
+use Rattle.cholesky.specs.declared.exchange.Exchanged.the-variants.{Done, Pivot, Unbounded}
 use Rattle.graph.proofs.Validity.{rows-most}
-use Rattle.graph.proofs.CheckOrder.{at-overflow, at-pivot, full, not-given, room-for, short, taken, turned-back, unlike}
+use Rattle.graph.proofs.Checking.{full, not-given, short, unlike}
+use Rattle.graph.proofs.CheckOrder.{ended, room-for, turned-back}
 use Rattle.graph.proofs.Graph.add_factor.Statement.{statement}
 use Rattle.graph.proofs.Graph.add_factor.Tie as tie
 
@@ -47,7 +50,7 @@ refused-requires-3 c κs = search needs
 returns-3 : tie.Need-returns-3
 returns-3 c =
     let args = c .before .before .before .before .before .before .before .before .before .before .before .before .args in
-    turned-back (args .t1) (args .f) (args .store .now) _ _ _ _ (short (args .t1) (args .f) (args .a .now) (args .mean .now) (args .variance .now) (args .store .now) (tells (c .before .before .before .before .before .before .lengths-fit .ensures) (not-false _ (c .before .before .before .before .before .if1 .left))) (c .before .before .before .before .if2 .left) (c .before .before .before .offset .result) (c .before .before .numbers .result) (c .before .before .before .offset .ensures .0) (c .before .before .numbers .ensures .0) (c .before .if3 .taken)) (c .refused3 .ensures) refl
+    turned-back (args .t1) (args .f) (args .store .now) _ _ _ _ (short (args .t1) (args .f) (args .a .now) (args .mean .now) (args .variance .now) (args .store .now) (tells (c .before .before .before .before .before .before .lengths-fit .ensures) (not-false _ (c .before .before .before .before .before .if1 .left))) (c .before .before .before .before .if2 .left) (omega (arith, c .before .before .before .offset .ensures .0, c .before .before .numbers .ensures .0, c .before .if3 .taken))) (c .refused3 .ensures) refl
 
 given-finite-requires : tie.Need-given-finite-requires
 given-finite-requires c κs = search needs
@@ -58,13 +61,13 @@ refused-requires-4 c κs = search needs
 returns-4 : tie.Need-returns-4
 returns-4 c =
     let args = c .before .before .before .before .before .before .before .before .before .before .before .before .before .before .args in
-    turned-back (args .t1) (args .f) (args .store .now) _ _ _ _ (not-given (args .t1) (args .f) (args .a .now) (args .mean .now) (args .variance .now) (args .store .now) (tells (c .before .before .before .before .before .before .before .before .lengths-fit .ensures) (not-false _ (c .before .before .before .before .before .before .before .if1 .left))) (c .before .before .before .before .before .before .if2 .left) (c .before .before .before .before .before .offset .result) (c .before .before .before .before .numbers .result) (c .before .before .before .before .before .offset .ensures .0) (c .before .before .before .before .numbers .ensures .0) (c .before .before .before .if3 .left) (tells (c .before .before .given-finite .ensures) (not-true _ (c .before .if4 .taken)))) (c .refused4 .ensures) refl
+    turned-back (args .t1) (args .f) (args .store .now) _ _ _ _ (not-given (args .t1) (args .f) (args .a .now) (args .mean .now) (args .variance .now) (args .store .now) (tells (c .before .before .before .before .before .before .before .before .lengths-fit .ensures) (not-false _ (c .before .before .before .before .before .before .before .if1 .left))) (c .before .before .before .before .before .before .if2 .left) (omega (arith, c .before .before .before .before .before .offset .ensures .0, c .before .before .before .before .numbers .ensures .0, c .before .before .before .if3 .left)) (tells (c .before .before .given-finite .ensures) (not-true _ (c .before .if4 .taken)))) (c .refused4 .ensures) refl
 
 store-factor-requires : tie.Need-store-factor-requires
 store-factor-requires c κs =
     let args = c .before .before .before .before .before .before .before .before .before .before .before .before .before .before .args in
     let pre = c .before .before .before .before .before .before .before .before .before .before .before .before .before .before .pre in
-    room-for (args .t1) (args .f) (args .a .now) (args .mean .now) (args .variance .now) (args .store .now) (tells (c .before .before .before .before .before .before .before .before .lengths-fit .ensures) (not-false _ (c .before .before .before .before .before .before .before .if1 .left))) (c .before .before .before .before .before .before .if2 .left) (c .before .before .before .before .before .offset .result) (c .before .before .before .before .numbers .result) (c .before .before .before .before .before .offset .ensures .0) (c .before .before .before .before .numbers .ensures .0) (c .before .before .before .if3 .left) (rows-most (args .t1) (pre .0) (args .f) (pre .1))
+    room-for (args .t1) (args .f) (args .a .now) (args .mean .now) (args .variance .now) (args .store .now) (tells (c .before .before .before .before .before .before .before .before .lengths-fit .ensures) (not-false _ (c .before .before .before .before .before .before .before .if1 .left))) (c .before .before .before .before .before .before .if2 .left) (c .before .before .before .before .before .offset .result) (c .before .before .before .before .numbers .result) (c .before .before .before .before .before .offset .ensures .0) (c .before .before .before .before .numbers .ensures .0) (c .before .before .before .if3 .left) (tells (c .before .before .given-finite .ensures) (not-false _ (c .before .if4 .left))) (rows-most (args .t1) (pre .0) (args .f) (pre .1))
 
 enum-told : tie.Need-enum-told
 enum-told c = search needs
@@ -84,7 +87,7 @@ returns-5 c =
     let offset = c .before .before .before .before .before .before .before .before .before .before .before .offset in
     let numbers = c .before .before .before .before .before .before .before .before .before .before .numbers in
     let store-factor = c .before .before .before .before .before .store-factor in
-    let p = at-pivot (args .t1) (args .f) (args .a .now) (args .mean .now) (args .variance .now) (args .store .now) (tells (c .before .before .before .before .before .before .before .before .before .before .before .before .before .before .lengths-fit .ensures) (not-false _ (c .before .before .before .before .before .before .before .before .before .before .before .before .before .if1 .left))) (c .before .before .before .before .before .before .before .before .before .before .before .before .if2 .left) (offset .result) (numbers .result) (offset .ensures .0) (numbers .ensures .0) (c .before .before .before .before .before .before .before .before .before .if3 .left) (tells (c .before .before .before .before .before .before .before .before .given-finite .ensures) (not-false _ (c .before .before .before .before .before .before .before .if4 .left))) (store-factor .last .0) (store-factor .ensures .1 .0) (sym (c .before .enum-told2 .given .1) ∙ store-factor .ensures .0) in
+    let p = ended (args .t1) (args .f) (args .a .now) (args .mean .now) (args .variance .now) (args .store .now) (tells (c .before .before .before .before .before .before .before .before .before .before .before .before .before .before .lengths-fit .ensures) (not-false _ (c .before .before .before .before .before .before .before .before .before .before .before .before .before .if1 .left))) (c .before .before .before .before .before .before .before .before .before .before .before .before .if2 .left) (offset .result) (numbers .result) (offset .ensures .0) (numbers .ensures .0) (c .before .before .before .before .before .before .before .before .before .if3 .left) (tells (c .before .before .before .before .before .before .before .before .given-finite .ensures) (not-false _ (c .before .before .before .before .before .before .before .if4 .left))) (store-factor .last .0) Pivot (sym (c .before .enum-told2 .given .1) ∙ store-factor .ensures .0) (store-factor .ensures .1 .0) in
     turned-back (args .t1) (args .f) (args .store .now) _ _ _ _ (p .0) (c .refused5 .ensures) (p .1)
 
 enum-told-3 : tie.Need-enum-told-3
@@ -102,7 +105,7 @@ returns-6 c =
     let offset = c .before .before .before .before .before .before .before .before .before .before .before .offset in
     let numbers = c .before .before .before .before .before .before .before .before .before .before .numbers in
     let store-factor = c .before .before .before .before .before .store-factor in
-    let p = at-overflow (args .t1) (args .f) (args .a .now) (args .mean .now) (args .variance .now) (args .store .now) (tells (c .before .before .before .before .before .before .before .before .before .before .before .before .before .before .lengths-fit .ensures) (not-false _ (c .before .before .before .before .before .before .before .before .before .before .before .before .before .if1 .left))) (c .before .before .before .before .before .before .before .before .before .before .before .before .if2 .left) (offset .result) (numbers .result) (offset .ensures .0) (numbers .ensures .0) (c .before .before .before .before .before .before .before .before .before .if3 .left) (tells (c .before .before .before .before .before .before .before .before .given-finite .ensures) (not-false _ (c .before .before .before .before .before .before .before .if4 .left))) (store-factor .last .0) (store-factor .ensures .1 .0) (sym (c .before .enum-told3 .given .1) ∙ store-factor .ensures .0) in
+    let p = ended (args .t1) (args .f) (args .a .now) (args .mean .now) (args .variance .now) (args .store .now) (tells (c .before .before .before .before .before .before .before .before .before .before .before .before .before .before .lengths-fit .ensures) (not-false _ (c .before .before .before .before .before .before .before .before .before .before .before .before .before .if1 .left))) (c .before .before .before .before .before .before .before .before .before .before .before .before .if2 .left) (offset .result) (numbers .result) (offset .ensures .0) (numbers .ensures .0) (c .before .before .before .before .before .before .before .before .before .if3 .left) (tells (c .before .before .before .before .before .before .before .before .given-finite .ensures) (not-false _ (c .before .before .before .before .before .before .before .if4 .left))) (store-factor .last .0) Unbounded (sym (c .before .enum-told3 .given .1) ∙ store-factor .ensures .0) (store-factor .ensures .1 .0) in
     turned-back (args .t1) (args .f) (args .store .now) _ _ _ _ (p .0) (c .refused6 .ensures) (p .1)
 
 mul-f : tie.Need-mul-f
@@ -123,7 +126,7 @@ returns-7 c =
     let offset = c .before .before .before .before .before .before .before .before .before .before .offset in
     let numbers = c .before .before .before .before .before .before .before .before .before .numbers in
     let store-factor = c .before .before .before .before .store-factor in
-    taken (args .t1) (args .f) (args .a .now) (args .mean .now) (args .variance .now) (args .store .now) (tells (c .before .before .before .before .before .before .before .before .before .before .before .before .before .lengths-fit .ensures) (not-false _ (c .before .before .before .before .before .before .before .before .before .before .before .before .if1 .left))) (c .before .before .before .before .before .before .before .before .before .before .before .if2 .left) (offset .result) (numbers .result) (offset .ensures .0) (numbers .ensures .0) (c .before .before .before .before .before .before .before .before .if3 .left) (tells (c .before .before .before .before .before .before .before .given-finite .ensures) (not-false _ (c .before .before .before .before .before .before .if4 .left))) (store-factor .last .0) (store-factor .ensures .1 .0) (sym (c .enum-told .given .1) ∙ store-factor .ensures .0)
+    ended (args .t1) (args .f) (args .a .now) (args .mean .now) (args .variance .now) (args .store .now) (tells (c .before .before .before .before .before .before .before .before .before .before .before .before .before .lengths-fit .ensures) (not-false _ (c .before .before .before .before .before .before .before .before .before .before .before .before .if1 .left))) (c .before .before .before .before .before .before .before .before .before .before .before .if2 .left) (offset .result) (numbers .result) (offset .ensures .0) (numbers .ensures .0) (c .before .before .before .before .before .before .before .before .if3 .left) (tells (c .before .before .before .before .before .before .before .given-finite .ensures) (not-false _ (c .before .before .before .before .before .before .if4 .left))) (store-factor .last .0) Done (sym (c .enum-told .given .1) ∙ store-factor .ensures .0) (store-factor .ensures .1 .0)
 
 pub add-factor-spec : {M : Type 1} → statement M
 add-factor-spec =

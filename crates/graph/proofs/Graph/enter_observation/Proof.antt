@@ -1,82 +1,45 @@
--- `graph::Graph::enter_observation` meets its contract, by its ways out. Assumes nothing.
-use Prim.Native.Nat.{_<_, _≤_, ℕ}
-use mathlib.Core.Bool.{false, true}
+-- `graph::Graph::enter_observation` meets its contract: its ways out are those of the checks (`proofs/Checking.antt`). Assumes nothing.
+use Prim.Native.Nat.{_<_, ℕ}
+use mathlib.Core.Bool.{true}
 use mathlib.Core.List.{List}
-use mathlib.Core.Path.{_≡_, refl}
+use mathlib.Core.Path.{_≡_, refl, sym}
 use native.Mathlib.Omega.{arith}
 use borrow.Author.Needs.{needs}
-use borrow.Author.Tests.{leb-true, lt-ltb, ltb-true, not-false, not-true}
+use borrow.Author.Tests.{lt-ltb, ltb-true, not-false, not-true}
 use lib.Dec.{ltb}
 use lib.Ieee.{Float}
 use lib.ListN.{getD, length}
-use Rattle.factor.proofs.Counting.{all-at, all-of, every-at, tells}
-use Rattle.factor.proofs.Fitting.{observation-fits}
+use Rattle.factor.proofs.Counting.{all-at, all-of, tells}
 use Rattle.factor.specs.Factor.{fits, known, observationOf, rising}
-use Rattle.factor.specs.Limits.{max-keys, max-rows, max-variables}
+use Rattle.factor.specs.Limits.{max-variables}
 use Rattle.factor.specs.declared.Factor.{Factor}
 use Rattle.graph.proofs.Validity.{valid-variables}
+use Rattle.graph.proofs.Checking.{counted-fits, few-keys, most-rows, not-known, not-rising, observation-as, outside}
 use Rattle.graph.proofs.CheckOrder.{turned-back}
 use Rattle.graph.specs.Record.{valid}
-use Rattle.graph.specs.Registration.{Verdict, addObservation, countsFit, factorVerdict, observationStore, observationVerdict, refuse, settle, stored}
+use Rattle.graph.specs.Registration.{addObservation, countsFit, factorVerdict, observationStore, settle, stored}
 use Rattle.graph.specs.declared.Added.{Added}
 use Rattle.graph.specs.declared.Graph.{Graph}
-use Rattle.graph.specs.declared.refusal.Refusal.the-variants.{CountOutside, KeysNotRising, NoSuchKey}
 use Rattle.graph.proofs.Graph.enter_observation.Statement.{statement}
 use Rattle.graph.proofs.Graph.enter_observation.Tie as tie
 
--- the verdict of an observation, over plain values
-module _ (g : Graph) (keys : List ℕ) (rows : ℕ) (a mean variance store : List Float) where
-  abbrev verdict : Verdict
-  verdict = observationVerdict g keys rows a mean variance store
+-- keys that are registered are within the limit
+all-known : (g : Graph) (keys : List ℕ) → valid g ≡ true → known (g .variables) keys ≡ true → known max-variables keys ≡ true
+all-known g keys h30 h11 =
+    all-of (λ j. ltb (getD keys j 0) max-variables) (length keys)
+    (λ j l.
+    let k : getD keys j 0 < g .variables = ltb-true _ _ (all-at (λ i. ltb (getD keys i 0) (g .variables)) (length keys) j h11 l) in
+    let m : getD keys j 0 < max-variables = omega (arith, valid-variables g h30) in
+    lt-ltb _ _ m)
 
-  module _ (h30 : valid g ≡ true) where
-    outside : countsFit (length keys) rows ≡ false → verdict ≡ refuse CountOutside
-    unfolding observationVerdict
-    outside h = rw (h30, h)
+fitting : (g : Graph) (keys : List ℕ) (rows : ℕ) → countsFit (length keys) rows ≡ true → rising keys ≡ true → known (g .variables) keys ≡ true → (f : Factor) → f ≡ observationOf keys rows → fits (g .sizes) (g .variables) f ≡ true
+fitting g keys rows h4 h3 h11 f e = rw e (counted-fits g keys rows h4 h3 h11)
 
-    module _ (h4 : countsFit (length keys) rows ≡ true) where
-      few : length keys ≤ max-keys
-      unfolding countsFit
-      few = leb-true _ _ (every-at _ 0 h4)
-
-      some : 1 ≤ rows
-      unfolding countsFit
-      some = leb-true _ _ (every-at _ 1 h4)
-
-      most : rows ≤ max-rows
-      unfolding countsFit
-      most = leb-true _ _ (every-at _ 2 h4)
-
-      not-rising : rising keys ≡ false → verdict ≡ refuse KeysNotRising
-      unfolding observationVerdict
-      not-rising h = rw (h30, h4, h)
-
-      module _ (h3 : rising keys ≡ true) where
-        no-key : known (g .variables) keys ≡ false → verdict ≡ refuse NoSuchKey
-        unfolding observationVerdict
-        no-key h = rw (h30, h4, h3, h)
-
-        module _ (h11 : known (g .variables) keys ≡ true) where
-          as-factor : factorVerdict g (observationOf keys rows) a mean variance store ≡ verdict
-          unfolding observationVerdict
-          as-factor = rw (h30, h4, h3, h11)
-
-          fitting : (f : Factor) → f ≡ observationOf keys rows → fits (g .sizes) (g .variables) f ≡ true
-          fitting f e = rw e (observation-fits keys (g .sizes) (g .variables) rows few some most h3 h11)
-
-          -- keys that are registered are within the limit
-          all-known : known max-variables keys ≡ true
-          all-known =
-              all-of (λ j. ltb (getD keys j 0) max-variables) (length keys)
-              (λ j l.
-              let k : getD keys j 0 < g .variables = ltb-true _ _ (all-at (λ i. ltb (getD keys i 0) (g .variables)) (length keys) j h11 l) in
-              let m : getD keys j 0 < max-variables = omega (arith, valid-variables g h30) in
-              lt-ltb _ _ m)
-
-          taken : (f : Factor) (s : List Float) (r : Added) → f ≡ observationOf keys rows → (r ≡ settle g f (factorVerdict g f a mean variance store)) × (s ≡ stored g store (factorVerdict g f a mean variance store))
-              → (r ≡ addObservation g keys rows a mean variance store) × (s ≡ observationStore g keys rows a mean variance store)
-          unfolding addObservation observationStore
-          taken f s r e h = rw (e, as-factor) at h
+taken : (g : Graph) (keys : List ℕ) (rows : ℕ) (a mean variance store : List Float) → valid g ≡ true → countsFit (length keys) rows ≡ true → rising keys ≡ true → known (g .variables) keys ≡ true
+    → (f : Factor) (s : List Float) (r : Added) → f ≡ observationOf keys rows → (r ≡ settle g f (factorVerdict g f a mean variance store)) × (s ≡ stored g store (factorVerdict g f a mean variance store))
+    → (r ≡ addObservation g keys rows a mean variance store) × (s ≡ observationStore g keys rows a mean variance store)
+unfolding addObservation observationStore
+taken g keys rows a mean variance store h30 h4 h3 h11 f s r e h = rw (e, sym (observation-as g keys rows a mean variance store h30 h4 h3 h11)) at h
 
 counts-fit-requires : tie.Need-counts-fit-requires
 counts-fit-requires c κs = search needs
@@ -112,7 +75,7 @@ returns-3 : tie.Need-returns-3
 unfolding addObservation observationStore
 returns-3 c =
     let args = c .before .before .before .before .before .before .before .before .before .before .before .before .args in
-    turned-back (args .self) _ (args .store .now) _ _ _ _ (no-key (args .self) (args .keys .now) (args .rows) (args .a .now) (args .mean .now) (args .variance .now) (args .store .now) (c .before .before .before .before .before .before .before .before .before .before .before .before .pre) (tells (c .before .before .before .before .before .before .counts-fit .ensures) (not-false _ (c .before .before .before .before .before .if1 .left))) (tells (c .before .before .before .before .rising .ensures) (not-false _ (c .before .before .before .if2 .left))) (tells (c .before .before .known .ensures) (not-true _ (c .before .if3 .taken)))) (c .refused3 .ensures) refl
+    turned-back (args .self) _ (args .store .now) _ _ _ _ (not-known (args .self) (args .keys .now) (args .rows) (args .a .now) (args .mean .now) (args .variance .now) (args .store .now) (c .before .before .before .before .before .before .before .before .before .before .before .before .pre) (tells (c .before .before .before .before .before .before .counts-fit .ensures) (not-false _ (c .before .before .before .before .before .if1 .left))) (tells (c .before .before .before .before .rising .ensures) (not-false _ (c .before .before .before .if2 .left))) (tells (c .before .before .known .ensures) (not-true _ (c .before .if3 .taken)))) (c .refused3 .ensures) refl
 
 observation-of-requires : tie.Need-observation-of-requires
 observation-of-requires c κs =
@@ -120,9 +83,9 @@ observation-of-requires c κs =
     let pre = c .before .before .before .before .before .before .before .before .before .before .before .pre in
     let counts-fit = c .before .before .before .before .before .counts-fit in
     let if1 = c .before .before .before .before .if1 in (
-      few (args .self) (args .keys .now) (args .rows) (args .a .now) (args .mean .now) (args .variance .now) (args .store .now) (pre) (tells (counts-fit .ensures) (not-false _ (if1 .left))),
-      omega (arith, most (args .self) (args .keys .now) (args .rows) (args .a .now) (args .mean .now) (args .variance .now) (args .store .now) (pre) (tells (counts-fit .ensures) (not-false _ (if1 .left)))),
-      all-known (args .self) (args .keys .now) (args .rows) (args .a .now) (args .mean .now) (args .variance .now) (args .store .now) (pre) (tells (counts-fit .ensures) (not-false _ (if1 .left))) (tells (c .before .before .before .rising .ensures) (not-false _ (c .before .before .if2 .left))) (tells (c .before .known .ensures) (not-false _ (c .if3 .left))),
+      few-keys _ _ (tells (counts-fit .ensures) (not-false _ (if1 .left))),
+      omega (arith, most-rows _ _ (tells (counts-fit .ensures) (not-false _ (if1 .left)))),
+      all-known (args .self) (args .keys .now) pre (tells (c .before .known .ensures) (not-false _ (c .if3 .left))),
     )
 
 add-factor-requires : tie.Need-add-factor-requires
@@ -130,7 +93,7 @@ add-factor-requires c κs =
     let args = c .before .before .before .before .before .before .before .before .before .before .before .before .before .args in
     let pre = c .before .before .before .before .before .before .before .before .before .before .before .before .before .pre in (
       pre,
-      fitting (args .self) (args .keys .now) (args .rows) (args .a .now) (args .mean .now) (args .variance .now) (args .store .now) (pre) (tells (c .before .before .before .before .before .before .before .counts-fit .ensures) (not-false _ (c .before .before .before .before .before .before .if1 .left))) (tells (c .before .before .before .before .before .rising .ensures) (not-false _ (c .before .before .before .before .if2 .left))) (tells (c .before .before .before .known .ensures) (not-false _ (c .before .before .if3 .left))) (c .before .observation-of .result) (c .before .observation-of .ensures),
+      fitting (args .self) (args .keys .now) (args .rows) (tells (c .before .before .before .before .before .before .before .counts-fit .ensures) (not-false _ (c .before .before .before .before .before .before .if1 .left))) (tells (c .before .before .before .before .before .rising .ensures) (not-false _ (c .before .before .before .before .if2 .left))) (tells (c .before .before .before .known .ensures) (not-false _ (c .before .before .if3 .left))) (c .before .observation-of .result) (c .before .observation-of .ensures),
     )
 
 same-length : tie.Need-same-length

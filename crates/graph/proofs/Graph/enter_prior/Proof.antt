@@ -2,42 +2,35 @@
 use Prim.Native.Nat.{_<_, _≤_, ℕ}
 use mathlib.Core.Bool.{true}
 use mathlib.Core.List.{List, []}
-use mathlib.Core.Path.{_∙_, _≡_, ap, refl}
+use mathlib.Core.Path.{_∙_, _≡_, ap, refl, sym}
 use native.Mathlib.Omega.{arith}
 use borrow.Author.Needs.{needs}
-use borrow.Author.Tests.{le-ltb, lt-ltb}
 use lib.Ieee.{Float}
 use Rattle.factor.proofs.Fitting.{prior-fits}
 use Rattle.factor.specs.Factor.{fits, priorOf}
 use Rattle.factor.specs.Limits.{max-variables}
 use Rattle.factor.specs.declared.Factor.{Factor}
 use Rattle.graph.proofs.Validity.{valid-variables}
+use Rattle.graph.proofs.Checking.{no-key, prior-as}
 use Rattle.graph.proofs.CheckOrder.{turned-back}
 use Rattle.graph.specs.Record.{sizeAt, valid}
-use Rattle.graph.specs.Registration.{addPrior, factorVerdict, priorStore, priorVerdict, refuse, settle, stored}
+use Rattle.graph.specs.Registration.{addPrior, factorVerdict, priorStore, priorVerdict, settle, stored}
 use Rattle.graph.specs.declared.Added.{Added}
 use Rattle.graph.specs.declared.Graph.{Graph}
-use Rattle.graph.specs.declared.refusal.Refusal.the-variants.{NoSuchKey}
 use Rattle.graph.proofs.Graph.enter_prior.Statement.{statement}
 use Rattle.graph.proofs.Graph.enter_prior.Tie as tie
 
 -- the verdict of a prior, over plain values
 module _ (g : Graph) (key : ℕ) (mean variance store : List Float) (h30 : valid g ≡ true) where
-  no-key : g .variables ≤ key → priorVerdict g key mean variance store ≡ refuse NoSuchKey
-  unfolding priorVerdict
-  no-key l = rw (h30, le-ltb _ _ l)
-
-  as-factor : key < g .variables → (f : Factor) (a : List Float) → f ≡ priorOf key (sizeAt g key) → a ≡ [] → factorVerdict g f a mean variance store ≡ priorVerdict g key mean variance store
-  unfolding priorVerdict
-  as-factor l f a ef ea = rw (h30, lt-ltb _ _ l, ef, ea)
-
   fits-as : (f : Factor) (size : ℕ) → key < g .variables → f ≡ priorOf key size → size ≡ sizeAt g key → fits (g .sizes) (g .variables) f ≡ true
   fits-as f size l ef es = rw (ef, es) (prior-fits (g .sizes) (g .variables) key l)
 
   taken : key < g .variables → (f : Factor) (a s : List Float) (r : Added) → f ≡ priorOf key (sizeAt g key) → a ≡ [] → (r ≡ settle g f (factorVerdict g f a mean variance store)) × (s ≡ stored g store (factorVerdict g f a mean variance store))
       → (r ≡ addPrior g key mean variance store) × (s ≡ priorStore g key mean variance store)
   unfolding addPrior priorStore
-  taken l f a s r ef ea h = rw (as-factor l f a ef ea, ef) at h
+  taken l f a s r ef ea h =
+      let e : factorVerdict g f a mean variance store ≡ priorVerdict g key mean variance store = rw (ef, ea) (sym (prior-as g key mean variance store h30 l)) in
+      rw (e, ef) at h
 
 refused-requires : tie.Need-refused-requires
 refused-requires c κs = search needs
