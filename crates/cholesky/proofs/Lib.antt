@@ -6,3 +6,4 @@ pub mod OneList
 pub mod Identity
 pub mod FiniteSolve
 pub mod Forms
+pub mod Computing

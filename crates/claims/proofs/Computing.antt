@@ -1,20 +1,12 @@
 -- The definitions of registering calls, plans and runs, open to computing. Assumes nothing.
 use Prim.Native.Nat.{ℕ}
 use mathlib.Core.List.{List}
-use lib.Ieee.{Float, sub, mul, div, ofBits}
-use Rattle.matrix.specs.Sums.{deduct, deductOf}
-use Rattle.matrix.specs.Stores.{steps, sweep}
+use lib.Ieee.{Float}
 use Rattle.matrix.specs.Products.{quadformAt, quadformOf}
-use Rattle.matrix.specs.Finite.{allFinite}
-use Rattle.cholesky.specs.Factor.{pivotOf, reduced, below, rooted, column, factor}
-use Rattle.cholesky.specs.Solve.{solvedRow, solveLower, solveUpper, solved, unitColumn, inverted}
-use Rattle.cholesky.specs.Forms.{bounded, exchangedBy, exchanged}
-use Rattle.factor.specs.Counting.{every, all, sum}
-use Rattle.factor.specs.Factor.{above, keyFits, rowsFit, fits, isClear, firstColumn, aNumbers, numbers, lengthsFit, givenFinite}
-use Rattle.graph.specs.Record.{scalar, sizeFits, same, free, total, registered, clear, place, variablesFit, factorPlace, factorsFit, offset, valid}
-use Rattle.graph.specs.Registration.{addVariable, factorVerdict, priorVerdict, addPrior, priorStore, countsFit, observationVerdict, addObservation, observationStore}
+use Rattle.factor.specs.Counting.{sum}
 use Rattle.graph.specs.Reached.{Call}
 use Rattle.graph.specs.declared.Graph.{Graph}
+use Rattle.graph.proofs.Computing.{computedCall}
 use Rattle.schedule.specs.Count as counts
 use Rattle.schedule.specs.Plan as lists
 use Rattle.gaussian.specs.Answers.{numbersIn}
@@ -32,7 +24,7 @@ use Rattle.claims.specs.Pairs.{Lent, next, lentTo, made}
 
 -- the graph and the store that calls make
 unfoldable pub computedCalls : ℕ → List (List Float → Call) → Lent
-unfolding made lentTo next addVariable factorVerdict priorVerdict addPrior priorStore countsFit observationVerdict addObservation observationStore valid every all sum variablesFit factorsFit place registered clear same factorPlace fits keyFits rowsFit isClear total scalar sizeFits free above firstColumn aNumbers numbers lengthsFit givenFinite offset allFinite exchanged exchangedBy bounded factor column rooted below reduced pivotOf solved solveLower solveUpper solvedRow inverted unitColumn steps sweep deductOf deduct ofBits sub mul div computed
+unfolding made lentTo next computedCall
 computedCalls n cs = made n cs
 
 -- the run

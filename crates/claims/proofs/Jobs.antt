@@ -5,17 +5,16 @@ use Prim.Native.Nat.{ℕ, zero, suc, _≤_}
 use native.Mathlib.Omega.{arith}
 use lib.Ieee.{toBits}
 use Rattle.factor.specs.Limits.{max-size}
-use Rattle.records.specs.Bytes.{wordAt, numberAt, listed}
-use Rattle.records.specs.Records.{variableAt, priorNumbers, priorAt, meaning, observedNumbers, observed, observationAt, markOf, recordAt, readFrom, readAll}
 use Rattle.text.specs.Decimals.{decimalBy, decimal, fieldText}
 use Rattle.lines.specs.Lines.{hexBy, numberText, numbersText, startOf, lineText, linesText, refusedWord, refusalText}
+use Rattle.records.proofs.Computing.{computedReading}
 use Rattle.job.specs.Job.{runText, jobText}
 use Rattle.claims.specs.Pairs.{sized-bytes, variable-bytes, prior-bytes, equal-bytes}
 use Rattle.claims.proofs.Computing.{computedRun}
 
 -- the text, opened for computing
 unfoldable pub printed : List ℕ → List ℕ
-unfolding jobText runText readAll readFrom recordAt markOf variableAt priorAt priorNumbers observationAt observed observedNumbers meaning wordAt numberAt listed linesText lineText numbersText numberText hexBy decimal decimalBy startOf refusalText fieldText toBits computedRun
+unfolding jobText runText computedReading linesText lineText numbersText numberText hexBy decimal decimalBy startOf refusalText fieldText toBits computedRun
 printed bytes = jobText bytes
 
 -- P1: no bytes, no lines

@@ -5,13 +5,13 @@ use mathlib.Core.Bool.{true, false}
 use mathlib.Core.List.{List, [], _∷_}
 use lib.IntN.{pos, negsuc}
 use lib.Ieee.{Float, fin}
-use Rattle.factor.specs.Counting.{every, all, sum}
-use Rattle.factor.specs.Factor.{above, keyFits, rowsFit, fits, isClear, firstColumn, aNumbers, numbers, priorOf, observationOf}
+use Rattle.factor.specs.Factor.{priorOf, observationOf}
 use Rattle.graph.specs.Refusals.{numberOf}
-use Rattle.graph.specs.Record.{fresh, scalar, sizeFits, same, free, total, registered, clear, place, variablesFit, factorPlace, factorsFit, offset, valid}
+use Rattle.graph.specs.Record.{fresh}
 use Rattle.graph.specs.Registration.{withVariable, withFactor}
 use Rattle.graph.specs.declared.Graph.{Graph}
 use Rattle.graph.specs.declared.refusal.Refusal.the-variants.{NeitherKeptNorCleared, KeptAndCleared, NoSuchKey, FactorStoreShort, StoreShort, ClearedPivot}
+use Rattle.graph.proofs.Computing.{computedTest}
 use Rattle.gaussian.proofs.Computing.{computed}
 use Rattle.tables.specs.Originals.{originalView}
 use Rattle.direct.specs.Direct.{countsFit, disjoint, listsFit, allKnown, factorPlaced, allPlaced, views, need, Verdict, send, refuse, sent, verdict, answerOf, storeOf}
@@ -48,7 +48,7 @@ store = zer ∷ one ∷ zer ∷ one ∷ zer ∷ one ∷ minus-one ∷ one ∷ fo
 
 -- the verdict, opened for computing
 unfoldable judged : List ℕ → List ℕ → List ℕ → List Float → ℕ → ℕ → Verdict
-unfolding verdict countsFit disjoint listsFit allKnown factorPlaced allPlaced views need sent originalView computed valid variablesFit factorsFit place registered clear same scalar sizeFits free total factorPlace isClear fits rowsFit keyFits above every all sum offset numbers aNumbers firstColumn
+unfolding verdict countsFit disjoint listsFit allKnown factorPlaced allPlaced views need sent originalView computed computedTest
 judged slots kept cleared factors room work = verdict four-factors slots kept cleared factors room work
 
 p4 : judged (0 ∷ 3 ∷ 2 ∷ 1 ∷ []) (1 ∷ []) (0 ∷ []) store 3 2304 ≡ send 1 (one ∷ three ∷ three-quarters ∷ [])

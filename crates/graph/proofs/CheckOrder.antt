@@ -51,6 +51,7 @@ module _ (g : Graph) (f : Factor) (a mean variance store : List Float) (h5 : len
     Ends Unbounded = (checks g f a mean variance store ≡ refuse NotFinite) × (s ≡ store)
 
     ends : (v : Form) → checks g f a mean variance store ≡ weighedVerdict a v → s ≡ laid v a store start → Ends (endOf v)
+    unfolding endOf
     ends (form xi w) c l = rw (c, ← es) (refl, l)
     ends noPivot c l = (c, l)
     ends noNumber c l = (c, l)

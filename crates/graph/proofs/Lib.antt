@@ -10,4 +10,5 @@ pub mod Passing
 pub mod Exactness
 pub mod Telling
 pub mod Numbers
+pub mod Computing
 pub mod Examples

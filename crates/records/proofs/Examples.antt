@@ -2,23 +2,15 @@
 use Prim.Native.Nat.{ℕ}
 use mathlib.Core.Path.{_≡_, refl}
 use mathlib.Core.List.{List, [], _∷_, _++_}
-use lib.Ieee.{Float, nan, binary64, ofBits, sub, mul, div}
-use Rattle.root.specs.Root.{rootOf}
-use Rattle.matrix.specs.Sums.{deduct, deductOf}
-use Rattle.matrix.specs.Stores.{steps, sweep}
-use Rattle.matrix.specs.Finite.{allFinite}
-use Rattle.cholesky.specs.Factor.{pivotOf, reduced, below, rooted, column, factor}
-use Rattle.cholesky.specs.Solve.{solvedRow, solveLower, solveUpper, solved, unitColumn, inverted}
-use Rattle.factor.specs.Counting.{every, all, sum}
-use Rattle.factor.specs.Factor.{priorOf, above, isClear, firstColumn, aNumbers, numbers, lengthsFit, givenFinite}
-use Rattle.cholesky.specs.Forms.{bounded, exchangedBy, exchanged}
-use Rattle.graph.specs.Record.{fresh, scalar, sizeFits, same, free, total, registered, clear, place, variablesFit, factorPlace, factorsFit, offset, valid}
-use Rattle.graph.specs.Registration.{withVariable, withFactor, addVariable, factorVerdict, priorVerdict, addPrior, priorStore, countsFit, observationVerdict, addObservation, observationStore}
+use lib.Ieee.{Float, nan, binary64, ofBits}
+use Rattle.factor.specs.Factor.{priorOf}
+use Rattle.graph.specs.Record.{fresh}
+use Rattle.graph.specs.Registration.{withVariable, withFactor}
 use Rattle.graph.specs.declared.refusal.Refusal.the-variants.{KeysNotRising, CountOutside, BadRecord, NoSuchKey}
-use Rattle.records.specs.Bytes.{wordAt, numberAt, listed}
-use Rattle.records.specs.Records.{variableAt, priorNumbers, priorAt, meaning, observedNumbers, observed, observationAt, markOf, recordAt, Reading, reading, readFrom, readAll}
+use Rattle.records.specs.Records.{Reading, reading, readAll}
 use Rattle.records.specs.declared.answer.Ended.{Ended}
 use Rattle.records.specs.declared.answer.Ended.the-variants.{Whole, Refused}
+use Rattle.records.proofs.Computing.{computedReading}
 
 -- 2.0 and 4.0 in a job, and 0.5 and 0.25
 abbrev two-bytes : List ℕ
@@ -41,9 +33,8 @@ variable-bytes index = 0x56 ∷ 0x41 ∷ 0x61 ∷ 0 ∷ 0 ∷ 0 ∷ index ∷ 0 
 abbrev prior-bytes : List ℕ
 prior-bytes = 0x50 ∷ 0x52 ∷ 0 ∷ two-bytes ++ four-bytes
 
--- the reading, opened for computing
-unfoldable job : List ℕ → Reading
-unfolding readAll readFrom recordAt markOf variableAt priorAt priorNumbers observationAt observed observedNumbers meaning wordAt numberAt listed addVariable addPrior priorStore addObservation observationStore priorVerdict observationVerdict countsFit factorVerdict valid every all above variablesFit factorsFit place registered clear same factorPlace isClear total sum scalar sizeFits free lengthsFit givenFinite aNumbers firstColumn numbers offset allFinite exchanged exchangedBy bounded factor column rooted below reduced pivotOf rootOf solved solveLower solveUpper solvedRow inverted unitColumn steps sweep deductOf deduct ofBits sub mul div
+-- a job, read into a store of three numbers
+abbrev job : List ℕ → Reading
 job bytes = readAll bytes (nan ∷ nan ∷ nan ∷ [])
 
 abbrev ended : List ℕ → Ended
@@ -51,38 +42,38 @@ ended bytes = job bytes .answer .ended
 
 -- nothing at all is a whole job
 no-records : job [] ≡ reading fresh Whole (nan ∷ nan ∷ nan ∷ [])
-unfolding job
+unfolding computedReading
 no-records = refl
 
 -- one variable and one prior, whose xi and W are stored
 one-prior : job (variable-bytes 0 ++ prior-bytes) ≡ reading (withFactor (withVariable fresh (0x61, 0) 1) (priorOf 0 1)) Whole (half ∷ quarter ∷ nan ∷ [])
-unfolding job
+unfolding computedReading
 one-prior = refl
 
 -- keys 1, 1: refusal 3, at the third record
 equal-keys : ended (variable-bytes 0 ++ variable-bytes 1 ++ 0x4F ∷ 0x42 ∷ 2 ∷ 1 ∷ 1 ∷ 1 ∷ 1 ∷ []) ≡ Refused KeysNotRising 2
-unfolding job
+unfolding computedReading
 equal-keys = refl
 
 -- a mark cut at the end is a record of its own
 cut-mark : ended (variable-bytes 0 ++ 0x50 ∷ []) ≡ Refused BadRecord 1
-unfolding job
+unfolding computedReading
 cut-mark = refl
 
 -- a prior on a key that isn't there, with its numbers cut: 11
 no-key : ended (0x50 ∷ 0x52 ∷ 0 ∷ []) ≡ Refused NoSuchKey 0
-unfolding job
+unfolding computedReading
 no-key = refl
 
 -- flag 2 with 9 keys: 8; 9 keys, all cut: 4; keys 9, 9, which aren't there: 3
 bad-flag : ended (0x4F ∷ 0x42 ∷ 9 ∷ 1 ∷ 2 ∷ []) ≡ Refused BadRecord 0
-unfolding job
+unfolding computedReading
 bad-flag = refl
 
 nine-keys : ended (0x4F ∷ 0x42 ∷ 9 ∷ 1 ∷ 1 ∷ []) ≡ Refused CountOutside 0
-unfolding job
+unfolding computedReading
 nine-keys = refl
 
 keys-not-there : ended (0x4F ∷ 0x42 ∷ 2 ∷ 1 ∷ 1 ∷ 9 ∷ 9 ∷ []) ≡ Refused KeysNotRising 0
-unfolding job
+unfolding computedReading
 keys-not-there = refl

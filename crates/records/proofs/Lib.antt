@@ -7,4 +7,5 @@ pub mod Agreement
 pub mod Progress
 pub mod StoreLength
 pub mod Prefix
+pub mod Computing
 pub mod Examples

@@ -1,0 +1,15 @@
+-- The exchange of forms, open to computing: a law that unfolds `computedExchange` unfolds all that it rests on. Assumes nothing.
+use Prim.Native.Nat.{ℕ}
+use mathlib.Core.List.{List}
+use lib.Ieee.{Float, ofBits, sub, mul, div}
+use Rattle.root.specs.Root.{rootOf}
+use Rattle.matrix.specs.Sums.{deduct, deductOf}
+use Rattle.matrix.specs.Stores.{steps, sweep}
+use Rattle.matrix.specs.Finite.{allFinite}
+use Rattle.cholesky.specs.Factor.{pivotOf, reduced, below, rooted, column, factor}
+use Rattle.cholesky.specs.Solve.{solvedRow, solveLower, solveUpper, solved, unitColumn, inverted}
+use Rattle.cholesky.specs.Forms.{Form, bounded, exchangedBy, exchanged}
+
+unfoldable pub computedExchange : ℕ → List Float → List Float → Form
+unfolding exchanged exchangedBy bounded factor column rooted below reduced pivotOf rootOf solved solveLower solveUpper solvedRow inverted unitColumn steps sweep deductOf deduct allFinite ofBits sub mul div
+computedExchange n x m = exchanged n x m

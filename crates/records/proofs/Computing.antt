@@ -1,0 +1,11 @@
+-- The reading of a job, open to computing: a law that unfolds `computedReading` unfolds all that it rests on. Assumes nothing.
+use Prim.Native.Nat.{ℕ}
+use mathlib.Core.List.{List}
+use lib.Ieee.{Float}
+use Rattle.graph.proofs.Computing.{computedCall}
+use Rattle.records.specs.Bytes.{wordAt, numberAt, listed}
+use Rattle.records.specs.Records.{variableAt, priorNumbers, priorAt, meaning, observedNumbers, observed, observationAt, markOf, recordAt, Reading, readFrom, readAll}
+
+unfoldable pub computedReading : List ℕ → List Float → Reading
+unfolding readAll readFrom recordAt markOf variableAt priorAt priorNumbers observationAt observed observedNumbers meaning wordAt numberAt listed computedCall
+computedReading bytes store = readAll bytes store
