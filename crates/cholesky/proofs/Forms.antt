@@ -47,16 +47,16 @@ module _ (n : ℕ) (x : List Float) where
 
       pub vector-refused : b ≡ false → exchanged n x m ≡ told Unbounded y z
       unfolding bounded told
-      vector-refused h = both ∙ rw (← eb, h)
+      vector-refused h = both ∙ simp (sym eb ∙ h)
 
       module _ (h : b ≡ true) (d : Bool) (ed : d ≡ allFinite z) where
         pub matrix-refused : d ≡ false → exchanged n x m ≡ told Unbounded y z
         unfolding bounded told
-        matrix-refused g = both ∙ rw (← eb, h, ← ed, g)
+        matrix-refused g = both ∙ simp (sym eb ∙ h, sym ed ∙ g)
 
         pub exchange-done : d ≡ true → exchanged n x m ≡ told Done y z
         unfolding bounded told
-        exchange-done g = both ∙ rw (← eb, h, ← ed, g)
+        exchange-done g = both ∙ simp (sym eb ∙ h, sym ed ∙ g)
 
 -- ---- lengths
 

@@ -3,6 +3,7 @@ use factor::Factor;
 use factor::limits::FACTORS;
 use factor::limits::KEYS;
 use factor::limits::VARIABLES;
+use factor::wide;
 use gaussian::Eliminated;
 use gaussian::eliminate_slots;
 use graph::Graph;
@@ -92,12 +93,6 @@ fn all_known(g: Graph, slots: &[usize], kept: &[usize], cleared: &[usize]) -> bo
         return false;
     }
     factor::known(g.count, slots)
-}
-
-fn wide(x: u8) -> usize
-    ensures { λ r. ⌜ r ≡ x ⌝ }
-{
-    x as usize
 }
 
 // A key is cleared or kept.

@@ -31,7 +31,8 @@ pub enum Found {
     Absent,
 }
 
-fn wide(x: u8) -> usize
+// A byte as an index.
+pub fn wide(x: u8) -> usize
     ensures { λ r. ⌜ r ≡ x ⌝ }
 {
     x as usize

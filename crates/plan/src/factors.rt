@@ -2,7 +2,7 @@
 use crate::masks::single;
 use factor::limits::FACTORS;
 use factor::limits::KEYS;
-ghost use mathlib.Core.Path.{_≡_};
+use factor::wide;
 ghost use Prim.Native.Nat.{_≤_};
 ghost use Rattle.plan.specs.Mask.{Set};
 ghost use Rattle.plan.specs.Factors as spec;
@@ -11,13 +11,6 @@ ghost use Rattle.plan.specs.Factors as spec;
 pub struct FactorKeys {
     pub touched: u8,
     pub keys: [u8; KEYS],
-}
-
-// A byte as an index.
-fn wide(x: u8) -> usize
-    ensures { λ r. ⌜ r ≡ x ⌝ }
-{
-    x as usize
 }
 
 // The keys of one factor as a set.

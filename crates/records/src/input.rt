@@ -1,5 +1,6 @@
 // The numbers in a job's bytes. All stand with their lowest byte first.
 use crate::bytes::FLOAT_BYTES;
+use factor::wide;
 ghost use mathlib.Core.Path.{_≡_};
 ghost use mathlib.Core.List.{_++_};
 ghost use Prim.Native.Nat.{_+_, _*_, _<_, _≤_};
@@ -15,12 +16,6 @@ pub fn cut(bytes: &[u8], at: usize, n: usize) -> bool
     ensures { λ r. ⌜ r ≡ spec.cut (now (bytes .entry)) at n ⌝ }
 {
     bytes.len() - at < n
-}
-
-fn wide(x: u8) -> usize
-    ensures { λ r. ⌜ r ≡ x ⌝ }
-{
-    x as usize
 }
 
 pub fn byte(bytes: &[u8], at: usize) -> usize

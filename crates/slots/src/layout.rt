@@ -1,5 +1,6 @@
 // Where the columns of each key stand among the kept or the cleared keys.
 use factor::limits::VARIABLES;
+use factor::wide;
 ghost use mathlib.Core.Path.{_≡_};
 ghost use mathlib.Core.Bool.{false, cond};
 ghost use Prim.Native.Nat.{ℕ, _<_};
@@ -20,12 +21,6 @@ pub struct Spot {
     pub cleared: bool,
     pub at: usize,
     pub size: usize,
-}
-
-fn wide(x: u8) -> usize
-    ensures { λ r. ⌜ r ≡ x ⌝ }
-{
-    x as usize
 }
 
 // Whether a list has a key.

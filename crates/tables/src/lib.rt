@@ -2,6 +2,7 @@
 use factor::Factor;
 use factor::limits::KEYS;
 use factor::limits::VARIABLES;
+use factor::wide;
 use graph::Graph;
 use slots::limits::HEAD;
 ghost use mathlib.Core.Path.{_≡_};
@@ -13,12 +14,6 @@ ghost use Rattle.factor.specs.Factor.{lay};
 ghost use Rattle.graph.specs.Record.{valid};
 ghost use Rattle.slots.specs.Limits.{head-numbers};
 ghost use Rattle.tables.specs.Originals.{widthOf, withHead, Originals};
-
-fn wide(x: u8) -> usize
-    ensures { λ r. ⌜ r ≡ x ⌝ }
-{
-    x as usize
-}
 
 // 1 for a prior.
 fn mark(prior: bool) -> usize
