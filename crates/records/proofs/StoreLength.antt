@@ -1,10 +1,9 @@
 -- A record leaves the store as long as it was. Assumes nothing.
 use Prim.Native.Nat.{ℕ, zero, suc, _+_, _-_, _*_, _≤_}
 use mathlib.Core.Path.{_≡_, refl, subst, _∙_}
-use mathlib.Core.Bool.{Bool, true, false, not, cond}
+use mathlib.Core.Bool.{Bool, true, false, cond}
 use mathlib.Core.List.{List, [], _∷_, _++_}
 use native.Mathlib.Omega.{arith}
-use lib.Dec.{ltb}
 use lib.Ieee.{Float}
 use lib.ListN.{length, take, drop, replicate, length-append, length-drop, length-replicate}
 use lib.Seq.{length-take-le}
@@ -17,22 +16,19 @@ use Rattle.matrix.proofs.Entries.{steps-length}
 use Rattle.cholesky.specs.Factor.{Left, whole, stuck, factor}
 use Rattle.cholesky.specs.Solve.{solveLower, solveUpper, solved, unitColumn, inverted}
 use Rattle.factor.specs.Counting.{every}
-use Rattle.factor.specs.Factor.{rising, known, observationOf, aNumbers, numbers, lay}
+use Rattle.factor.specs.Factor.{aNumbers, numbers, lay}
 use Rattle.factor.specs.Weighing.{Weight, weight, noPivot, noNumber, xiOf, wOf, bounded, weighedBy, weighed}
 use Rattle.factor.specs.declared.Factor.{Factor}
-use Rattle.graph.specs.Record.{sizeAt, offset}
-use Rattle.graph.specs.Registration.{accept, stored, countsFit}
+use Rattle.graph.specs.Record.{offset}
+use Rattle.graph.specs.Registration.{accept, stored}
 use Rattle.graph.specs.Reached as calls
 use Rattle.graph.specs.Reached.{Call, prior, observation, register, lent}
 use Rattle.graph.proofs.Checking.{Taken, a-long, mean-long}
+use Rattle.records.proofs.Asking.{Asks, nothing, variable-asked, prior-asked, observation-asked, asks}
 use Rattle.graph.proofs.Calls.{Comes, turned, named, taken, comes}
 use Rattle.graph.specs.declared.Added.{Added}
 use Rattle.graph.specs.declared.Graph.{Graph}
-use Rattle.graph.specs.declared.refusal.Refusal.{Refusal}
-use Rattle.records.specs.Bytes.{byteAt, cut, keysAt}
-use Rattle.records.specs.Records.{Request, refuse, variableAt, priorNumbers, priorAt, meaning, flagKnown, given, observedNumbers, observed, observationAt, markOf, marked, recordAt, storeAfter}
-use Rattle.records.specs.declared.kinds.Mark.{Mark}
-use Rattle.records.specs.declared.kinds.Mark.the-variants as mark
+use Rattle.records.specs.Records.{Request, recordAt, storeAfter}
 
 -- ---- xi and W
 
@@ -97,34 +93,16 @@ comes-kept (turned why) = refl
 comes-kept (named name size n) = refl
 comes-kept {g} {store = store} (taken f a mean variance xi w t e) = taken-kept g store f a mean variance xi w t
 
-module _ (g : Graph) (store : List Float) where
-  call-kept : (c : Call) → length (calls.storeAfter g store c) ≡ length (lent store c)
-  call-kept c = comes-kept (comes g store c)
+call-kept : (g : Graph) (store : List Float) (c : Call) → length (calls.storeAfter g store c) ≡ length (lent store c)
+call-kept g store c = comes-kept (comes g store c)
 
-  -- ---- the store of a record
+-- ---- the store of a record
 
-  Same : Request → Type 0
-  Same q = length (storeAfter g store q) ≡ length store
+asks-kept : {g : Graph} {store : List Float} {bytes : List ℕ} {at : ℕ} {q : Request} → Asks g store bytes at q → length (storeAfter g store q) ≡ length store
+asks-kept (nothing why) = refl
+asks-kept (variable-asked name size w) = refl
+asks-kept {g} {store} (prior-asked key mean variance from w) = call-kept g store (register (prior key mean variance) store)
+asks-kept {g} {store} (observation-asked keys rows flag a mean variance from w) = call-kept g store (register (observation keys rows a mean variance) store)
 
-  else-same : (b : Bool) (why : Refusal) (q : Request) → Same q → Same (cond b (refuse why) q)
-  unfolding Same
-  else-same true why q h = refl
-  else-same false why q h = h
-
-  marked-same : (m : Mark) (bytes : List ℕ) (at : ℕ) → Same (marked m g store bytes at)
-  unfolding Same variableAt priorAt priorNumbers observationAt observed observedNumbers
-  marked-same mark.Variable bytes at = else-same (cut bytes at 9) _ _ refl
-  marked-same mark.Prior bytes at =
-      else-same (cut bytes at 1) _ _ (else-same (not (ltb (byteAt bytes at) (g .variables))) _ _
-      (else-same (cut bytes (at + 1) (8 * (sizeAt g (byteAt bytes at) + sizeAt g (byteAt bytes at) * sizeAt g (byteAt bytes at)))) _ _ (call-kept (register (prior _ _ _) store))))
-  marked-same mark.Observation bytes at =
-      else-same (cut bytes at 3) _ _ (else-same (not (flagKnown (meaning (byteAt bytes (at + 2))))) _ _
-      (else-same (not (countsFit (byteAt bytes at) (byteAt bytes (at + 1)))) _ _ (else-same (cut bytes (at + 3) (byteAt bytes at)) _ _
-      (else-same (not (rising (keysAt bytes (at + 3) (byteAt bytes at)))) _ _ (else-same (not (known (g .variables) (keysAt bytes (at + 3) (byteAt bytes at)))) _ _
-      (else-same (cut bytes (at + 3 + byteAt bytes at) (8 * (aNumbers (g .sizes) (observationOf (keysAt bytes (at + 3) (byteAt bytes at)) (byteAt bytes (at + 1))) + byteAt bytes (at + 1) + given (meaning (byteAt bytes (at + 2))) (byteAt bytes (at + 1))))) _ _
-      (call-kept (register (observation _ _ _ _ _) store))))))))
-  marked-same mark.Unmarked bytes at = refl
-
-  pub record-same : (bytes : List ℕ) (at : ℕ) → length (storeAfter g store (recordAt g store bytes at)) ≡ length store
-  unfolding Same recordAt
-  record-same bytes at = else-same (cut bytes at 2) _ _ (marked-same (markOf (byteAt bytes at) (byteAt bytes (at + 1))) bytes (at + 2))
+pub record-same : (g : Graph) (store : List Float) (bytes : List ℕ) (at : ℕ) → length (storeAfter g store (recordAt g store bytes at)) ≡ length store
+record-same g store bytes at = asks-kept (asks g store bytes at)
