@@ -19,7 +19,7 @@ ghost use Rattle.graph.specs.Record.{valid};
 ghost use Rattle.lines.specs.Lines.{written, laidIn};
 ghost use Rattle.job.specs.Job as spec;
 
-// Past these first bytes of a job nothing changes its text: the records that the stores have room for, and one record more. They are 21,901.
+// Past these first bytes of a job nothing changes its text: those of all records that there is room for, and of one record more.
 pub const DECIDING: usize = VARIABLE_RECORD * VARIABLES
     + FACTOR_FRAME * FACTORS
     + FLOAT_BYTES * FACTOR_ROOM

@@ -2,6 +2,7 @@
 pub mod Listing
 pub mod Counts
 pub mod Requests
+pub mod Asking
 pub mod Reading
 pub mod Agreement
 pub mod Progress

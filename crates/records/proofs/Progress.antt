@@ -1,35 +1,31 @@
 -- How far a reading gets: what the graph holds bounds the bytes that were read. Assumes nothing.
 use Prim.Native.Nat.{ℕ, _+_, _*_, _≤_, _<_}
 use mathlib.Core.Path.{_≡_, refl, ap, _∙_}
-use mathlib.Core.Bool.{Bool, true, false, not, cond}
+use mathlib.Core.Bool.{true, cond}
 use mathlib.Core.List.{List, _++_}
 use native.Mathlib.Omega.{arith}
-use borrow.Author.Tests.{not-false}
-use lib.Dec.{ltb}
 use lib.Ieee.{Float}
 use lib.ListN.{length}
 use lib.Seq.{getD-set-same, getD-set-other}
 use Rattle.factor.specs.Limits.{max-factors}
-use Rattle.factor.specs.Factor.{rising, known, past, keyAt, priorOf, observationOf, firstColumn, width, aNumbers, numbers}
+use Rattle.factor.specs.Factor.{past, keyAt, priorOf, observationOf, firstColumn, width, aNumbers, numbers}
 use Rattle.factor.specs.declared.Factor.{Factor}
 use Rattle.factor.proofs.Counting.{sum-ext}
 use Rattle.factor.proofs.Fitting.{fits-key}
 use Rattle.graph.specs.Record.{sizeAt, factorAt, offset, valid}
-use Rattle.graph.specs.Registration.{refused, withVariable, addVariable, accept, withFactor, settle, addPrior, countsFit, addObservation}
+use Rattle.graph.specs.Registration.{refused, withVariable, addVariable, accept, withFactor, settle, addPrior, addObservation}
 use Rattle.graph.specs.declared.Symbol.{Symbol}
 use Rattle.graph.specs.declared.Graph.{Graph}
 use Rattle.graph.specs.declared.Added.{Added}
 use Rattle.graph.specs.declared.refusal.Refusal.{Refusal}
 use Rattle.graph.proofs.Validity.{valid-factor, offset-more}
-use Rattle.graph.proofs.Checking.{Taken, variable-cases, prior-cases, observation-cases, few-keys}
+use Rattle.graph.proofs.Checking.{Taken, variable-cases, prior-cases, observation-cases}
 use Rattle.graph.proofs.Keeping.{Shaped, Good}
-use Rattle.records.specs.Bytes.{float-bytes, byteAt, cut, keysAt}
-use Rattle.records.specs.Records.{Request, refuse, variable-record, factor-frame, variableAt, priorNumbers, priorAt, meaning, flagKnown, given, observedNumbers, observed, observationAt, markOf, marked, recordAt, nextOf, stepOf}
+use Rattle.records.specs.Bytes.{float-bytes}
+use Rattle.records.specs.Records.{Request, variable-record, factor-frame, recordAt, nextOf, stepOf}
 use Rattle.records.specs.declared.answer.Next.the-variants.{At}
-use Rattle.records.specs.declared.kinds.Flag.{Flag}
-use Rattle.records.specs.declared.kinds.Mark.{Mark}
-use Rattle.records.specs.declared.kinds.Mark.the-variants as mark
 use Rattle.records.proofs.Agreement.{given-most}
+use Rattle.records.proofs.Asking.{Asks, nothing, variable-asked, prior-asked, observation-asked, asks}
 
 -- the bytes that a graph's records can have taken: those of its variables, and for each factor its frame and its numbers
 abbrev pub most-read : Graph → ℕ
@@ -113,60 +109,20 @@ unfolding numbers
 observation-numbers sizes keys rows = refl
 
 module _ (g : Graph) (ok : Good g) (store : List Float) (held : offset g (g .count) ≤ length store) (start : ℕ) where
-  pub Bounded : Request → Type 0
+  Bounded : Request → Type 0
   Bounded q = (n : ℕ) → stepOf g q .next ≡ At n → (n + most-read g ≤ start + most-read (stepOf g q .graph)) × (offset (stepOf g q .graph) (stepOf g q .graph .count) ≤ length store)
 
-  refused-bounded : (why : Refusal) → Bounded (refuse why)
-  unfolding Bounded
-  refused-bounded why n e = let z : _≡_ {A = ℕ} 0 1 = cc in (omega arith, omega arith)
-
-  else-bounded : (b : Bool) (why : Refusal) (q : Request) → (b ≡ false → Bounded q) → Bounded (cond b (refuse why) q)
-  else-bounded true why q h = refused-bounded why
-  else-bounded false why q h = h refl
-
   module _ (bytes : List ℕ) where
-    variable-bounded : (at : ℕ) → at ≡ start + 2 → Bounded (variableAt bytes at)
-    unfolding Bounded Grown variableAt
-    variable-bounded at e = else-bounded (cut bytes at 9) _ _ (λ _. variable-grown g ok (length store) held start (at + 9) _ _ (omega arith))
-
-    prior-numbers-bounded : (key at : ℕ) → at ≤ start + factor-frame → Bounded (priorNumbers store bytes key (sizeAt g key) at)
-    unfolding Bounded Grown priorNumbers
-    prior-numbers-bounded key at l =
-        else-bounded (cut bytes at (8 * (sizeAt g key + sizeAt g key * sizeAt g key))) _ _
-        (λ _. prior-grown g ok (length store) held start (at + 8 * (sizeAt g key + sizeAt g key * sizeAt g key)) key _ _ store (omega (arith, prior-numbers (g .sizes) key (sizeAt g key))) refl)
-
-    prior-bounded : (at : ℕ) → at ≤ start + 2 → Bounded (priorAt g store bytes at)
-    unfolding priorAt
-    prior-bounded at l =
-        else-bounded (cut bytes at 1) _ _
-        (λ _. else-bounded (not (ltb (byteAt bytes at) (g .variables))) _ _
-        (λ _. prior-numbers-bounded (byteAt bytes at) (at + 1) (omega arith)))
-
-    observed-bounded : (keys : List ℕ) (rows : ℕ) (flag : Flag) (at : ℕ) → at ≤ start + factor-frame → Bounded (observed g store bytes keys rows flag at)
-    unfolding Bounded Grown observed observedNumbers
-    observed-bounded keys rows flag at l =
-        else-bounded (not (rising keys)) _ _
-        (λ _. else-bounded (not (known (g .variables) keys)) _ _
-        (λ _. else-bounded (cut bytes at (8 * (aNumbers (g .sizes) (observationOf keys rows) + rows + given flag rows))) _ _
-        (λ _. observation-grown g ok (length store) held start (at + 8 * (aNumbers (g .sizes) (observationOf keys rows) + rows + given flag rows)) keys rows _ _ _ store
-        (omega (arith, observation-numbers (g .sizes) keys rows, given-most flag rows)) refl)))
-
-    observation-bounded : (at : ℕ) → at ≤ start + 2 → Bounded (observationAt g store bytes at)
-    unfolding observationAt
-    observation-bounded at l =
-        else-bounded (cut bytes at 3) _ _
-        (λ _. else-bounded (not (flagKnown (meaning (byteAt bytes (at + 2))))) _ _
-        (λ _. else-bounded (not (countsFit (byteAt bytes at) (byteAt bytes (at + 1)))) _ _
-        (λ h4. else-bounded (cut bytes (at + 3) (byteAt bytes at)) _ _
-        (λ _. observed-bounded (keysAt bytes (at + 3) (byteAt bytes at)) (byteAt bytes (at + 1)) (meaning (byteAt bytes (at + 2))) (at + 3 + byteAt bytes at) (omega (arith, few-keys _ _ (not-false _ h4)))))))
-
-    marked-bounded : (m : Mark) (at : ℕ) → at ≡ start + 2 → Bounded (marked m g store bytes at)
-    marked-bounded mark.Variable at e = variable-bounded at e
-    marked-bounded mark.Prior at e = prior-bounded at (omega arith)
-    marked-bounded mark.Observation at e = observation-bounded at (omega arith)
-    marked-bounded mark.Unmarked at e = refused-bounded _
+    asks-bounded : {q : Request} → Asks g store bytes start q → Bounded q
+    unfolding Bounded Grown
+    asks-bounded (nothing why) = λ n e. let z : _≡_ {A = ℕ} 0 1 = cc in (omega arith, omega arith)
+    asks-bounded (variable-asked name size w) = variable-grown g ok (length store) held start _ name size (omega arith)
+    asks-bounded (prior-asked key mean variance from w) =
+        prior-grown g ok (length store) held start _ key mean variance store (omega (arith, w .near, prior-numbers (g .sizes) key (sizeAt g key))) refl
+    asks-bounded (observation-asked keys rows flag a mean variance from w) =
+        observation-grown g ok (length store) held start _ keys rows a mean variance store (omega (arith, w .near, observation-numbers (g .sizes) keys rows, given-most flag rows)) refl
 
     pub record-bounded : (n : ℕ) → stepOf g (recordAt g store bytes start) .next ≡ At n
         → (n + most-read g ≤ start + most-read (stepOf g (recordAt g store bytes start) .graph)) × (offset (stepOf g (recordAt g store bytes start) .graph) (stepOf g (recordAt g store bytes start) .graph .count) ≤ length store)
-    unfolding Bounded recordAt
-    record-bounded = else-bounded (cut bytes start 2) _ _ (λ _. marked-bounded (markOf (byteAt bytes start) (byteAt bytes (start + 1))) (start + 2) refl)
+    unfolding Bounded
+    record-bounded = asks-bounded (asks g store bytes start)

@@ -1,106 +1,43 @@
 -- The records one after the other: a turn of the reading, its ends, and that it stays within the bytes and the reachable graphs. Assumes nothing.
-use Prim.Native.Nat.{ℕ, zero, suc, _+_, _-_, _*_, _≤_, _<_}
+use Prim.Native.Nat.{ℕ, zero, suc, _+_, _-_, _≤_, _<_}
 use mathlib.Core.Path.{_≡_, refl, sym, ap, _∙_}
-use mathlib.Core.Bool.{Bool, true, false, not, cond}
 use mathlib.Core.List.{List}
 use native.Mathlib.Omega.{arith}
 use borrow.Author.Tests.{lt-ltb, le-ltb, ltb-false}
-use lib.Dec.{ltb}
 use lib.Ieee.{Float}
 use lib.ListN.{length}
-use Rattle.factor.specs.Factor.{rising, known}
-use Rattle.graph.specs.Record.{sizeAt}
-use Rattle.graph.specs.Registration.{countsFit}
 use Rattle.graph.proofs.Calls.{reached-more}
-use Rattle.graph.specs.Reached.{Call, answered, Reached}
+use Rattle.graph.specs.Reached.{prior, observation, variable, register, answered, Reached}
 use Rattle.graph.specs.declared.Graph.{Graph}
 use Rattle.graph.specs.declared.Outcome.{Outcome}
 use Rattle.graph.specs.declared.Outcome.the-variants as outcome
 use Rattle.graph.specs.declared.refusal.Refusal.{Refusal}
-use Rattle.records.specs.Bytes.{byteAt, cut, keysAt}
-use Rattle.records.specs.Records.{Request, ask, refuse, variableAt, priorNumbers, priorAt, meaning, flagKnown, given, observedNumbers, observed, observationAt, markOf, marked, recordAt, nextOf, stepOf, storeAfter, Reading, reading, onward, readFrom}
+use Rattle.records.specs.Records.{Request, ask, refuse, recordAt, nextOf, stepOf, storeAfter, Reading, reading, onward, readFrom}
 use Rattle.records.specs.declared.answer.Next.the-variants.{At, Stop}
 use Rattle.records.specs.declared.answer.Step.{Step}
 use Rattle.records.specs.declared.answer.Ended.the-variants.{Whole, Refused}
-use Rattle.records.specs.declared.kinds.Flag.{Flag}
-use Rattle.records.specs.declared.kinds.Mark.{Mark}
-use Rattle.records.specs.declared.kinds.Mark.the-variants as mark
+use Rattle.records.proofs.Asking.{Present, Asks, nothing, variable-asked, prior-asked, observation-asked, asks}
 
--- ---- a request names a later place within the bytes
+-- ---- the next record begins later, within the bytes
 
-unfoldable pub Within : ℕ → ℕ → Request → Type 0
-Within len at (ask call next) = (at < next) × (next ≤ len)
-Within len at (refuse why) = Unit
+-- the place that a call goes on at is that of its request
+next-is : (o : Outcome) (next n : ℕ) → nextOf o next ≡ At n → next ≡ n
+next-is (outcome.Key k) next n h = cc
+next-is (outcome.Number k) next n h = cc
+next-is (outcome.Refused why) next n h = absurd (let z : _≡_ {A = ℕ} 0 1 = cc in omega arith)
 
-refused-within : (len at : ℕ) (why : Refusal) → Within len at (refuse why)
-unfolding Within
-refused-within len at why = tt
+module _ (bytes : List ℕ) (g : Graph) (store : List Float) (at n : ℕ) where
+  ends : {from k : ℕ} → Present g store bytes at from k → from + k ≡ n → (at < n) × (n ≤ length bytes)
+  ends w e = let l = w .later in let m : _ + _ ≤ length bytes = ltb-false _ _ (w .there) in (omega arith, omega arith)
 
-by-test : (len at : ℕ) (b : Bool) (p q : Request) → (b ≡ true → Within len at p) → (b ≡ false → Within len at q) → Within len at (cond b p q)
-by-test len at true p q f g = f refl
-by-test len at false p q f g = g refl
+  goes-on : {q : Request} → Asks g store bytes at q → stepOf g q .next ≡ At n → (at < n) × (n ≤ length bytes)
+  goes-on (nothing why) e = absurd (let z : _≡_ {A = ℕ} 0 1 = cc in omega arith)
+  goes-on (variable-asked name size w) e = ends w (next-is (answered g (variable name size) .outcome) _ n e)
+  goes-on (prior-asked key mean variance from w) e = ends w (next-is (answered g (register (prior key mean variance) store) .outcome) _ n e)
+  goes-on (observation-asked keys rows flag a mean variance from w) e = ends w (next-is (answered g (register (observation keys rows a mean variance) store) .outcome) _ n e)
 
-module _ (bytes : List ℕ) where
-  -- a record that has its bytes ends after them
-  whole-within : (start at n : ℕ) (call : Call) → start < at + n → cut bytes at n ≡ false → Within (length bytes) start (ask call (at + n))
-  unfolding Within
-  whole-within start at n call l h = (l, ltb-false _ _ h)
-
-  variable-within : (start at : ℕ) → start < at → Within (length bytes) start (variableAt bytes at)
-  unfolding variableAt
-  variable-within start at l = by-test (length bytes) start (cut bytes at 9) _ _ (λ _. refused-within _ _ _) (λ h. whole-within start at 9 _ (omega arith) h)
-
-  prior-within : (g : Graph) (store : List Float) (start at : ℕ) → start < at → Within (length bytes) start (priorAt g store bytes at)
-  unfolding priorAt priorNumbers
-  prior-within g store start at l =
-      by-test (length bytes) start (cut bytes at 1) _ _ (λ _. refused-within _ _ _)
-      (λ _. by-test (length bytes) start (not (ltb (byteAt bytes at) (g .variables))) _ _ (λ _. refused-within _ _ _)
-      (λ _. by-test (length bytes) start (cut bytes (at + 1) (8 * (sizeAt g (byteAt bytes at) + sizeAt g (byteAt bytes at) * sizeAt g (byteAt bytes at)))) _ _ (λ _. refused-within _ _ _)
-      (λ h. whole-within start (at + 1) (8 * (sizeAt g (byteAt bytes at) + sizeAt g (byteAt bytes at) * sizeAt g (byteAt bytes at))) _ (omega arith) h)))
-
-  numbers-within : (store : List Float) (keys : List ℕ) (rows : ℕ) (flag : Flag) (n start at : ℕ) → start < at → Within (length bytes) start (observedNumbers store bytes keys rows flag n at)
-  unfolding observedNumbers
-  numbers-within store keys rows flag n start at l =
-      by-test (length bytes) start (cut bytes at (8 * (n + rows + given flag rows))) _ _ (λ _. refused-within _ _ _)
-      (λ h. whole-within start at (8 * (n + rows + given flag rows)) _ (omega arith) h)
-
-  observation-within : (g : Graph) (store : List Float) (start at : ℕ) → start < at → Within (length bytes) start (observationAt g store bytes at)
-  unfolding observationAt observed
-  observation-within g store start at l =
-      by-test (length bytes) start (cut bytes at 3) _ _ (λ _. refused-within _ _ _)
-      (λ _. by-test (length bytes) start (not (flagKnown (meaning (byteAt bytes (at + 2))))) _ _ (λ _. refused-within _ _ _)
-      (λ _. by-test (length bytes) start (not (countsFit (byteAt bytes at) (byteAt bytes (at + 1)))) _ _ (λ _. refused-within _ _ _)
-      (λ _. by-test (length bytes) start (cut bytes (at + 3) (byteAt bytes at)) _ _ (λ _. refused-within _ _ _)
-      (λ _. by-test (length bytes) start (not (rising (keysAt bytes (at + 3) (byteAt bytes at)))) _ _ (λ _. refused-within _ _ _)
-      (λ _. by-test (length bytes) start (not (known (g .variables) (keysAt bytes (at + 3) (byteAt bytes at)))) _ _ (λ _. refused-within _ _ _)
-      (λ _. numbers-within store _ _ _ _ start (at + 3 + byteAt bytes at) (omega arith)))))))
-
-  marked-within : (m : Mark) (g : Graph) (store : List Float) (start at : ℕ) → start < at → Within (length bytes) start (marked m g store bytes at)
-  marked-within mark.Variable g store start at l = variable-within start at l
-  marked-within mark.Prior g store start at l = prior-within g store start at l
-  marked-within mark.Observation g store start at l = observation-within g store start at l
-  marked-within mark.Unmarked g store start at l = refused-within _ _ _
-
-  record-within : (g : Graph) (store : List Float) (at : ℕ) → Within (length bytes) at (recordAt g store bytes at)
-  unfolding recordAt
-  record-within g store at =
-      by-test (length bytes) at (cut bytes at 2) _ _ (λ _. refused-within _ _ _)
-      (λ _. marked-within (markOf (byteAt bytes at) (byteAt bytes (at + 1))) g store at (at + 2) (omega arith))
-
--- the place that a step goes on at is that of its request
-goes-on : (len at : ℕ) (g : Graph) (q : Request) (n : ℕ) → Within len at q → stepOf g q .next ≡ At n → (at < n) × (n ≤ len)
-unfolding Within
-goes-on len at g (ask call next) n w e = by (answered g call .outcome) e
-  where
-    by : (o : Outcome) → nextOf o next ≡ At n → (at < n) × (n ≤ len)
-    by (outcome.Key k) h = let z : next ≡ n = cc in (omega arith, omega arith)
-    by (outcome.Number k) h = let z : next ≡ n = cc in (omega arith, omega arith)
-    by (outcome.Refused why) h = let z : _≡_ {A = ℕ} 0 1 = cc in (omega arith, omega arith)
-goes-on len at g (refuse why) n w e = let z : _≡_ {A = ℕ} 0 1 = cc in (omega arith, omega arith)
-
--- the next record begins later, within the bytes
-pub record-next : (bytes : List ℕ) (g : Graph) (store : List Float) (at n : ℕ) → stepOf g (recordAt g store bytes at) .next ≡ At n → (at < n) × (n ≤ length bytes)
-record-next bytes g store at n e = goes-on (length bytes) at g (recordAt g store bytes at) n (record-within bytes g store at) e
+  pub record-next : stepOf g (recordAt g store bytes at) .next ≡ At n → (at < n) × (n ≤ length bytes)
+  record-next e = goes-on (asks g store bytes at) e
 
 -- ---- the graphs on the way are those that calls yield
 
