@@ -18,6 +18,7 @@ use Rattle.graph.specs.declared.Graph.{Graph}
 use Rattle.graph.specs.declared.refusal.Refusal.{Refusal}
 use Rattle.graph.specs.declared.refusal.Refusal.the-variants.{ClearedPivot, ResultNotFinite}
 use Rattle.schedule.specs.Pass.{Slot, ClosedFactor, at}
+use Rattle.slots.specs.Limits.{max-slots}
 use Rattle.slots.specs.Views.{FactorView}
 use Rattle.slots.specs.Layouts.{layoutOf}
 use Rattle.slots.specs.Tables.{headOf, numbersOf, readView, rowsByAll}
@@ -28,7 +29,7 @@ use Rattle.gaussian.specs.declared.Eliminated.{Eliminated}
 use Rattle.gaussian.specs.declared.Eliminated.the-variants.{Rows, Pivot, Unbounded}
 use Rattle.gaussian.proofs.Outcomes.{Came, at-pivot, at-unbounded, at-rows, asked-sized, whole-length}
 use Rattle.slots.specs.declared.Head.{Head}
-use Rattle.lists.specs.Lists.{numberOf, messageNumber, Holds}
+use Rattle.lists.specs.Lists.{backward-shift, numberOf, messageNumber, Holds}
 use Rattle.lists.specs.declared.Lists.{Lists}
 use Rattle.messages.specs.Values.{slotView, made, valuesTo, valueAt, values, none, stopped, stopFrom, finished}
 use Rattle.messages.specs.Figure.{rowsAt, widthAt, needTo, need}
@@ -119,7 +120,7 @@ carrying-none g factors ms start store h =
     }
 
 module _ (g : Graph) (factors : List Float) (ms : List ClosedFactor) (c : Carriable g ms) (shift start : ℕ) (keys heads : List ℕ) (store messages : List Float) (to j work : ℕ)
-    (low : shift ≤ 32) (l : j < length ms) (tables : Tables g keys heads) (placed : PlacedTo g ms shift start keys heads (length ms)) (sized : length (g .sizes) ≡ max-variables)
+    (low : shift ≤ backward-shift) (l : j < length ms) (tables : Tables g keys heads) (placed : PlacedTo g ms shift start keys heads (length ms)) (sized : length (g .sizes) ≡ max-variables)
     (hf : offset g (g .count) ≤ length factors) (hm : start + need g ms ≤ length store) (hw : work-numbers ≤ work)
     (p : Carrying g factors ms start store messages to j) (lists : Lists) (holds : Holds shift (at ms j) lists) where
   abbrev m : ClosedFactor
@@ -135,7 +136,7 @@ module _ (g : Graph) (factors : List Float) (ms : List ClosedFactor) (c : Carria
   unfolding need
   room = omega (arith, need-rises g ms j (length ms) l, p .same)
 
-  few-slots : length slots ≤ 128
+  few-slots : length slots ≤ max-slots
   few-slots = omega (arith, ap length (holds .slots), length-take (lists .count) (lists .slots), holds .few)
 
   asked : Asked (m .kept) (m .cleared) (g .sizes) factors messages work keys heads slots

@@ -6,6 +6,7 @@ use mathlib.Core.List.{List, []}
 use Prim.Native.Nat.{ℕ, _≤_, _<_}
 use lib.Dec.{ltb}
 use lib.ListN.{length, getD, take}
+use Rattle.factor.specs.Limits.{max-variables}
 use Rattle.plan.specs.Pass.{Agrees}
 use Rattle.plan.specs.declared.factors.FactorKeys.{FactorKeys}
 
@@ -17,7 +18,7 @@ keysOf f = take (f .touched) (f .keys)
 pub record Fits (f : FactorKeys) : Type 0 where
   pub long : length (f .keys) ≡ 8
   pub few : f .touched ≤ 8
-  pub low : (i : ℕ) → i < f .touched → getD (f .keys) i 0 < 32
+  pub low : (i : ℕ) → i < f .touched → getD (f .keys) i 0 < max-variables
 
 abbrev pub noKeys : FactorKeys
 noKeys = record { touched = 0; keys = [] }

@@ -7,6 +7,7 @@ use native.Mathlib.Omega.{arith}
 use native.Mathlib.Nat.{zero-add}
 use lib.ListN.{length, getD, take, length-take, length-reverse}
 use lib.Seq.{getD-take}
+use Rattle.factor.specs.Limits.{max-variables}
 use Rattle.graph.specs.Record.{valid}
 use Rattle.graph.specs.declared.Graph.{Graph}
 use Rattle.graph.proofs.Validity.{valid-variables}
@@ -36,7 +37,7 @@ module _ (g : Graph) (v : valid g ≡ true) where
   N = from 0 (g .count)
 
   -- a pass along an order of all keys
-  carriable : (order : List ℕ) → ((j : ℕ) → count j order ≡ count j (from 0 n)) → length (full-pass n (keysOf g) N order) ≤ 32 → Carriable g (full-pass n (keysOf g) N order)
+  carriable : (order : List ℕ) → ((j : ℕ) → count j order ≡ count j (from 0 n)) → length (full-pass n (keysOf g) N order) ≤ max-variables → Carriable g (full-pass n (keysOf g) N order)
   carriable order each few = record { sound = v; few = few; tidy = tidy n (keysOf g) N order each; older = older n (keysOf g) N order each }
 
   falling : (j : ℕ) → count j (reverse (from 0 n)) ≡ count j (from 0 n)
@@ -54,13 +55,13 @@ module _ (g : Graph) (v : valid g ≡ true) where
     pub forward-carriable : Carriable g (messagesOf (p .forward))
     unfolding graphPlan lists.plan
     forward-carriable =
-        let few : length (messagesOf (p .forward)) ≤ 32 = omega (arith, messages-length (p .forward), bounded .forward .few, valid-variables g v) in
+        let few : length (messagesOf (p .forward)) ≤ max-variables = omega (arith, messages-length (p .forward), bounded .forward .few, valid-variables g v) in
         rw forward-is (carriable (from 0 n) (λ j. refl) (rw forward-is at few))
 
     pub backward-carriable : Carriable g (messagesOf (p .backward))
     unfolding graphPlan lists.plan
     backward-carriable =
-        let few : length (messagesOf (p .backward)) ≤ 32 = omega (arith, messages-length (p .backward), bounded .backward .few, valid-variables g v) in
+        let few : length (messagesOf (p .backward)) ≤ max-variables = omega (arith, messages-length (p .backward), bounded .backward .few, valid-variables g v) in
         rw backward-is (carriable (reverse (from 0 n)) falling (rw backward-is at few))
 
     -- a step of the backward pass is one of n

@@ -11,6 +11,7 @@ use lib.Seq.{take-at, drop-drop}
 use lib.Dec.{leb}
 use borrow.Author.Tests.{le-leb, lt-leb}
 use Rattle.matrix.specs.Views.{part, splice}
+use Rattle.factor.specs.Limits.{max-variables}
 use Rattle.workspace.specs.Frames.{work-numbers}
 use Rattle.workspace.proofs.Parts.{part-below}
 use Rattle.factor.specs.Counting as counting
@@ -73,7 +74,7 @@ no-place sizes = refl
 pub place-next : (sizes : List ℕ) (k sum s : ℕ) → sum ≡ placeOf sizes k → s ≡ sizeOf sizes k → sum + (s + s * s) ≡ placeOf sizes (k + 1)
 place-next sizes k sum s e es = rw (e, es) (sym (place-more sizes k))
 
-pub numbers-told : (g : Graph) → valid g ≡ true → (sum k : ℕ) → sum ≡ placeOf (g .sizes) k → k ≡ 32 → (sum ≡ marginalNumbers g) × (sum ≤ 224)
+pub numbers-told : (g : Graph) → valid g ≡ true → (sum k : ℕ) → sum ≡ placeOf (g .sizes) k → k ≡ max-variables → (sum ≡ marginalNumbers g) × (sum ≤ 224)
 unfolding placeOf marginalNumbers
 numbers-told g v sum k e ek =
     let t : sum ≡ marginalNumbers g = e ∙ ap (placeOf (g .sizes)) ek in
@@ -183,11 +184,11 @@ module _ (g : Graph) (p : Plan) (half figure : ℕ) (keys heads : List ℕ) (fac
   pub half-most : half ≤ 66560
   half-most = rw (ready .half-is) (need-most g (messagesOf (p .forward)) forwards)
 
-  pub forward-ready : pass.Ready 32 (p .forward)
-  forward-ready = ready-later (g .variables) 32 (p .forward) (p .forward .active) (valid-variables g (pl .sound)) (pl .bounded .forward)
+  pub forward-ready : pass.Ready max-variables (p .forward)
+  forward-ready = ready-later (g .variables) max-variables (p .forward) (p .forward .active) (valid-variables g (pl .sound)) (pl .bounded .forward)
 
-  pub backward-ready : pass.Ready 32 (p .backward)
-  backward-ready = ready-later (g .variables) 32 (p .backward) (p .backward .active) (valid-variables g (pl .sound)) (pl .bounded .backward)
+  pub backward-ready : pass.Ready max-variables (p .backward)
+  backward-ready = ready-later (g .variables) max-variables (p .backward) (p .backward .active) (valid-variables g (pl .sound)) (pl .bounded .backward)
 
   pub forward-room : 0 + need g (messagesOf (p .forward)) ≤ length messages
   forward-room = omega (arith, ready .half-is, ready .figure-is, enough .of-messages)
@@ -327,13 +328,13 @@ all-ready g p half figure keys heads keys′ heads′ pl eh ef fw b t bw =
     }
 
 -- what a pass is placed with
-pub plan-forward : (g : Graph) (p : Plan) → Planned g p → pass.Ready 32 (p .forward) × Carriable g (messagesOf (p .forward))
+pub plan-forward : (g : Graph) (p : Plan) → Planned g p → pass.Ready max-variables (p .forward) × Carriable g (messagesOf (p .forward))
 plan-forward g p pl =
-    (ready-later (g .variables) 32 (p .forward) (p .forward .active) (valid-variables g (pl .sound)) (pl .bounded .forward), forward-carriable g (pl .sound) p (pl .bounded) (pl .is))
+    (ready-later (g .variables) max-variables (p .forward) (p .forward .active) (valid-variables g (pl .sound)) (pl .bounded .forward), forward-carriable g (pl .sound) p (pl .bounded) (pl .is))
 
-pub plan-backward : (g : Graph) (p : Plan) → Planned g p → pass.Ready 32 (p .backward) × Carriable g (messagesOf (p .backward))
+pub plan-backward : (g : Graph) (p : Plan) → Planned g p → pass.Ready max-variables (p .backward) × Carriable g (messagesOf (p .backward))
 plan-backward g p pl =
-    (ready-later (g .variables) 32 (p .backward) (p .backward .active) (valid-variables g (pl .sound)) (pl .bounded .backward), backward-carriable g (pl .sound) p (pl .bounded) (pl .is))
+    (ready-later (g .variables) max-variables (p .backward) (p .backward .active) (valid-variables g (pl .sound)) (pl .bounded .backward), backward-carriable g (pl .sound) p (pl .bounded) (pl .is))
 
 pub forward-most : (g : Graph) (p : Plan) → Planned g p → need g (messagesOf (p .forward)) ≤ 66560
 forward-most g p pl = need-most g (messagesOf (p .forward)) (forward-carriable g (pl .sound) p (pl .bounded) (pl .is))

@@ -22,6 +22,7 @@ ghost use mathlib.Core.Path.{_≡_};
 ghost use mathlib.Core.Bool.{true};
 ghost use Prim.Native.Nat.{_+_, _*_, _<_, _≤_};
 ghost use lib.ListN.{length};
+ghost use Rattle.factor.specs.Limits.{max-variables};
 ghost use Rattle.graph.specs.Record.{valid};
 ghost use Rattle.plan.specs.Pass.{Ready, messagesOf};
 ghost use Rattle.schedule.specs.Pass.{at};
@@ -78,7 +79,7 @@ fn marginal_numbers(g: Graph) -> usize
 
 // The step of a message of a pass.
 fn step_of(p: Pass, j: usize) -> usize
-    requires { ⌜ Ready 32 p × (j < p .count) ⌝ }
+    requires { ⌜ Ready max-variables p × (j < p .count) ⌝ }
     ensures { λ r. ⌜ r ≡ at (messagesOf p) j .step ⌝ }
 {
     p.steps[j] as usize
