@@ -88,7 +88,7 @@ member-most : (b : Bool) (k : ℕ) → k < 100 → length (joined fieldText (put
 member-most true k l = rw (joined-one fieldText k) (field-most k l)
 member-most false k l = rw (joined-nil fieldText) (omega arith)
 
-set-most : (word : List ℕ) (set : ℕ) → length (listText word (keysIn set)) ≤ length word + 96
+set-most : (word : List ℕ) (set : ℕ) → length (listText word (keysIn set)) ≤ length word + 3 * max-variables
 unfolding listText keysIn
 set-most word set =
     omega (

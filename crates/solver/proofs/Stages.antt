@@ -6,8 +6,8 @@ use Prim.Native.Nat.{ℕ, zero, suc, _+_, _*_, _-_, _≤_, _<_}
 use native.Mathlib.Nat.{mul-le-mul}
 use native.Mathlib.Omega.{arith}
 use lib.Ieee.{Float}
-use lib.ListN.{length, getD, take, drop}
-use lib.Seq.{take-at, drop-drop}
+use lib.ListN.{length, getD, take, drop, length-take}
+use lib.Seq.{take-at, drop-drop, getD-take}
 use lib.Dec.{leb}
 use borrow.Author.Tests.{le-leb, lt-leb}
 use Rattle.matrix.specs.Views.{part, splice}
@@ -27,7 +27,8 @@ use Rattle.schedule.specs.Plan as lists
 use Rattle.plan.specs.Pass.{messagesOf, msgAt}
 use Rattle.plan.specs.declared.pass.Pass.{Pass}
 use Rattle.plan.proofs.Unions.{at-msg}
-use Rattle.plan.specs.Plan.{planOf, Bounded}
+use Rattle.plan.specs.Gather.{gatheredOf}
+use Rattle.plan.specs.Plan.{planOf, noGathered, Bounded}
 use Rattle.slots.specs.Tables.{numbersOf}
 use Rattle.tables.specs.Originals.{Originals}
 use Rattle.lists.specs.Lists.{messageNumber, backward-shift}
@@ -38,6 +39,7 @@ use Rattle.plan.proofs.Stepping.{ready-later}
 use Rattle.gaussian.specs.Elimination.{Outcome, pivot, unbounded, message}
 use Rattle.messages.specs.Values.{values, none, stopped, stopFrom, finished, overlaid}
 use Rattle.messages.specs.Figure.{rowsAt, widthAt, needTo, need}
+use Rattle.messages.proofs.Members.{at-map}
 use Rattle.messages.proofs.Rows.{products}
 use Rattle.messages.proofs.Slots.{message-rows-most, message-kept, message-few, need-rises}
 use Rattle.messages.proofs.Reading.{values-length}
@@ -60,7 +62,7 @@ use Rattle.solver.specs.Stages.{verdict, Planned, Ready, Enough, thirdOf
 use Rattle.solver.specs.declared.run.Ran.{Ran}
 use Rattle.solver.specs.declared.run.Ended.the-variants.{Done}
 use Rattle.solver.proofs.Answers.{made-valid}
-use Rattle.solver.proofs.Carriable.{forward-carriable, backward-carriable, backward-steps, all-settled}
+use Rattle.solver.proofs.Carriable.{graph-runnable}
 
 -- ---- leaves
 
@@ -88,28 +90,35 @@ step-told p j l = sym (ap (λ (m : ClosedFactor). m .step) (at-msg p j l))
 
 module _ (g : Graph) (p : Plan) (half figure : ℕ) (keys heads : List ℕ) (factors messages marginals : List Float) (work : ℕ) (ready : Ready g p half figure keys heads)
     (enough : Enough g figure factors messages work (length marginals)) (fw : AllStored g factors (messagesOf (p .forward)) 0 messages) (bw : AllStored g factors (messagesOf (p .backward)) half messages) where
+  -- what a key gathers, in the plan and in the arrays
+  gathered-is : (k : ℕ) → k < g .variables → getD (planOf (g .variables) p .at-key) k (gatheredOf noGathered) ≡ gatheredOf (getD (p .at) k noGathered)
+  unfolding planOf
+  gathered-is k l =
+      let long : k < length (take (g .variables) (p .at)) = omega (arith, length-take (g .variables) (p .at), ready .plan .bounded .long, valid-variables g (ready .plan .runnable .forward .sound)) in
+      at-map gatheredOf (take (g .variables) (p .at)) k noGathered (gatheredOf noGathered) long ∙ ap gatheredOf (getD-take (g .variables) (p .at) k noGathered l)
+
   gatherable : Gatherable g (planOf (g .variables) p) (p .at) factors messages keys heads
   unfolding planOf
   gatherable =
       let pl = ready .plan in
       record {
-        forward = forward-carriable g (pl .sound) p (pl .bounded) (pl .is);
-        backward = backward-carriable g (pl .sound) p (pl .bounded) (pl .is);
+        forward = pl .runnable .forward;
+        backward = pl .runnable .backward;
         tables = ready .tables;
         placed = ready .placed;
         placed′ = rw (← ready .half-is) (ready .placed′);
         stored = fw .each;
         stored′ = rw (← ready .half-is) (bw .each);
-        long = omega (arith, pl .bounded .long, valid-variables g (pl .sound));
+        long = omega (arith, pl .bounded .long, valid-variables g (pl .runnable .forward .sound));
         gathers = refl;
         held = pl .bounded .held;
-        settled = all-settled g (pl .sound) p (pl .bounded) (pl .is);
+        settled = λ k l. rw (← gathered-is k l) (pl .runnable .settled k l (gatheredOf noGathered));
         enough = enough .of-factors;
         enough′ = omega (arith, ready .half-is, ready .figure-is, enough .of-messages);
       }
 
   pub third-asks : (results : ℕ) → 224 ≤ results → Findable g (p .at) factors messages work keys heads results
-  third-asks results h = findable g (planOf (g .variables) p) (p .at) factors messages keys heads gatherable work results (enough .of-work) (omega (arith, numbers-most g (ready .plan .sound)))
+  third-asks results h = findable g (planOf (g .variables) p) (p .at) factors messages keys heads gatherable work results (enough .of-work) (omega (arith, numbers-most g (ready .plan .runnable .forward .sound)))
 
   module _ (r : Carried) (before after : List Float) (finds : FindsPlanned g (p .at) factors messages keys heads r before after) where
     found : Finds (planned g factors (planOf (g .variables) p)) (marginalNumbers g) r before after
@@ -172,23 +181,25 @@ stop-low g factors p j why r e er =
 
 module _ (g : Graph) (p : Plan) (half figure : ℕ) (keys heads : List ℕ) (factors messages marginals : List Float) (work : ℕ) (ready : Ready g p half figure keys heads)
     (enough : Enough g figure factors messages work (length marginals)) where
-  pl : Planned g p
+  pl : Planned g p (planOf (g .variables) p)
   pl = ready .plan
 
   pub forwards : Carriable g (messagesOf (p .forward))
-  forwards = forward-carriable g (pl .sound) p (pl .bounded) (pl .is)
+  unfolding planOf
+  forwards = pl .runnable .forward
 
   pub backwards : Carriable g (messagesOf (p .backward))
-  backwards = backward-carriable g (pl .sound) p (pl .bounded) (pl .is)
+  unfolding planOf
+  backwards = pl .runnable .backward
 
   pub half-most : half ≤ 66560
   half-most = rw (ready .half-is) (need-most g (messagesOf (p .forward)) forwards)
 
   pub forward-ready : pass.Ready max-variables (p .forward)
-  forward-ready = ready-later (g .variables) max-variables (p .forward) (p .forward .active) (valid-variables g (pl .sound)) (pl .bounded .forward)
+  forward-ready = ready-later (g .variables) max-variables (p .forward) (p .forward .active) (valid-variables g (forwards .sound)) (pl .bounded .forward)
 
   pub backward-ready : pass.Ready max-variables (p .backward)
-  backward-ready = ready-later (g .variables) max-variables (p .backward) (p .backward .active) (valid-variables g (pl .sound)) (pl .bounded .backward)
+  backward-ready = ready-later (g .variables) max-variables (p .backward) (p .backward .active) (valid-variables g (forwards .sound)) (pl .bounded .backward)
 
   pub forward-room : 0 + need g (messagesOf (p .forward)) ≤ length messages
   forward-room = omega (arith, ready .half-is, ready .figure-is, enough .of-messages)
@@ -206,7 +217,8 @@ module _ (g : Graph) (p : Plan) (half figure : ℕ) (keys heads : List ℕ) (fac
         rw (s, es, ea) refl
 
     pub step-fits : (j : ℕ) (why : Refusal) → r ≡ Halted j why → at (messagesOf (p .backward)) j .step < g .variables
-    step-fits j why er = backward-steps g (pl .sound) p (pl .bounded) (pl .is) j (omega (arith, stop-low g factors (p .backward) j why r et er, messages-length (p .backward)))
+    unfolding planOf
+    step-fits j why er = pl .runnable .backward-steps j (omega (arith, stop-low g factors (p .backward) j why r et er, messages-length (p .backward)))
 
     pub second-done : (ran : Ran) (marginals′ : List Float) → r ≡ Through → verdict ran after marginals′ ≡ thirdOf g (planOf (g .variables) p) figure factors after marginals
         → verdict ran after marginals′ ≡ secondOf g (planOf (g .variables) p) half figure factors messages marginals
@@ -314,56 +326,66 @@ placed-stays g ms keys heads keys′ heads′ c b placed j h =
       key = λ i l. b .of-keys (firstKey 0 j + i) (omega (arith, c .few, message-few g ms c j h)) ∙ placed j h .key i l;
     }
 
-pub all-ready : (g : Graph) (p : Plan) (half figure : ℕ) (keys heads keys′ heads′ : List ℕ) → Planned g p → half ≡ 0 + need g (messagesOf (p .forward)) → figure ≡ half + need g (messagesOf (p .backward))
+pub all-ready : (g : Graph) (p : Plan) (half figure : ℕ) (keys heads keys′ heads′ : List ℕ) → Planned g p (planOf (g .variables) p) → half ≡ 0 + need g (messagesOf (p .forward)) → figure ≡ half + need g (messagesOf (p .backward))
     → PlacedTo g (messagesOf (p .forward)) 0 0 keys heads (length (messagesOf (p .forward))) → Before backward-shift keys heads keys′ heads′ → Tables g keys′ heads′
     → PlacedTo g (messagesOf (p .backward)) backward-shift half keys′ heads′ (length (messagesOf (p .backward))) → Ready g p half figure keys′ heads′
+unfolding planOf
 all-ready g p half figure keys heads keys′ heads′ pl eh ef fw b t bw =
     record {
       plan = pl;
       tables = t;
-      placed = placed-stays g (messagesOf (p .forward)) keys heads keys′ heads′ (forward-carriable g (pl .sound) p (pl .bounded) (pl .is)) b fw;
+      placed = placed-stays g (messagesOf (p .forward)) keys heads keys′ heads′ (pl .runnable .forward) b fw;
       placed′ = bw;
       half-is = eh ∙ omega arith;
       figure-is = ef;
     }
 
 -- what a pass is placed with
-pub plan-forward : (g : Graph) (p : Plan) → Planned g p → pass.Ready max-variables (p .forward) × Carriable g (messagesOf (p .forward))
+pub plan-forward : (g : Graph) (p : Plan) → Planned g p (planOf (g .variables) p) → pass.Ready max-variables (p .forward) × Carriable g (messagesOf (p .forward))
+unfolding planOf
 plan-forward g p pl =
-    (ready-later (g .variables) max-variables (p .forward) (p .forward .active) (valid-variables g (pl .sound)) (pl .bounded .forward), forward-carriable g (pl .sound) p (pl .bounded) (pl .is))
+    let c = pl .runnable .forward in
+    (ready-later (g .variables) max-variables (p .forward) (p .forward .active) (valid-variables g (c .sound)) (pl .bounded .forward), c)
 
-pub plan-backward : (g : Graph) (p : Plan) → Planned g p → pass.Ready max-variables (p .backward) × Carriable g (messagesOf (p .backward))
+pub plan-backward : (g : Graph) (p : Plan) → Planned g p (planOf (g .variables) p) → pass.Ready max-variables (p .backward) × Carriable g (messagesOf (p .backward))
+unfolding planOf
 plan-backward g p pl =
-    (ready-later (g .variables) max-variables (p .backward) (p .backward .active) (valid-variables g (pl .sound)) (pl .bounded .backward), backward-carriable g (pl .sound) p (pl .bounded) (pl .is))
+    let c = pl .runnable .backward in
+    (ready-later (g .variables) max-variables (p .backward) (p .backward .active) (valid-variables g (c .sound)) (pl .bounded .backward), c)
 
-pub forward-most : (g : Graph) (p : Plan) → Planned g p → need g (messagesOf (p .forward)) ≤ 66560
-forward-most g p pl = need-most g (messagesOf (p .forward)) (forward-carriable g (pl .sound) p (pl .bounded) (pl .is))
+pub forward-most : (g : Graph) (p : Plan) → Planned g p (planOf (g .variables) p) → need g (messagesOf (p .forward)) ≤ 66560
+forward-most g p pl = need-most g (messagesOf (p .forward)) (plan-forward g p pl .1)
 
-pub figure-told : (g : Graph) (p : Plan) (half figure : ℕ) → Planned g p → half ≡ 0 + need g (messagesOf (p .forward)) → figure ≡ half + need g (messagesOf (p .backward)) → figure ≡ figureOf g (graphPlan g)
+pub figure-told : (g : Graph) (p : Plan) (half figure : ℕ) → half ≡ 0 + need g (messagesOf (p .forward)) → figure ≡ half + need g (messagesOf (p .backward)) → figure ≡ figureOf g (planOf (g .variables) p)
 unfolding figureOf planOf
-figure-told g p half figure pl eh ef = rw (← pl .is) (omega arith)
+figure-told g p half figure eh ef = omega arith
 
-pub plan-checked : (g : Graph) (p : Plan) (figure : ℕ) (factors messages marginals : List Float) (work : ℕ) (v : Verdict) → Planned g p → figure ≡ figureOf g (graphPlan g)
-    → v ≡ checked g (planOf (g .variables) p) figure factors messages work marginals → v ≡ checked g (graphPlan g) (figureOf g (graphPlan g)) factors messages work marginals
-plan-checked g p figure factors messages marginals work v pl ef e = e ∙ rw (pl .is, ef) refl
+pub plan-checked : (g : Graph) (q : lists.Plan) (figure : ℕ) (factors messages marginals : List Float) (work : ℕ) (v : Verdict) → figure ≡ figureOf g q
+    → v ≡ checked g q figure factors messages work marginals → v ≡ checked g q (figureOf g q) factors messages work marginals
+plan-checked g q figure factors messages marginals work v ef e = e ∙ rw ef refl
 
 -- ---- the run
 
-pub made-planned : (r : calls.Arranged) (g : Graph) → read r ≡ spec.planned g → Bounded (r .keys) (r .plan) → r .outcome ≡ Made → Planned g (r .plan)
+pub made-planned : (r : calls.Arranged) (g : Graph) → read r ≡ spec.planned g → Bounded (r .keys) (r .plan) → r .outcome ≡ Made → Planned g (r .plan) (graphPlan g)
 unfolding read spec.planned
 made-planned r g e b h =
     let v : valid g ≡ true = made-valid r g e h in
     let a : read r ≡ record { outcome = Made; keys = g .variables; plan = graphPlan g } = e ∙ rw v refl in
     let k : r .keys ≡ g .variables = ap (λ (x : spec.Answer). x .keys) a in
     record {
-      sound = v;
       bounded = subst (λ (n : ℕ). Bounded n (r .plan)) k b;
       is = ap (λ (n : ℕ). planOf n (r .plan)) (sym k) ∙ ap (λ (x : spec.Answer). x .plan) a;
+      runnable = graph-runnable g v;
     }
 
-pub run-made : (g : Graph) (factors messages marginals : List Float) (work : ℕ) (v : Verdict) → valid g ≡ true → v ≡ checked g (graphPlan g) (figureOf g (graphPlan g)) factors messages work marginals → v ≡ run g factors messages work marginals
+-- what the arrays hold is what they are said to hold
+pub as-held : (g : Graph) (p : Plan) (q : lists.Plan) → Planned g p q → Planned g p (planOf (g .variables) p)
+as-held g p q pl = record { bounded = pl .bounded; is = refl; runnable = rw (pl .is) (pl .runnable) }
+
+pub run-made : (g : Graph) (p : Plan) (factors messages marginals : List Float) (work : ℕ) (v : Verdict) → Planned g p (graphPlan g)
+    → v ≡ checked g (planOf (g .variables) p) (figureOf g (planOf (g .variables) p)) factors messages work marginals → v ≡ run g factors messages work marginals
 unfolding run
-run-made g factors messages marginals work v ok e = e ∙ rw ok refl
+run-made g p factors messages marginals work v pl e = e ∙ rw (pl .is, pl .runnable .forward .sound) refl
 
 pub run-refused : (g : Graph) (factors messages marginals : List Float) (work : ℕ) (why : Refusal) → (valid g ≡ false) × (why ≡ NoSuchGraph) → verdict (refusal 0 why 1 0) messages marginals ≡ run g factors messages work marginals
 unfolding run

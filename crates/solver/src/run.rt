@@ -29,7 +29,6 @@ ghost use Rattle.schedule.specs.Pass.{at};
 ghost use Rattle.plan.specs.Plan.{planOf};
 ghost use Rattle.messages.specs.Tables.{AllStored};
 ghost use Rattle.marginals.specs.Marginals.{marginalNumbers};
-ghost use Rattle.solver.specs.Plan.{graphPlan};
 ghost use Rattle.solver.specs.Run as spec;
 ghost use Rattle.solver.specs.Stages as stages;
 ghost use Rattle.solver.specs.Told.{ranTold};
@@ -242,8 +241,8 @@ fn place_plan(
     work: &mut [f64],
     marginals: &mut [f64],
 ) -> Ran
-    requires { ⌜ stages.Planned g p ⌝ }
-    ensures { λ r. ⌜ stages.verdict r (now (messages .exit)) (now (marginals .exit)) ≡ spec.checked g (graphPlan g) (spec.figureOf g (graphPlan g)) (now (factors .entry)) (now (messages .entry)) (length (now (work .entry))) (now (marginals .entry)) ⌝ }
+    requires { ⌜ stages.Planned g p (planOf (g .variables) p) ⌝ }
+    ensures { λ r. ⌜ stages.verdict r (now (messages .exit)) (now (marginals .exit)) ≡ spec.checked g (planOf (g .variables) p) (spec.figureOf g (planOf (g .variables) p)) (now (factors .entry)) (now (messages .entry)) (length (now (work .entry))) (now (marginals .entry)) ⌝ }
 {
     let mut keys = [0; LISTED];
     let mut heads = [0; HEADS];

@@ -9,7 +9,7 @@ use Rattle.solver.proofs.run.check_stores.Statement.{statement}
 use Rattle.solver.proofs.run.check_stores.Tie as tie
 
 offset-requires : tie.Need-offset-requires
-offset-requires c κs = (c .before .before .before .before .before .before .pre .plan .sound, omega arith)
+offset-requires c κs = (c .before .before .before .before .before .before .pre .plan .runnable .forward .sound, omega arith)
 
 refused-requires : tie.Need-refused-requires
 refused-requires c κs = search needs
@@ -36,7 +36,7 @@ returns-3 c =
     rw (c .refused3 .ensures) (short-work (args .g) (planOf (args .g .variables) (args .p)) (args .figure) (args .factors .now) (args .messages .now) (args .marginals .now) (length (args .work .now)) (omega (arith, c .before .before .before .before .offset .ensures .0, c .before .before .before .if1 .left)) (omega (arith, c .before .before .if2 .left)) (omega (arith, c .before .if3 .taken)))
 
 marginal-numbers-requires : tie.Need-marginal-numbers-requires
-marginal-numbers-requires c κs = (c .before .before .before .before .before .before .before .before .before .before .pre) .plan .sound
+marginal-numbers-requires c κs = (c .before .before .before .before .before .before .before .before .before .before .pre) .plan .runnable .forward .sound
 
 refused-requires-4 : tie.Need-refused-requires-4
 refused-requires-4 c κs = search needs

@@ -1,5 +1,6 @@
 -- `solver::run::place_plan` meets its contract: the figure is where the backward messages end. Assumes nothing.
 use lib.ListN.{length}
+use Rattle.plan.specs.Plan.{planOf}
 use Rattle.solver.proofs.Stages.{plan-forward, plan-backward, tables-filled, forward-most, all-ready, plan-checked, figure-told}
 use native.Mathlib.Omega.{arith}
 use borrow.Author.Needs.{needs}
@@ -70,8 +71,8 @@ same-length-3 c = search needs
 returns : tie.Need-returns
 returns c =
     let args = c .before .before .before .before .before .before .before .before .before .before .before .before .before .before .before .before .before .before .before .before .before .before .before .before .before .before .before .before .before .before .before .before .before .args in
-    let pre = c .before .before .before .before .before .before .before .before .before .before .before .before .before .before .before .before .before .before .before .before .before .before .before .before .before .before .before .before .before .before .before .before .before .pre in
-    plan-checked (args .g) (args .p) _ (args .factors .now) (args .messages .now) (args .marginals .now) (length (args .work .now)) _ (pre) (figure-told (args .g) (args .p) _ _ (pre) (c .before .before .before .before .before .before .before .before .before .before .before .before .before .before .before .before .before .before .before .place-pass .ensures .0) (c .before .before .before .before .before .before .before .before .before .before .before .before .before .before .place-pass2 .ensures .0)) (c .before .before .before .before .before .before .check-stores .ensures)
+    plan-checked (args .g) (planOf (args .g .variables) (args .p)) _ (args .factors .now) (args .messages .now) (args .marginals .now) (length (args .work .now)) _
+    (figure-told (args .g) (args .p) _ _ (c .before .before .before .before .before .before .before .before .before .before .before .before .before .before .before .before .before .before .before .place-pass .ensures .0) (c .before .before .before .before .before .before .before .before .before .before .before .before .before .before .place-pass2 .ensures .0)) (c .before .before .before .before .before .before .check-stores .ensures)
 
 pub place-plan-spec : {M : Type 1} → statement M
 place-plan-spec =

@@ -1,7 +1,7 @@
 -- `solver::run::run` meets its contract: by whether the plan is refused. Assumes nothing.
 use lib.ListN.{length}
-use Rattle.solver.proofs.Answers.{made-valid, refused-why}
-use Rattle.solver.proofs.Stages.{made-planned, run-refused, run-made}
+use Rattle.solver.proofs.Answers.{refused-why}
+use Rattle.solver.proofs.Stages.{made-planned, as-held, run-refused, run-made}
 use Rattle.solver.proofs.Telling.{run-tells}
 use borrow.Author.Needs.{needs}
 use Rattle.solver.proofs.run.run.Statement.{statement}
@@ -20,7 +20,10 @@ enum-told : tie.Need-enum-told
 enum-told c = search needs
 
 place-plan-requires : tie.Need-place-plan-requires
-place-plan-requires c κs = made-planned _ (c .before .before .before .before .before .before .before .before .before .before .before .args .g) (c .before .before .before .before .before .before .arrange .ensures .0) (c .before .before .before .before .before .before .arrange .ensures .1 .1) (c .before .before .before .before .enum-told .given .1)
+place-plan-requires c κs =
+    let g = c .before .before .before .before .before .before .before .before .before .before .before .args .g in
+    let arrange = c .before .before .before .before .before .before .arrange in
+    as-held g _ _ (made-planned (arrange .result) g (arrange .ensures .0) (arrange .ensures .1 .1) (c .before .before .before .before .enum-told .given .1))
 
 returns : tie.Need-returns
 returns c =
@@ -40,8 +43,10 @@ same-length-3 c = search needs
 returns-2 : tie.Need-returns-2
 returns-2 c =
     let args = c .before .before .before .before .before .before .before .before .before .before .before .before .before .before .before .before .before .before .args in
+    let arrange = c .before .before .before .before .before .before .before .before .before .before .before .before .before .arrange in
     run-tells _ _ _ _
-    (run-made (args .g) (args .factors .now) (args .messages .now) (args .marginals .now) (length (args .work .now)) _ (made-valid _ (args .g) (c .before .before .before .before .before .before .before .before .before .before .before .before .before .arrange .ensures .0) (c .before .before .before .before .before .before .before .before .before .before .before .enum-told .given .1)) (c .before .before .before .before .before .before .place-plan .ensures))
+    (run-made (args .g) _ (args .factors .now) (args .messages .now) (args .marginals .now) (length (args .work .now)) _
+    (made-planned (arrange .result) (args .g) (arrange .ensures .0) (arrange .ensures .1 .1) (c .before .before .before .before .before .before .before .before .before .before .before .enum-told .given .1)) (c .before .before .before .before .before .before .place-plan .ensures))
 
 pub run-spec : {M : Type 1} → statement M
 run-spec =

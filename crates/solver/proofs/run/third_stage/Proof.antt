@@ -35,7 +35,7 @@ returns c =
     rw (c .refused .ensures) (third-refused (args .g) (args .p) (args .half) (args .figure) (args .keys .now) (args .heads .now) (args .factors .now) (args .messages .now) (args .marginals .now) (length (args .work .now)) (pre .0 .0) (pre .0 .1) (pre .1 .0) (pre .1 .1) _ _ _ (c .before .before .before .before .before .before .before .find-marginals .ensures) _ _ (c .before .before .k .given .1))
 
 marginal-numbers-requires : tie.Need-marginal-numbers-requires
-marginal-numbers-requires c κs = c .before .before .before .before .before .before .before .before .before .before .before .before .before .before .before .pre .0 .0 .plan .sound
+marginal-numbers-requires c κs = c .before .before .before .before .before .before .before .before .before .before .before .before .before .before .before .pre .0 .0 .plan .runnable .forward .sound
 
 sub-copy : tie.Need-sub-copy
 sub-copy c = search needs
