@@ -9,7 +9,7 @@ use Rattle.graph.specs.Record.{valid}
 use Rattle.graph.specs.declared.Graph.{Graph}
 use Rattle.graph.proofs.Validity.{valid-variables}
 use Rattle.schedule.specs.Count.{count, In, from}
-use Rattle.schedule.specs.Pass.{ClosedFactor, full-pass}
+use Rattle.schedule.specs.Pass.{full-pass}
 use Rattle.schedule.specs.Gather.{gather}
 use Rattle.schedule.specs.Plan as lists
 use Rattle.schedule.proofs.Counts.{count-reverse, from-in}
