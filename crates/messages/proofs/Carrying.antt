@@ -42,6 +42,23 @@ use Rattle.messages.proofs.Rows.{products}
 use Rattle.messages.proofs.Placing.{known, fits, headed, rows-are}
 use Rattle.messages.proofs.Reading.{values-length, slot-view}
 
+-- a message stands where it stood, if the store is as it was up to where it ends
+pub stored-stays : (g : Graph) (factors : List Float) (ms : List ClosedFactor) (start : ℕ) (store store′ : List Float) (i j to : ℕ) → i < j → start + needTo g ms j ≤ to
+    → ((a b : ℕ) → b ≤ to → part store′ a b ≡ part store a b) → Stored g factors ms start store i → Stored g factors ms start store′ i
+stored-stays g factors ms start store store′ i j to h room same o =
+    record {
+      rows = o .rows;
+      a = o .a;
+      xi = o .xi;
+      w = o .w;
+      is = o .is;
+      of-rows = o .of-rows;
+      of-a = o .of-a;
+      of-xi = o .of-xi;
+      of-w = o .of-w;
+      stands = same (start + needTo g ms i) (start + needTo g ms i + numbersOf (o .rows) (widthAt g ms i)) (rw (o .of-rows) (omega (arith, need-rises g ms i j h))) ∙ o .stands;
+    }
+
 -- ---- lists of outcomes
 
 -- all of them are messages
@@ -233,22 +250,8 @@ module _ (g : Graph) (factors : List Float) (ms : List ClosedFactor) (c : Carria
         where
           go : Dec (i < j) → Stored g factors ms start messages′ i
           go (yes b) =
-              let o = p .held i b in
-              record {
-                rows = o .rows;
-                a = o .a;
-                xi = o .xi;
-                w = o .w;
-                is = o .is;
-                of-rows = o .of-rows;
-                of-a = o .of-a;
-                of-xi = o .of-xi;
-                of-w = o .of-w;
-                stands =
-                    rw written (part-below messages to (to + length t) t (omega arith) (omega (arith, room, t-length, p .to-is)) (omega arith) (start + needTo g ms i) (start + needTo g ms i + numbersOf (o .rows) (widthAt g ms i))
-                    (rw (o .of-rows) (omega (arith, need-rises g ms i j b, p .to-is))))
-                    ∙ o .stands;
-              }
+              stored-stays g factors ms start messages messages′ i j to b (omega (arith, p .to-is))
+              (λ x y l. rw written (part-below messages to (to + length t) t (omega arith) (omega (arith, room, t-length, p .to-is)) (omega arith) x y l)) (p .held i b)
           go (no b) =
               let e : i ≡ j = omega arith in
               rw e

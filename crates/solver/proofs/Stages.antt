@@ -45,6 +45,7 @@ use Rattle.messages.proofs.Members.{at-map}
 use Rattle.messages.proofs.Rows.{products}
 use Rattle.messages.proofs.Slots.{message-rows-most, message-kept, message-few, need-rises}
 use Rattle.messages.proofs.Reading.{values-length}
+use Rattle.messages.proofs.Carrying.{stored-stays}
 use Rattle.messages.specs.Tables.{Carriable, AllStored, Tables, PlacedTo, Before, keys-length, heads-length, firstKey}
 use Rattle.messages.specs.Asked.{most-start, stopOf}
 use Rattle.messages.specs.declared.Carried.{Carried}
@@ -162,19 +163,18 @@ Asks g ps shift start keys heads factors messages work =
     × ((Tables g keys heads × PlacedTo g (messagesOf ps) shift start keys heads (length (messagesOf ps)))
     × ((offset g (g .count) ≤ factors) × (start + need g (messagesOf ps) ≤ messages) × (work-numbers ≤ work)))
 
+pass-ready : {g : Graph} {ps : Pass} → Carriable g (messagesOf ps) → pass.Ready (g .variables) ps → pass.Ready max-variables ps × Carriable g (messagesOf ps)
+pass-ready {g} {ps} c r = (ready-later (g .variables) max-variables ps (ps .active) (valid-variables g (c .sound)) r, c)
+
 -- what a pass of a plan is placed and carried with
 module _ (g : Graph) (p : Plan) (pl : Planned g p (planOf (g .variables) p)) where
   pub forwards : pass.Ready max-variables (p .forward) × Carriable g (messagesOf (p .forward))
   unfolding planOf
-  forwards =
-      let c = pl .runnable .forward in
-      (ready-later (g .variables) max-variables (p .forward) (p .forward .active) (valid-variables g (c .sound)) (pl .bounded .forward), c)
+  forwards = pass-ready (pl .runnable .forward) (pl .bounded .forward)
 
   pub backwards : pass.Ready max-variables (p .backward) × Carriable g (messagesOf (p .backward))
   unfolding planOf
-  backwards =
-      let c = pl .runnable .backward in
-      (ready-later (g .variables) max-variables (p .backward) (p .backward .active) (valid-variables g (c .sound)) (pl .bounded .backward), c)
+  backwards = pass-ready (pl .runnable .backward) (pl .bounded .backward)
 
   pub forward-most : need g (messagesOf (p .forward)) ≤ 66560
   forward-most = need-most g (messagesOf (p .forward)) (forwards .1)
@@ -220,23 +220,8 @@ module _ (g : Graph) (p : Plan) (pl : Planned g p (planOf (g .variables) p)) whe
       forward-stays after ea fw bw =
           record {
             each = λ j h.
-                let o = fw .each j h in
-                record {
-                  rows = o .rows;
-                  a = o .a;
-                  xi = o .xi;
-                  w = o .w;
-                  is = o .is;
-                  of-rows = o .of-rows;
-                  of-a = o .of-a;
-                  of-xi = o .of-xi;
-                  of-w = o .of-w;
-                  stands =
-                      part-stays messages (finished (values g factors (messagesOf (p .backward)))) after (places .half) (0 + needTo g (messagesOf (p .forward)) j)
-                      (0 + needTo g (messagesOf (p .forward)) j + numbersOf (o .rows) (widthAt g (messagesOf (p .forward)) j)) ea (omega (arith, figure-is, enough .of-messages, bw .long))
-                      (rw (o .of-rows) (omega (arith, need-rises g (messagesOf (p .forward)) j (length (messagesOf (p .forward))) h, half-is)))
-                      ∙ o .stands;
-                };
+                stored-stays g factors (messagesOf (p .forward)) 0 messages after j (length (messagesOf (p .forward))) (places .half) h (omega (arith, half-is))
+                (λ a b l. part-stays messages (finished (values g factors (messagesOf (p .backward)))) after (places .half) a b ea (omega (arith, figure-is, enough .of-messages, bw .long)) l) (fw .each j h);
             long = fw .long;
           }
 
@@ -316,46 +301,18 @@ enough-later e em ew = rw (em, ew) e
 
 -- ---- the tests of the stores
 
-module _ (g : Graph) (figure factors messages work marginals : ℕ) where
-  pub short-factors : factors < offset g (g .count) → stores.Short FactorStoreShort ≡ storesOf g figure factors messages work marginals
-  unfolding storesOf
-  short-factors h = rw (lt-leb (offset g (g .count)) factors h) refl
-
-  module _ (hf : offset g (g .count) ≤ factors) where
-    short-other : every (leb figure messages ∷ leb work-numbers work ∷ leb (marginalNumbers g) marginals ∷ []) ≡ false → stores.Short StoreShort ≡ storesOf g figure factors messages work marginals
-    unfolding storesOf
-    short-other e = rw (le-leb (offset g (g .count)) factors hf, e) refl
-
-    pub short-messages : messages < figure → stores.Short StoreShort ≡ storesOf g figure factors messages work marginals
-    unfolding every
-    short-messages h = short-other (rw (lt-leb figure messages h) refl)
-
-    module _ (hm : figure ≤ messages) where
-      pub short-work : work < work-numbers → stores.Short StoreShort ≡ storesOf g figure factors messages work marginals
-      unfolding every
-      short-work h = short-other (rw (le-leb figure messages hm, lt-leb work-numbers work h) refl)
-
-      module _ (hw : work-numbers ≤ work) where
-        pub short-marginals : marginals < marginalNumbers g → stores.Short StoreShort ≡ storesOf g figure factors messages work marginals
-        unfolding every
-        short-marginals h = short-other (rw (le-leb figure messages hm, le-leb work-numbers work hw, lt-leb (marginalNumbers g) marginals h) refl)
-
-        pub none-short : marginalNumbers g ≤ marginals → stores.Enough ≡ storesOf g figure factors messages work marginals
-        unfolding storesOf every
-        none-short h = rw (le-leb (offset g (g .count)) factors hf, le-leb figure messages hm, le-leb work-numbers work hw, le-leb (marginalNumbers g) marginals h) refl
-
-  -- long enough as the test has it, and in numbers
-  pub enough-told : storesOf g figure factors messages work marginals ≡ stores.Enough → Enough g figure factors messages work marginals
-  unfolding storesOf
-  enough-told e = go (leb (offset g (g .count)) factors) (every (leb figure messages ∷ leb work-numbers work ∷ leb (marginalNumbers g) marginals ∷ [])) refl refl e
-    where
-      go : (a b : Bool) → leb (offset g (g .count)) factors ≡ a → every (leb figure messages ∷ leb work-numbers work ∷ leb (marginalNumbers g) marginals ∷ []) ≡ b
-          → cond (not a) (stores.Short FactorStoreShort) (cond (not b) (stores.Short StoreShort) stores.Enough) ≡ stores.Enough → Enough g figure factors messages work marginals
-      go true true ea eb z =
-          let l : List Bool = leb figure messages ∷ leb work-numbers work ∷ leb (marginalNumbers g) marginals ∷ [] in
-          record { of-factors = leb-true _ _ ea; of-messages = leb-true _ _ (every-at l 0 eb); of-work = leb-true _ _ (every-at l 1 eb); of-marginals = leb-true _ _ (every-at l 2 eb) }
-      go true false ea eb z = absurd (let x : _≡_ {A = ℕ} 0 1 = cc in omega arith)
-      go false b ea eb z = absurd (let x : _≡_ {A = ℕ} 0 1 = cc in omega arith)
+-- long enough as the test has it, and in numbers
+pub enough-told : (g : Graph) (figure factors messages work marginals : ℕ) → storesOf g figure factors messages work marginals ≡ stores.Enough → Enough g figure factors messages work marginals
+unfolding storesOf
+enough-told g figure factors messages work marginals e = go (leb (offset g (g .count)) factors) (every (leb figure messages ∷ leb work-numbers work ∷ leb (marginalNumbers g) marginals ∷ [])) refl refl e
+  where
+    go : (a b : Bool) → leb (offset g (g .count)) factors ≡ a → every (leb figure messages ∷ leb work-numbers work ∷ leb (marginalNumbers g) marginals ∷ []) ≡ b
+        → cond (not a) (stores.Short FactorStoreShort) (cond (not b) (stores.Short StoreShort) stores.Enough) ≡ stores.Enough → Enough g figure factors messages work marginals
+    go true true ea eb z =
+        let l : List Bool = leb figure messages ∷ leb work-numbers work ∷ leb (marginalNumbers g) marginals ∷ [] in
+        record { of-factors = leb-true _ _ ea; of-messages = leb-true _ _ (every-at l 0 eb); of-work = leb-true _ _ (every-at l 1 eb); of-marginals = leb-true _ _ (every-at l 2 eb) }
+    go true false ea eb z = absurd (let x : _≡_ {A = ℕ} 0 1 = cc in omega arith)
+    go false b ea eb z = absurd (let x : _≡_ {A = ℕ} 0 1 = cc in omega arith)
 
 -- the test is the definition's
 module _ (g : Graph) (q : lists.Plan) (figure : ℕ) (factors messages marginals : List Float) (work : ℕ) where
