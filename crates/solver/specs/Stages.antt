@@ -49,7 +49,8 @@ pub record Planned (g : Graph) (p : Plan) (q : lists.Plan) : Type 0 where
   pub is : planOf (g .variables) p ≡ q
   pub runnable : Runnable g q
 
--- its messages have their places
+-- Every message has its place. The forward ones take the first numbers of the message store, the backward ones follow from `half`
+-- on; `figure` is both together.
 pub record Ready (g : Graph) (q : lists.Plan) (places : Places) (keys heads : List ℕ) : Type 0 where
   pub tables : Tables g keys heads
   pub placed : PlacedTo g (q .forward) 0 0 keys heads (length (q .forward))
@@ -70,7 +71,7 @@ storesOf g figure factors messages work marginals =
     cond (not (leb (offset g (g .count)) factors)) (stores.Short FactorStoreShort)
     (cond (not (every (leb figure messages ∷ leb work-numbers work ∷ leb (marginalNumbers g) marginals ∷ []))) (stores.Short StoreShort) stores.Enough)
 
--- stage 3, for every plan whose run the tables and the stores are
+-- what stage 3 comes to, for every plan whose messages stand in these tables and stores
 abbrev pub ThirdPlanned : Graph → List arrays.Gathered → ℕ → List Float → List Float → List ℕ → List ℕ → List Float → Ran → List Float → Type 0
 ThirdPlanned g at figure factors messages keys heads before r after =
     (q : lists.Plan) → Gatherable g q at factors messages keys heads → verdict r messages after ≡ third figure messages before (planned g factors q) (missingFrom 0 (planned g factors q))

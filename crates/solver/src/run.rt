@@ -47,7 +47,7 @@ pub struct Ran {
     pub ended: Ended,
 }
 
-// Where the numbers of the messages stand in the message store: the forward ones' first, the backward ones' from `half` on; `figure` is both together.
+// Where the messages stand in the message store: the forward ones take the first numbers, the backward ones follow from `half` on; `figure` is both together.
 struct Places {
     half: usize,
     figure: usize,
@@ -168,7 +168,7 @@ fn third_stage<'a>(
     }
 }
 
-// The plan is carried out: the forward pass, the backward pass, the marginals. Backward, a step's key is as far from the last key as the step from the first.
+// The plan is carried out: the forward pass, the backward pass, the marginals. The backward pass visits keys from n - 1 down: its step t is key n - 1 - t.
 fn carry_out(
     g: Graph,
     p: Plan,
