@@ -26,6 +26,7 @@ use Rattle.messages.specs.Values.{values, Stop, none, stopped, stopFrom, finish
 use Rattle.solver.specs.Plan.{graphPlan}
 use Rattle.marginals.specs.Marginals.{marginalNumbers, twice, Found, found, missing, foundBy, foundIn, marginal, marginalsFrom, missingFrom, marginalsIn}
 use Rattle.solver.specs.Run.{figureOf, Verdict, refuse, third, second, first, carried, checked, run}
+use Rattle.solver.specs.Stages.{Runnable}
 use Rattle.solver.specs.declared.run.Ended.{Ended}
 use Rattle.solver.specs.declared.run.Ended.the-variants.{Done, Refused}
 use Rattle.claims.specs.Demand3.{solvedAt, solvedFrom, Exact}
@@ -33,7 +34,7 @@ use Rattle.claims.specs.Demand3.{solvedAt, solvedFrom, Exact}
 -- ---- the check for a double count
 
 -- a list that has nothing twice passes it
-pub not-twice : (l : List ℕ) → ((i : ℕ) → count i l ≤ 1) → twice l ≡ false
+not-twice : (l : List ℕ) → ((i : ℕ) → count i l ≤ 1) → twice l ≡ false
 unfolding twice count
 not-twice [] h = refl
 not-twice (i ∷ l) h =
@@ -111,10 +112,14 @@ pub record Carries (g : Graph) (p : lists.Plan) (factors messages marginals : Li
   pub bare : p .at-key ≡ [] → v .marginals ≡ marginals
 
 -- no key's gathering lists a leaf twice
-abbrev pub Single : lists.Plan → Type 0
+abbrev Single : lists.Plan → Type 0
 Single p = (i : ℕ) → i < length (p .at-key) → (d : Gathered) → twice (getD (p .at-key) i d .leaves) ≡ false
 
-module _ (g : Graph) (p : lists.Plan) (factors messages marginals : List Float) (single : Single p) where
+-- what a run relies on in a plan says so
+single : (g : Graph) (p : lists.Plan) → Runnable g p → Single p
+single g p run i l d = not-twice (getD (p .at-key) i d .leaves) (run .single i (omega (arith, run .for-each)) d)
+
+module _ (g : Graph) (p : lists.Plan) (factors messages marginals : List Float) (once : Single p) where
   abbrev Right : Verdict → Type 0
   Right = Carries g p factors messages marginals
 
@@ -131,7 +136,7 @@ module _ (g : Graph) (p : lists.Plan) (factors messages marginals : List Float) 
   solved = solvedFrom g factors p 0 (p .at-key)
 
   same : keys ≡ solved
-  same = solved-from g factors p 0 (p .at-key) single
+  same = solved-from g factors p 0 (p .at-key) once
 
   refused : (figure : ℕ) (why : Refusal) (stage key : ℕ) (l : List Float) → Other why → Right (refuse figure why stage key l marginals)
   unfolding told isDone
@@ -189,8 +194,10 @@ module _ (g : Graph) (p : lists.Plan) (factors messages marginals : List Float) 
       (either (every (leb figure (length messages) ∷ leb work-numbers work ∷ leb (marginalNumbers g) (length marginals) ∷ [])) _ _ (refused figure StoreShort 1 0 messages (λ e. omega arith))
       (carried-carries figure))
 
-pub run-carries : (g : Graph) → Single (graphPlan g) → (factors messages : List Float) (work : ℕ) (marginals : List Float) → Carries g (graphPlan g) factors messages marginals (run g factors messages work marginals)
+pub run-carries : (g : Graph) → Runnable g (graphPlan g) → (factors messages : List Float) (work : ℕ) (marginals : List Float) → Carries g (graphPlan g) factors messages marginals (run g factors messages work marginals)
 unfolding run
-run-carries g single factors messages work marginals =
-    either g (graphPlan g) factors messages marginals single (valid g) _ _ (refused g (graphPlan g) factors messages marginals single 0 NoSuchGraph 1 0 messages (λ e. omega arith))
-    (checked-carries g (graphPlan g) factors messages marginals single (figureOf g (graphPlan g)) work)
+run-carries g run factors messages work marginals =
+    let p : lists.Plan = graphPlan g in
+    let once : Single p = single g p run in
+    either g p factors messages marginals once (valid g) _ _ (refused g p factors messages marginals once 0 NoSuchGraph 1 0 messages (λ e. omega arith))
+    (checked-carries g p factors messages marginals once (figureOf g p) work)

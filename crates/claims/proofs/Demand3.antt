@@ -4,7 +4,7 @@ use mathlib.Core.Bool.{true}
 use mathlib.Core.List.{List, [], _∷_, List·Memᴰ, List·Memᴰ·head, List·Memᴰ·tail}
 use Prim.Native.Nat.{ℕ, _+_, _<_}
 use native.Mathlib.Omega.{arith}
-use lib.ListN.{length, getD, length-map}
+use lib.ListN.{length, getD}
 use Rattle.graph.specs.Record.{fresh, valid}
 use Rattle.graph.specs.Reached.{Call, yields}
 use Rattle.graph.specs.declared.Graph.{Graph}
@@ -20,27 +20,19 @@ use Rattle.schedule.proofs.Demand3.{from-once}
 use Rattle.messages.specs.Tables.{keysOf}
 use Rattle.solver.specs.Plan.{graphPlan, Answer, planned}
 use Rattle.solver.specs.Run.{run}
+use Rattle.solver.specs.Stages.{Runnable}
 use Rattle.solver.specs.declared.Outcome.the-variants.{Made}
 use Rattle.solver.proofs.GraphOnce.{once}
+use Rattle.solver.proofs.Carriable.{graph-runnable}
 use Rattle.claims.specs.Demand3.{Accepted, registered, accepted, numbers, clearedBehind, Rests, Exact, Whole}
 use Rattle.claims.proofs.Calls.{reached, keys-are, numbers-are, given-are}
-use Rattle.claims.proofs.Carrying.{not-twice, Single, run-carries}
+use Rattle.claims.proofs.Carrying.{run-carries}
 
 -- ---- the plan
 
 planned-is : (g : Graph) → valid g ≡ true → planned g ≡ record { outcome = Made; keys = g .variables; plan = graphPlan g }
 unfolding planned
 planned-is g v = rw v
-
--- one gathering for each key
-plan-length : (g : Graph) → length (graphPlan g .at-key) ≡ g .variables
-unfolding graphPlan lists.plan
-plan-length g = length-map (from 0 (g .variables)) _ ∙ length-from 0 (g .variables)
-
-single : (g : Graph) → valid g ≡ true → Single (graphPlan g)
-single g v i l d =
-    let o = once g v i (omega (arith, plan-length g)) d in
-    not-twice (getD (graphPlan g .at-key) i d .leaves) (λ f. omega (arith, o .listed f, from-once (g .count) f))
 
 -- ---- a key
 
@@ -90,8 +82,11 @@ module _ (cs : List Call) where
   by-answer : (P : Answer → Type 0) → P (record { outcome = Made; keys = g .variables; plan = graphPlan g }) → P (planned g)
   by-answer P h = subst P (sym (planned-is g sound)) h
 
+  can-run : Runnable g (graphPlan g)
+  can-run = graph-runnable g sound
+
   empty : registered fresh cs ≡ [] → graphPlan g .at-key ≡ []
-  empty e = go (graphPlan g .at-key) (plan-length g ∙ sym (length-from 0 (g .variables)) ∙ ap length (sym (keys-are cs) ∙ e))
+  empty e = go (graphPlan g .at-key) (can-run .for-each ∙ sym (length-from 0 (g .variables)) ∙ ap length (sym (keys-are cs) ∙ e))
     where
       go : (qs : List Gathered) → length qs ≡ 0 → qs ≡ []
       go [] l = refl
@@ -103,14 +98,14 @@ module _ (cs : List Call) where
         keys-apart = λ k. omega (arith, ap (count k) (keys-are cs), from-once (g .variables) k);
         numbers-apart = λ i. omega (arith, ap (count i) (numbers-are cs), from-once (g .count) i);
         made = by-answer (λ (a : Answer). a .outcome ≡ Made) refl;
-        for-each = by-answer (λ (a : Answer). length (a .plan .at-key) ≡ length (registered fresh cs)) (plan-length g ∙ sym (length-from 0 (g .variables)) ∙ ap length (sym (keys-are cs)));
+        for-each = by-answer (λ (a : Answer). length (a .plan .at-key) ≡ length (registered fresh cs)) (can-run .for-each ∙ sym (length-from 0 (g .variables)) ∙ ap length (sym (keys-are cs)));
         rests =
             λ k h d. let l : k < g .variables = from-lt k (g .variables) (subst (λ (l : List ℕ). In k l) (keys-are cs) h) in
             by-answer (λ (a : Answer). Rests (registered fresh cs) (accepted fresh cs) (a .plan) k (getD (a .plan .at-key) k d))
             (rests g (registered fresh cs) (accepted fresh cs) (keys-are cs) (numbers-are cs) (given-are cs) (graphPlan g) k (getD (graphPlan g .at-key) k d) l (once g sound k l d));
-        never-twice = λ factors messages work marginals. run-carries g (single g sound) factors messages work marginals .never-twice;
+        never-twice = λ factors messages work marginals. run-carries g can-run factors messages work marginals .never-twice;
         exact =
             λ factors messages work marginals e. by-answer (λ (a : Answer). Exact g (a .plan) factors messages marginals (run g factors messages work marginals))
-            (run-carries g (single g sound) factors messages work marginals .exact e);
-        none-without-keys = λ e factors messages work marginals. run-carries g (single g sound) factors messages work marginals .bare (empty e);
+            (run-carries g can-run factors messages work marginals .exact e);
+        none-without-keys = λ e factors messages work marginals. run-carries g can-run factors messages work marginals .bare (empty e);
       }

@@ -1,12 +1,12 @@
 -- What a refusal of a job names: its number, its stage and its place are small. Assumes nothing.
 use Prim.Native.Nat.{ℕ, zero, suc, _+_, _≤_, _<_}
-use mathlib.Core.Path.{_≡_, refl, ap, _∙_}
+use mathlib.Core.Path.{_≡_, refl, ap}
 use mathlib.Core.Bool.{Bool, true, false, not, cond}
-use mathlib.Core.List.{List, [], _∷_, reverse}
+use mathlib.Core.List.{List, [], _∷_}
 use native.Mathlib.Omega.{arith}
 use lib.Dec.{ltb, leb}
 use lib.Ieee.{Float}
-use lib.ListN.{length, length-map, length-reverse}
+use lib.ListN.{length}
 use Rattle.factor.specs.Limits.{max-variables}
 use Rattle.factor.specs.Counting.{every}
 use Rattle.graph.specs.Record.{offset, valid}
@@ -22,23 +22,19 @@ use Rattle.records.specs.declared.answer.Next.the-variants.{At, Stop}
 use Rattle.records.specs.declared.answer.Ended as records
 use Rattle.records.specs.declared.answer.Ended.the-variants as reads
 use Rattle.records.proofs.Reading.{step-reached}
-use Rattle.schedule.specs.Count.{from}
-use Rattle.schedule.specs.Pass.{ClosedFactor, at, full-pass}
+use Rattle.schedule.specs.Pass.{ClosedFactor, at}
 use Rattle.schedule.specs.Gather.{Gathered}
 use Rattle.schedule.specs.Plan as lists
-use Rattle.schedule.proofs.Counts.{count-reverse}
-use Rattle.schedule.proofs.Sums.{length-from}
-use Rattle.schedule.proofs.Runs.{from-lt, running}
-use Rattle.schedule.proofs.Demand3.{from-once}
 use Rattle.gaussian.specs.Elimination.{Outcome}
 use Rattle.messages.specs.Values as messages
-use Rattle.messages.specs.Tables.{keysOf}
 use Rattle.workspace.specs.Frames.{work-numbers}
 use Rattle.marginals.specs.Marginals.{marginalNumbers, Found, found, missing, marginalsFrom, missingFrom}
 use Rattle.solver.specs.Plan.{graphPlan}
 use Rattle.solver.specs.Run.{figureOf, Verdict, refuse, first, second, third, carried, checked, run}
+use Rattle.solver.specs.Stages.{Runnable}
 use Rattle.solver.specs.declared.run.Ended.{Ended}
 use Rattle.solver.specs.declared.run.Ended.the-variants.{Done, Refused}
+use Rattle.solver.proofs.Carriable.{graph-runnable}
 
 -- ---- the number
 
@@ -139,27 +135,13 @@ steps-all [] b h j = omega arith
 steps-all (m ∷ ms) b h zero = h 0 (omega arith)
 steps-all (m ∷ ms) b h (suc j) = steps-all ms b (λ i l. h (suc i) (omega arith)) j
 
-module _ (g : Graph) (v : valid g ≡ true) where
-  abbrev n : ℕ
-  n = g .variables
-
-  -- the steps of the forward pass are those of the keys
-  forward-steps : (j : ℕ) → at (graphPlan g .forward) j .step ≤ max-variables
-  unfolding graphPlan lists.plan full-pass
-  forward-steps =
-      let run = running n (keysOf g) (from 0 (g .count)) (reverse (from 0 n)) (λ j. omega (arith, count-reverse j (from 0 n), from-once n j)) (λ j h. from-lt j n (omega (arith, count-reverse j (from 0 n)))) in
-      steps-all (full-pass n (keysOf g) (from 0 (g .count)) (from 0 n)) max-variables (λ j l. omega (arith, run .steps j l, length-reverse (from 0 n), length-from 0 n, valid-variables g v))
-
-  at-keys : length (graphPlan g .at-key) ≡ n
-  unfolding graphPlan lists.plan
-  at-keys = length-map (from 0 n) _ ∙ length-from 0 n
-
-  carried-keyed : (figure : ℕ) (factors m r : List Float) → KeyedBy (carried g (graphPlan g) figure factors m r)
-  unfolding carried
-  carried-keyed figure factors m r =
-      let p : lists.Plan = graphPlan g in
-      let l : n ≤ max-variables = valid-variables g v in
-      first-keyed _ _ _ _ _ _ forward-steps (second-keyed _ n _ _ _ _ _ l (third-keyed _ _ _ _ _ (missing-within 0 _ max-variables (omega (arith, at-keys, marginals-long g factors p (messages.values g factors (p .forward)) (messages.values g factors (p .backward)) 0 (p .at-key))))))
+carried-keyed : (g : Graph) (p : lists.Plan) → Runnable g p → (figure : ℕ) (factors m r : List Float) → KeyedBy (carried g p figure factors m r)
+unfolding carried
+carried-keyed g p run figure factors m r =
+    let l : g .variables ≤ max-variables = valid-variables g (run .forward .sound) in
+    first-keyed _ _ _ _ _ _ (steps-all (p .forward) max-variables (λ j h. omega (arith, run .forward-steps j h)))
+    (second-keyed _ (g .variables) _ _ _ _ _ l
+    (third-keyed _ _ _ _ _ (missing-within 0 _ max-variables (omega (arith, run .for-each, marginals-long g factors p (messages.values g factors (p .forward)) (messages.values g factors (p .backward)) 0 (p .at-key))))))
 
 by-test : (b : Bool) (x y : Verdict) → KeyedBy x → KeyedBy y → KeyedBy (cond b x y)
 by-test true x y h k = h
@@ -172,18 +154,18 @@ by-valid true x y h k = k refl
 store-keyed : (figure : ℕ) (w : Refusal) (m r : List Float) → KeyedBy (refuse figure w 1 0 m r)
 store-keyed figure w m r = (omega arith, omega arith)
 
-checked-keyed : (g : Graph) → valid g ≡ true → (figure : ℕ) (factors m : List Float) (work : ℕ) (r : List Float) → KeyedBy (checked g (graphPlan g) figure factors m work r)
+checked-keyed : (g : Graph) (p : lists.Plan) → Runnable g p → (figure : ℕ) (factors m : List Float) (work : ℕ) (r : List Float) → KeyedBy (checked g p figure factors m work r)
 unfolding checked
-checked-keyed g v figure factors m work r =
-    let rest : Verdict = carried g (graphPlan g) figure factors m r in
+checked-keyed g p run figure factors m work r =
+    let rest : Verdict = carried g p figure factors m r in
     let short : Bool = not (every (leb figure (length m) ∷ leb work-numbers work ∷ leb (marginalNumbers g) (length r) ∷ [])) in
     let none : Verdict = refuse figure why.StoreShort 1 0 m r in
     by-test (not (leb (offset g (g .count)) (length factors))) (refuse figure why.FactorStoreShort 1 0 m r) (cond short none rest) (store-keyed figure why.FactorStoreShort m r)
-    (by-test short none rest (store-keyed figure why.StoreShort m r) (carried-keyed g v figure factors m r))
+    (by-test short none rest (store-keyed figure why.StoreShort m r) (carried-keyed g p run figure factors m r))
 
 pub run-keyed : (g : Graph) (factors m : List Float) (work : ℕ) (r : List Float) → KeyedBy (run g factors m work r)
 unfolding run
 run-keyed g factors m work r =
     let p : lists.Plan = graphPlan g in
     by-valid (valid g) (refuse 0 why.NoSuchGraph 1 0 m r) (checked g p (figureOf g p) factors m work r) (store-keyed 0 why.NoSuchGraph m r)
-    (λ v. checked-keyed g v (figureOf g p) factors m work r)
+    (λ v. checked-keyed g p (graph-runnable g v) (figureOf g p) factors m work r)

@@ -9,6 +9,7 @@ use borrow.Author.Tests.{ltb-false}
 use lib.Dec.{ltb}
 use lib.ListN.{length, getD, take, drop, set, length-take, length-set, drop-of-length-le}
 use lib.Seq.{take-suc, take-suc-set, drop-append-le}
+use Rattle.factor.specs.Limits.{max-variables, max-factors}
 use Rattle.schedule.specs.Count.{rising}
 use Rattle.plan.specs.Mask.{has, keysIn}
 use Rattle.plan.specs.Pass.{pickSlot, slotOf}
@@ -23,9 +24,9 @@ grown list base to x h e = ap (λ (m : ℕ). take m (set list to x)) (add-one to
 module _ (f : ℕ → ℕ) where
   -- after j turns the members of a set below j follow what stood before
   abbrev pub Put : (p : ℕ → Bool) (list₀ : List ℕ) (at : ℕ) (list : List ℕ) (to j : ℕ) → Type 0
-  Put p list₀ at list to j = (j ≤ 32) × (to ≤ at + j) × (length list ≡ length list₀) × (take to list ≡ take at list₀ ++ map f (rising j p))
+  Put p list₀ at list to j = (j ≤ max-variables) × (to ≤ at + j) × (length list ≡ length list₀) × (take to list ≡ take at list₀ ++ map f (rising j p))
 
-  module _ (p : ℕ → Bool) (list₀ list l : List ℕ) (at to j : ℕ) (low : j < 32) (room : at + 32 ≤ length list₀) (put : Put p list₀ at list to j) where
+  module _ (p : ℕ → Bool) (list₀ list l : List ℕ) (at to j : ℕ) (low : j < max-variables) (room : at + max-variables ≤ length list₀) (put : Put p list₀ at list to j) where
     pub put-in : (t : ℕ) → p j ≡ true → l ≡ set list to (f j) → t ≡ to + 1 → Put p list₀ at l t (j + 1)
     put-in t h el et =
         rw (el, et, rising-more p j, h, map-append f (rising j p) (j ∷ [])) (
@@ -38,10 +39,10 @@ module _ (f : ℕ → ℕ) where
     pub put-off : (t : ℕ) → p j ≡ false → l ≡ list → t ≡ to → Put p list₀ at l t (j + 1)
     put-off t h el et = rw (el, et, rising-more p j, h, append-nil (rising j p)) (omega arith, omega (arith, put .1), put .2, put .3)
 
-  pub put-done : (mask : ℕ) (list₀ list : List ℕ) (at to j : ℕ) → Put (λ i. has i mask) list₀ at list to j → 32 ≤ j
-      → (take to list ≡ take at list₀ ++ map f (keysIn mask)) × (to ≤ at + 32)
+  pub put-done : (mask : ℕ) (list₀ list : List ℕ) (at to j : ℕ) → Put (λ i. has i mask) list₀ at list to j → max-variables ≤ j
+      → (take to list ≡ take at list₀ ++ map f (keysIn mask)) × (to ≤ at + max-variables)
   unfolding keysIn
-  put-done mask list₀ list at to j put h = let e : j ≡ 32 = omega arith in (rw e at (put .3), omega (arith, put .1))
+  put-done mask list₀ list at to j put h = let e : j ≡ max-variables = omega arith in (rw e at (put .3), omega (arith, put .1))
 
   pub slots-none : (list slots : List ℕ) (at from : ℕ) → take (at + (from - from)) list ≡ take at list ++ map f (drop from (take from slots))
   slots-none list slots at from =
@@ -58,10 +59,10 @@ module _ (f : ℕ → ℕ) where
       (grown list (base ++ map f (drop from (take i slots))) (at + (i - from)) (f (getD slots i 0)) r e ∙ append-assoc base (map f (drop from (take i slots))) (f (getD slots i 0) ∷ []))
 
 -- the slot of a number, and the number that it has among the lists
-pub raised-is : (shift s : ℕ) → shift ≤ 96 → raised shift s ≡ numberOf shift (slotOf s)
+pub raised-is : (shift s : ℕ) → raised shift s ≡ numberOf shift (slotOf s)
 unfolding raised slotOf numberOf
-raised-is shift s l = go (ltb s 64) refl
+raised-is shift s = go (ltb s max-factors) refl
   where
-    go : (b : Bool) → ltb s 64 ≡ b → cond b s (s + shift) ≡ numberOf shift (pickSlot b s)
+    go : (b : Bool) → ltb s max-factors ≡ b → cond b s (s + shift) ≡ numberOf shift (pickSlot b s)
     go true e = refl
-    go false e = omega (arith, ltb-false s 64 e)
+    go false e = omega (arith, ltb-false s max-factors e)

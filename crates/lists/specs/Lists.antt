@@ -5,16 +5,23 @@ use mathlib.Core.List.{List, [], _∷_, _++_, map}
 use Prim.Native.Nat.{ℕ, _+_, _≤_}
 use lib.Dec.{ltb}
 use lib.ListN.{take}
+use Rattle.factor.specs.Limits.{max-variables, max-factors}
 use Rattle.schedule.specs.Pass.{Slot, original, closed, ClosedFactor}
 use Rattle.schedule.specs.Gather.{Gathered}
+use Rattle.plan.specs.Limits.{pass-slots}
+use Rattle.slots.specs.Limits.{max-slots}
 use Rattle.lists.specs.declared.Lists.{Lists}
 
 -- how far the backward messages' numbers stand after the forward ones'
 abbrev pub backward-shift : ℕ
-backward-shift = 32
+backward-shift = max-variables
+
+-- the number of the first backward message
+abbrev pub first-backward : ℕ
+first-backward = max-factors + backward-shift
 
 abbrev pub messageNumber : ℕ → ℕ → ℕ
-messageNumber shift j = 64 + shift + j
+messageNumber shift j = max-factors + shift + j
 
 -- the number of a slot of a pass
 unfoldable pub numberOf : ℕ → Slot → ℕ
@@ -23,16 +30,16 @@ numberOf shift (closed j) = messageNumber shift j
 
 -- the same from the number that it has in the pass
 unfoldable pub raised : ℕ → ℕ → ℕ
-raised shift s = cond (ltb s 64) s (s + shift)
+raised shift s = cond (ltb s max-factors) s (s + shift)
 
 -- the lists hold the kept keys, the cleared keys and the slots of a message
 pub record Holds (shift : ℕ) (m : ClosedFactor) (l : Lists) : Type 0 where
   pub kept : take (l .keeps) (l .kept) ≡ m .kept
   pub cleared : take (l .clears) (l .cleared) ≡ m .cleared
   pub slots : take (l .count) (l .slots) ≡ map (numberOf shift) (m .content)
-  pub few-kept : l .keeps ≤ 32
-  pub few-cleared : l .clears ≤ 32
-  pub few : l .count ≤ 96
+  pub few-kept : l .keeps ≤ max-variables
+  pub few-cleared : l .clears ≤ max-variables
+  pub few : l .count ≤ pass-slots
 
 -- the numbers of what a key gathers
 abbrev pub gatheredNumbers : Gathered → List ℕ
@@ -43,5 +50,5 @@ pub record HoldsGathered (k : ℕ) (q : Gathered) (l : Lists) : Type 0 where
   pub kept : take (l .keeps) (l .kept) ≡ k ∷ []
   pub cleared : take (l .clears) (l .cleared) ≡ q .last
   pub slots : take (l .count) (l .slots) ≡ gatheredNumbers q
-  pub few-cleared : l .clears ≤ 32
-  pub few : l .count ≤ 128
+  pub few-cleared : l .clears ≤ max-variables
+  pub few : l .count ≤ max-slots

@@ -9,11 +9,12 @@ ghost use mathlib.Core.Path.{_≡_};
 ghost use mathlib.Core.List.{_++_, map};
 ghost use Prim.Native.Nat.{_+_, _-_, _<_, _≤_};
 ghost use lib.ListN.{length, take, drop};
+ghost use Rattle.factor.specs.Limits.{max-variables};
 ghost use Rattle.schedule.specs.Pass.{at};
 ghost use Rattle.plan.specs.Mask.{keysIn};
 ghost use Rattle.plan.specs.Pass.{Ready, messagesOf};
 ghost use Rattle.plan.specs.Gather.{Held, gatheredOf};
-ghost use Rattle.lists.specs.Lists.{raised, Holds, HoldsGathered};
+ghost use Rattle.lists.specs.Lists.{backward-shift, first-backward, raised, Holds, HoldsGathered};
 
 // How far the backward messages' numbers stand after the forward ones'.
 pub const BACKWARD: usize = VARIABLES;
@@ -30,9 +31,9 @@ pub struct Lists {
 
 // The members of a set, rising and each raised by so much, follow the first places of a list; the answer is the place after them.
 fn put_set(list: &mut [usize], at: usize, set: u32, shift: usize) -> usize
-    requires { ⌜ (at + 32 ≤ length (now list)) × (shift ≤ 96) ⌝ }
+    requires { ⌜ (at + max-variables ≤ length (now list)) × (shift ≤ first-backward) ⌝ }
     ensures { λ r. ⌜ take r (now (list .exit)) ≡ take at (now (list .entry)) ++ map (λ j. shift + j) (keysIn set) ⌝ }
-    ensures { λ r. ⌜ r ≤ at + 32 ⌝ }
+    ensures { λ r. ⌜ r ≤ at + max-variables ⌝ }
 {
     let mut to = at;
     for j in 0..VARIABLES {
@@ -45,7 +46,7 @@ fn put_set(list: &mut [usize], at: usize, set: u32, shift: usize) -> usize
 }
 
 fn raised(s: u8, shift: usize) -> usize
-    requires { ⌜ shift ≤ 96 ⌝ }
+    requires { ⌜ shift ≤ first-backward ⌝ }
     ensures { λ r. ⌜ r ≡ raised shift s ⌝ }
 {
     let n = s as usize;
@@ -61,7 +62,7 @@ fn put_slots(
     to: usize,
     shift: usize,
 ) -> usize
-    requires { ⌜ (from ≤ to) × (to ≤ length (now slots)) × (at + (to - from) ≤ length (now list)) × (shift ≤ 96) ⌝ }
+    requires { ⌜ (from ≤ to) × (to ≤ length (now slots)) × (at + (to - from) ≤ length (now list)) × (shift ≤ first-backward) ⌝ }
     ensures { λ r. ⌜ take r (now (list .exit)) ≡ take at (now (list .entry)) ++ map (raised shift) (drop from (take to (now (slots .entry)))) ⌝ }
     ensures { λ r. ⌜ r ≡ at + (to - from) ⌝ }
 {
@@ -74,7 +75,7 @@ fn put_slots(
 
 // The lists of one message of a pass.
 pub fn message_lists(p: Pass, j: usize, shift: usize) -> Lists
-    requires { ⌜ Ready 32 p × (j < p .count) × (shift ≤ 32) ⌝ }
+    requires { ⌜ Ready max-variables p × (j < p .count) × (shift ≤ backward-shift) ⌝ }
     ensures { λ r. ⌜ Holds shift (at (messagesOf p) j) r ⌝ }
 {
     let b = p.board;

@@ -8,6 +8,7 @@ use native.Mathlib.Decide.{decLt}
 use lib.Ieee.{Float}
 use lib.ListN.{length, getD, take, drop, length-map, length-append, length-take, length-drop}
 use lib.Seq.{length-take-le, getD-take}
+use Rattle.factor.specs.Limits.{max-variables}
 use Rattle.graph.specs.declared.Graph.{Graph}
 use Rattle.graph.proofs.Validity.{valid-count}
 use Rattle.schedule.specs.Count.{hit, count, In, rising, from}
@@ -24,6 +25,7 @@ use Rattle.plan.specs.Plan.{noGathered}
 use Rattle.plan.specs.declared.gather.Gathered as arrays
 use Rattle.plan.proofs.Prefixes.{map-append}
 use Rattle.workspace.specs.Frames.{work-numbers}
+use Rattle.slots.specs.Limits.{max-slots}
 use Rattle.slots.specs.Tables.{headOf, storeOf, readView}
 use Rattle.slots.specs.Views.{FactorView}
 use Rattle.gaussian.specs.Answers.{viewsOf}
@@ -63,18 +65,18 @@ map-same f h (x ∷ l) e = rw (e x (List·Memᴰ·head refl), map-same f h l (λ
 
 -- ---- how many slots are gathered
 
-set-few : (m : ℕ) → length (keysIn m) ≤ 32
+set-few : (m : ℕ) → length (keysIn m) ≤ max-variables
 unfolding keysIn
-set-few m = kept-length 32 [] (rising 32 (λ j. has j m)) (λ x. apart x) (λ x h. rising-in 32 (λ j. has j m) x (omega (arith, count-nil x)) .1)
+set-few m = kept-length max-variables [] (rising max-variables (λ j. has j m)) (λ x. apart x) (λ x h. rising-in max-variables (λ j. has j m) x (omega (arith, count-nil x)) .1)
   where
-    apart : (x : ℕ) → count x [] + count x (rising 32 (λ j. has j m)) ≤ 1
-    apart x = go (decLt 0 (count x (rising 32 (λ j. has j m))))
+    apart : (x : ℕ) → count x [] + count x (rising max-variables (λ j. has j m)) ≤ 1
+    apart x = go (decLt 0 (count x (rising max-variables (λ j. has j m))))
       where
-        go : Dec (0 < count x (rising 32 (λ j. has j m))) → count x [] + count x (rising 32 (λ j. has j m)) ≤ 1
-        go (yes h) = omega (arith, count-nil x, rising-in 32 (λ j. has j m) x h .2)
+        go : Dec (0 < count x (rising max-variables (λ j. has j m))) → count x [] + count x (rising max-variables (λ j. has j m)) ≤ 1
+        go (yes h) = omega (arith, count-nil x, rising-in max-variables (λ j. has j m) x h .2)
         go (no h) = omega (arith, count-nil x)
 
-numbers-few : (q : arrays.Gathered) → Held q → length (gatheredNumbers (gatheredOf q)) ≤ 128
+numbers-few : (q : arrays.Gathered) → Held q → length (gatheredNumbers (gatheredOf q)) ≤ max-slots
 unfolding gatheredOf
 numbers-few q held =
     let o : List ℕ = drop (q .covered) (take (q .count) (q .items)) in
@@ -111,7 +113,7 @@ module _ (g : Graph) (p : lists.Plan) (at : List arrays.Gathered) (factors messa
 
     -- the slots
     abbrev Fits : ℕ → Type 0
-    Fits number = (number < 128) × HeadFits (k ∷ []) (q .last) (g .sizes) keys (length (storeOf (headOf heads number .slot) factors messages)) (headOf heads number)
+    Fits number = (number < max-slots) × HeadFits (k ∷ []) (q .last) (g .sizes) keys (length (storeOf (headOf heads number .slot) factors messages)) (headOf heads number)
 
     forward-fits : (j : ℕ) → In j (q .forward) → Fits (messageNumber 0 j)
     unfolding numberOf pass.keysOf need
@@ -144,7 +146,7 @@ module _ (g : Graph) (p : lists.Plan) (at : List arrays.Gathered) (factors messa
         (at-append Fits (map (messageNumber backward-shift) (q .backward)) (q .originals) (at-mapped Fits (messageNumber backward-shift) (q .backward) backward-fits)
         (λ i h. original-fits (getD (q .originals) i 0) (at-in (q .originals) i h)))
 
-    key-asked : (work : ℕ) → work-numbers ≤ work → length (gatheredNumbers q) ≤ 128 → AskedAt (g .sizes) factors messages work keys heads k q
+    key-asked : (work : ℕ) → work-numbers ≤ work → length (gatheredNumbers q) ≤ max-slots → AskedAt (g .sizes) factors messages work keys heads k q
     key-asked work enough few =
         let bc = below-cleared (g .variables) (q .last) (k ∷ []) (settled .apart) low in
         let bk = below-kept (g .variables) (q .last) (k ∷ []) (settled .apart) low in

@@ -1,5 +1,6 @@
 // The marginals of a run: for each key, rising, the last elimination of what it gathers, and the mean and the covariance from its message.
 use factor::copy_in;
+use factor::limits::FACTORS;
 use factor::limits::VARIABLES;
 use factor::size_of;
 use gaussian::marginal::Answer;
@@ -17,9 +18,10 @@ ghost use mathlib.Core.Path.{_≡_};
 ghost use mathlib.Core.List.{[], _∷_, _++_};
 ghost use Prim.Native.Nat.{_+_, _*_, _≤_};
 ghost use lib.ListN.{length, getD, take};
-ghost use Rattle.factor.specs.Limits.{max-size};
+ghost use Rattle.factor.specs.Limits.{max-size, max-variables};
 ghost use Rattle.factor.specs.Factor.{lay};
 ghost use Rattle.plan.specs.Gather.{Items, Held, gatheredOf};
+ghost use Rattle.slots.specs.Limits.{max-slots};
 ghost use Rattle.gaussian.specs.Elimination.{eliminate};
 ghost use Rattle.gaussian.specs.Answers.{viewsOf};
 ghost use Rattle.gaussian.specs.Asked.{Asked};
@@ -29,7 +31,7 @@ ghost use Rattle.marginals.specs.Marginals.{twice, missingFrom, marginal
 ghost use Rattle.marginals.specs.Asked.{lastBy, foundAt, AskedAt, Findable, FindsPlanned};
 
 // Some original stands twice among the first `count`. From the last on, so that what is seen is what follows.
-fn counted_twice(items: &[u8; 64], count: usize) -> bool
+fn counted_twice(items: &[u8; FACTORS], count: usize) -> bool
     requires { ⌜ Items count (now items) ⌝ }
     ensures { λ r. ⌜ r ≡ twice (take count (now (items .entry))) ⌝ }
 {
@@ -72,7 +74,7 @@ fn marginal_by<'a>(
     keys: &[usize],
     heads: &[usize],
 ) -> Answer
-    requires { ⌜ (l .clears ≤ 32) × (l .count ≤ 128) × (getD sizes key 0 ≤ max-size) ⌝ }
+    requires { ⌜ (l .clears ≤ max-variables) × (l .count ≤ max-slots) × (getD sizes key 0 ≤ max-size) ⌝ }
     requires { ⌜ Asked (key ∷ []) (clearedOf l) sizes (now factors) (now messages) (length (now work)) (now keys) (now heads) (slotsOf l) ⌝ }
     ensures { λ r. ⌜ r ≡ marginalFrom key (getD sizes key 0) (eliminate (viewsOf (now (factors .entry)) (now (messages .entry)) (now (keys .entry)) (now (heads .entry)) (slotsOf l)) (key ∷ []) (clearedOf l) sizes) ⌝ }
 {

@@ -18,6 +18,7 @@ use Rattle.graph.specs.declared.Graph.{Graph}
 use Rattle.graph.specs.declared.refusal.Refusal.{Refusal}
 use Rattle.graph.specs.declared.refusal.Refusal.the-variants.{ClearedPivot, ResultNotFinite}
 use Rattle.schedule.specs.Pass.{Slot, ClosedFactor, at}
+use Rattle.slots.specs.Limits.{max-slots}
 use Rattle.slots.specs.Views.{FactorView}
 use Rattle.slots.specs.Layouts.{layoutOf}
 use Rattle.slots.specs.Tables.{headOf, numbersOf, readView, rowsByAll}
@@ -28,7 +29,7 @@ use Rattle.gaussian.specs.declared.Eliminated.{Eliminated}
 use Rattle.gaussian.specs.declared.Eliminated.the-variants.{Rows, Pivot, Unbounded}
 use Rattle.gaussian.proofs.Outcomes.{Came, at-pivot, at-unbounded, at-rows, asked-sized, whole-length}
 use Rattle.slots.specs.declared.Head.{Head}
-use Rattle.lists.specs.Lists.{numberOf, messageNumber, Holds}
+use Rattle.lists.specs.Lists.{backward-shift, numberOf, messageNumber, Holds}
 use Rattle.lists.specs.declared.Lists.{Lists}
 use Rattle.messages.specs.Values.{slotView, made, valuesTo, valueAt, values, none, stopped, stopFrom, finished}
 use Rattle.messages.specs.Figure.{rowsAt, widthAt, needTo, need}
@@ -40,6 +41,23 @@ use Rattle.messages.proofs.Slots.{need-more, need-rises, message-kept, 
 use Rattle.messages.proofs.Rows.{products}
 use Rattle.messages.proofs.Placing.{known, fits, headed, rows-are}
 use Rattle.messages.proofs.Reading.{values-length, slot-view}
+
+-- a message stands where it stood, if the store is as it was up to where it ends
+pub stored-stays : (g : Graph) (factors : List Float) (ms : List ClosedFactor) (start : ℕ) (store store′ : List Float) (i j to : ℕ) → i < j → start + needTo g ms j ≤ to
+    → ((a b : ℕ) → b ≤ to → part store′ a b ≡ part store a b) → Stored g factors ms start store i → Stored g factors ms start store′ i
+stored-stays g factors ms start store store′ i j to h room same o =
+    record {
+      rows = o .rows;
+      a = o .a;
+      xi = o .xi;
+      w = o .w;
+      is = o .is;
+      of-rows = o .of-rows;
+      of-a = o .of-a;
+      of-xi = o .of-xi;
+      of-w = o .of-w;
+      stands = same (start + needTo g ms i) (start + needTo g ms i + numbersOf (o .rows) (widthAt g ms i)) (rw (o .of-rows) (omega (arith, need-rises g ms i j h))) ∙ o .stands;
+    }
 
 -- ---- lists of outcomes
 
@@ -119,7 +137,7 @@ carrying-none g factors ms start store h =
     }
 
 module _ (g : Graph) (factors : List Float) (ms : List ClosedFactor) (c : Carriable g ms) (shift start : ℕ) (keys heads : List ℕ) (store messages : List Float) (to j work : ℕ)
-    (low : shift ≤ 32) (l : j < length ms) (tables : Tables g keys heads) (placed : PlacedTo g ms shift start keys heads (length ms)) (sized : length (g .sizes) ≡ max-variables)
+    (low : shift ≤ backward-shift) (l : j < length ms) (tables : Tables g keys heads) (placed : PlacedTo g ms shift start keys heads (length ms)) (sized : length (g .sizes) ≡ max-variables)
     (hf : offset g (g .count) ≤ length factors) (hm : start + need g ms ≤ length store) (hw : work-numbers ≤ work)
     (p : Carrying g factors ms start store messages to j) (lists : Lists) (holds : Holds shift (at ms j) lists) where
   abbrev m : ClosedFactor
@@ -135,7 +153,7 @@ module _ (g : Graph) (factors : List Float) (ms : List ClosedFactor) (c : Carria
   unfolding need
   room = omega (arith, need-rises g ms j (length ms) l, p .same)
 
-  few-slots : length slots ≤ 128
+  few-slots : length slots ≤ max-slots
   few-slots = omega (arith, ap length (holds .slots), length-take (lists .count) (lists .slots), holds .few)
 
   asked : Asked (m .kept) (m .cleared) (g .sizes) factors messages work keys heads slots
@@ -232,22 +250,8 @@ module _ (g : Graph) (factors : List Float) (ms : List ClosedFactor) (c : Carria
         where
           go : Dec (i < j) → Stored g factors ms start messages′ i
           go (yes b) =
-              let o = p .held i b in
-              record {
-                rows = o .rows;
-                a = o .a;
-                xi = o .xi;
-                w = o .w;
-                is = o .is;
-                of-rows = o .of-rows;
-                of-a = o .of-a;
-                of-xi = o .of-xi;
-                of-w = o .of-w;
-                stands =
-                    rw written (part-below messages to (to + length t) t (omega arith) (omega (arith, room, t-length, p .to-is)) (omega arith) (start + needTo g ms i) (start + needTo g ms i + numbersOf (o .rows) (widthAt g ms i))
-                    (rw (o .of-rows) (omega (arith, need-rises g ms i j b, p .to-is))))
-                    ∙ o .stands;
-              }
+              stored-stays g factors ms start messages messages′ i j to b (omega (arith, p .to-is))
+              (λ x y l. rw written (part-below messages to (to + length t) t (omega arith) (omega (arith, room, t-length, p .to-is)) (omega arith) x y l)) (p .held i b)
           go (no b) =
               let e : i ≡ j = omega arith in
               rw e

@@ -23,6 +23,8 @@ use Rattle.schedule.specs.Pass.{Slot, original, closed, ClosedFactor, at}
 use Rattle.schedule.proofs.Counts.{sum-same}
 use Rattle.schedule.proofs.Sums.{sum-table, sum-from-snoc, from-mem}
 use Rattle.schedule.proofs.Runs.{msgs-in, from-lt}
+use Rattle.plan.specs.Limits.{pass-slots}
+use Rattle.slots.specs.Limits.{max-slots}
 use Rattle.slots.specs.Layouts.{member, layoutOf}
 use Rattle.slots.specs.Tables.{headOf, slotOf, numbersOf, storeOf, rowsBy, rowsByAll}
 use Rattle.slots.specs.Fitting.{Counted}
@@ -34,7 +36,7 @@ use Rattle.tables.specs.Originals.{withHead}
 use Rattle.tables.proofs.Heads.{head-length, head-put, head-else}
 use Rattle.factor.proofs.Laying.{lay-length, lay-in, lay-before}
 use Rattle.tables.proofs.OriginalsRead.{originals-stay}
-use Rattle.lists.specs.Lists.{messageNumber, numberOf, Holds}
+use Rattle.lists.specs.Lists.{backward-shift, messageNumber, numberOf, Holds}
 use Rattle.lists.specs.declared.Lists.{Lists}
 use Rattle.messages.specs.Figure.{slotRows, rowsIn, rowsTo, rowsAt, widthAt, needTo, need}
 use Rattle.messages.specs.Tables.{Carriable, firstKey, Placed, PlacedTo, Tables, Before}
@@ -75,7 +77,7 @@ rows-list m keys heads slots (suc n) =
     ∙ ap (λ (i : ℕ). sum (λ i. rowsBy m keys (headOf heads (getD slots i 0))) (from 0 n) + rowsBy m keys (headOf heads (getD slots i 0))) (sym (zero-add n))
     ∙ sym (sum-from-snoc (λ i. rowsBy m keys (headOf heads (getD slots i 0))) 0 n)
 
-module _ (g : Graph) (ms : List ClosedFactor) (c : Carriable g ms) (shift start j : ℕ) (keys heads : List ℕ) (low : shift ≤ 32) (l : j < length ms) (tables : Tables g keys heads)
+module _ (g : Graph) (ms : List ClosedFactor) (c : Carriable g ms) (shift start j : ℕ) (keys heads : List ℕ) (low : shift ≤ backward-shift) (l : j < length ms) (tables : Tables g keys heads)
     (placed : PlacedTo g ms shift start keys heads j) (sized : length (g .sizes) ≡ max-variables) where
   abbrev m : ClosedFactor
   m = at ms j
@@ -98,7 +100,7 @@ module _ (g : Graph) (ms : List ClosedFactor) (c : Carriable g ms) (shift start 
       rw (at-map (numberOf shift) (m .content) i (original 0) 0 (omega (arith, content-length)))
       (slot-fits g ms c shift start j keys heads low (omega arith) tables placed (m .kept) (m .cleared) s (known s k) (c .tidy j l .keyed s k) factors messages hf hm)
 
-  number-low : (s : Slot) → List·Memᴰ s (m .content) → numberOf shift s < 128
+  number-low : (s : Slot) → List·Memᴰ s (m .content) → numberOf shift s < max-slots
   unfolding numberOf
   number-low (original i) h = omega (arith, known (original i) h, valid-count g (c .sound))
   number-low (closed i) h = omega (arith, known (closed i) h, c .few)
@@ -109,7 +111,7 @@ module _ (g : Graph) (ms : List ClosedFactor) (c : Carriable g ms) (shift start 
       rw (at-map (numberOf shift) (m .content) i (original 0) 0 (omega (arith, content-length)))
       (omega (arith, number-low s (at-mem (m .content) i (original 0) (omega (arith, content-length))), tables .long-heads))
 
-  pub counted : length (m .content) ≤ 128 → Counted keys heads slots
+  pub counted : length (m .content) ≤ max-slots → Counted keys heads slots
   counted few =
       record {
         few = omega (arith, content-length);
@@ -164,7 +166,7 @@ module _ (g : Graph) (ms : List ClosedFactor) (c : Carriable g ms) (shift start 
   rows-are = rw rows-sum refl
 
   -- ---- the message is placed
-  module _ (few : length (m .content) ≤ 128) (keys′ heads′ : List ℕ) (ek : keys′ ≡ lay keys (firstKey shift j) (m .kept))
+  module _ (few : length (m .content) ≤ max-slots) (keys′ heads′ : List ℕ) (ek : keys′ ≡ lay keys (firstKey shift j) (m .kept))
       (eh : heads′ ≡ withHead heads (messageNumber shift j) false (start + needTo g ms j) (rowsAt g ms j) (widthAt g ms j) (firstKey shift j) (length (m .kept))) where
     room : firstKey shift j + length (m .kept) ≤ length keys
     room = omega (arith, message-few g ms c j l, c .few, tables .long-keys)
@@ -226,9 +228,9 @@ unfolding needTo
 progress-none g ms shift start keys heads t =
     record { few = omega arith; next-is = omega arith; low = omega arith; before = record { of-keys = λ p h. refl; of-heads = λ i h. refl }; tables = t; placed = λ j h. absurd (omega arith) }
 
-module _ (g : Graph) (ms : List ClosedFactor) (c : Carriable g ms) (shift start : ℕ) (keys₀ heads₀ keys heads : List ℕ) (next j : ℕ) (low : shift ≤ 32) (l : j < length ms)
+module _ (g : Graph) (ms : List ClosedFactor) (c : Carriable g ms) (shift start : ℕ) (keys₀ heads₀ keys heads : List ℕ) (next j : ℕ) (low : shift ≤ backward-shift) (l : j < length ms)
     (sized : length (g .sizes) ≡ max-variables) (p : Progress g ms shift start keys₀ heads₀ keys heads next j) (lists : Lists) (holds : Holds shift (at ms j) lists) where
-  content-few : length (at ms j .content) ≤ 96
+  content-few : length (at ms j .content) ≤ pass-slots
   content-few =
       omega (arith, length-map (at ms j .content) (numberOf shift), ap length (holds .slots), length-take (lists .count) (lists .slots), holds .few)
 

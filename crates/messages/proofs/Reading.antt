@@ -15,7 +15,7 @@ use Rattle.gaussian.specs.Elimination.{pivot, message}
 use Rattle.gaussian.specs.Answers.{numbersIn}
 use Rattle.gaussian.proofs.Outcomes.{first-part, second-part, third-part}
 use Rattle.tables.proofs.OriginalsRead.{original-view}
-use Rattle.lists.specs.Lists.{numberOf}
+use Rattle.lists.specs.Lists.{backward-shift, numberOf}
 use Rattle.messages.specs.Values.{messageView, slotView, valuesTo, valueAt}
 use Rattle.messages.specs.Figure.{widthAt}
 use Rattle.messages.specs.Tables.{Carriable, PlacedTo, Tables, Stored}
@@ -43,7 +43,7 @@ parts : (keys : List ℕ) (r d : ℕ) (a xi w : List Float) → length a ≡ r *
 unfolding numbersIn messageView
 parts keys r d a xi w la lx lw = rw (first-part (r * d) r a xi w la lx lw, second-part (r * d) r a xi w la lx lw, third-part (r * d) r a xi w la lx lw) refl
 
-module _ (g : Graph) (ms : List ClosedFactor) (c : Carriable g ms) (shift start n : ℕ) (keys heads : List ℕ) (low : shift ≤ 32) (few : n ≤ length ms) (tables : Tables g keys heads)
+module _ (g : Graph) (ms : List ClosedFactor) (c : Carriable g ms) (shift start n : ℕ) (keys heads : List ℕ) (low : shift ≤ backward-shift) (few : n ≤ length ms) (tables : Tables g keys heads)
     (placed : PlacedTo g ms shift start keys heads n) (factors messages : List Float) (stored : (j : ℕ) → j < n → Stored g factors ms start messages j) where
   -- the slots of the messages that have been made, and of all originals
   pub slot-view : (s : Slot) → Known g ms c shift start n keys heads low few tables placed s → readView factors messages keys (headOf heads (numberOf shift s)) ≡ slotView g factors ms (valuesTo g factors ms n) s

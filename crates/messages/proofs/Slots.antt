@@ -25,7 +25,7 @@ use Rattle.slots.specs.declared.Head.{Head}
 use Rattle.gaussian.specs.Asked.{KeyFits, HeadFits}
 use Rattle.tables.proofs.Dimensions.{total-within, kept-listed, cleared-listed}
 use Rattle.tables.proofs.OriginalsRead.{original-fits}
-use Rattle.lists.specs.Lists.{numberOf}
+use Rattle.lists.specs.Lists.{backward-shift, numberOf}
 use Rattle.messages.specs.Figure.{slotRows, rowsTo, rowsAt, widthAt, needTo}
 use Rattle.messages.specs.Tables.{keysOf, Carriable, firstKey, messageHead, PlacedTo, Tables}
 use Rattle.gaussian.proofs.Lengths.{rows-few}
@@ -76,7 +76,7 @@ module _ (g : Graph) (ms : List ClosedFactor) (c : Carriable g ms) (j : ℕ) (l 
 
 -- ---- a slot
 
-module _ (g : Graph) (ms : List ClosedFactor) (c : Carriable g ms) (shift start n : ℕ) (keys heads : List ℕ) (low : shift ≤ 32) (few : n ≤ length ms) (tables : Tables g keys heads)
+module _ (g : Graph) (ms : List ClosedFactor) (c : Carriable g ms) (shift start n : ℕ) (keys heads : List ℕ) (low : shift ≤ backward-shift) (few : n ≤ length ms) (tables : Tables g keys heads)
     (placed : PlacedTo g ms shift start keys heads n) where
   -- an original of the graph, or a message that has been placed
   abbrev pub Known : Slot → Type 0

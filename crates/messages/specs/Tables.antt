@@ -32,7 +32,7 @@ keysOf g i = cond (ltb i (g .count)) (take (factorAt g i .touched) (factorAt g i
 -- what is asked of a pass: the plan of a valid graph gives it
 pub record Carriable (g : Graph) (ms : List ClosedFactor) : Type 0 where
   pub sound : valid g ≡ true
-  pub few : length ms ≤ 32
+  pub few : length ms ≤ max-variables
   pub tidy : (j : ℕ) → j < length ms → Tidy (g .variables) (keysOf g) (from 0 (g .count)) ms (at ms j)
   pub older : Older ms
 

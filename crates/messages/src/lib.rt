@@ -18,6 +18,7 @@ ghost use mathlib.Core.Path.{_≡_};
 ghost use mathlib.Core.Bool.{false};
 ghost use Prim.Native.Nat.{_+_, _*_, _≤_};
 ghost use lib.ListN.{length};
+ghost use Rattle.factor.specs.Limits.{max-variables};
 ghost use Rattle.factor.specs.Factor.{lay};
 ghost use Rattle.plan.specs.Pass.{Ready, messagesOf};
 ghost use Rattle.slots.specs.Layouts.{dimOf, Listed};
@@ -29,6 +30,7 @@ ghost use Rattle.gaussian.specs.Elimination.{eliminate};
 ghost use Rattle.gaussian.specs.Answers.{answer, stored, viewsOf};
 ghost use Rattle.gaussian.specs.Asked.{Asked, Roomy};
 ghost use Rattle.tables.specs.Originals.{withHead};
+ghost use Rattle.lists.specs.Lists.{backward-shift};
 ghost use Rattle.messages.specs.Figure.{need};
 ghost use Rattle.messages.specs.Tables.{Carriable, PlacedTo, Tables, Before, AllStored};
 ghost use Rattle.messages.specs.Values.{values, stopFrom, finished};
@@ -135,7 +137,7 @@ pub fn place_pass(
     keys: &mut [usize],
     heads: &mut [usize],
 ) -> usize
-    requires { ⌜ Ready 32 p × Carriable g (messagesOf p) × (shift ≤ 32) × (start ≤ most-start) ⌝ }
+    requires { ⌜ Ready max-variables p × Carriable g (messagesOf p) × (shift ≤ backward-shift) × (start ≤ most-start) ⌝ }
     requires { ⌜ Tables g (now keys) (now heads) ⌝ }
     ensures { λ r. ⌜ r ≡ start + need g (messagesOf p) ⌝ }
     ensures { λ _. ⌜ Before shift (now (keys .entry)) (now (heads .entry)) (now (keys .exit)) (now (heads .exit)) ⌝ }
@@ -200,7 +202,7 @@ pub fn carry_pass(
     keys: &[usize],
     heads: &[usize],
 ) -> Carried
-    requires { ⌜ Ready 32 p × Carriable g (messagesOf p) × (shift ≤ 32) × (start ≤ most-start) ⌝ }
+    requires { ⌜ Ready max-variables p × Carriable g (messagesOf p) × (shift ≤ backward-shift) × (start ≤ most-start) ⌝ }
     requires { ⌜ Tables g (now keys) (now heads) × PlacedTo g (messagesOf p) shift start (now keys) (now heads) (length (messagesOf p)) ⌝ }
     requires { ⌜ (offset g (g .count) ≤ length (now factors)) × (start + need g (messagesOf p) ≤ length (now messages)) × (work-numbers ≤ length (now work)) ⌝ }
     ensures { λ r. ⌜ stopOf r ≡ stopFrom 0 (values g (now (factors .entry)) (messagesOf p)) ⌝ }

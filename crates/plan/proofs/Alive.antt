@@ -13,6 +13,7 @@ use borrow.Author.Tests.{le-leb, lt-leb, eq-eqb, ne-eqb}
 use lib.Bits.{bitAnd, bitOr, bitXor}
 use lib.Dec.{T, eqb, leb, eqb→eq, not-T}
 use lib.ListN.{getD}
+use Rattle.factor.specs.Limits.{max-variables}
 use Rattle.schedule.specs.Count.{mem, putIf, keep, from, joined, rising}
 use Rattle.schedule.specs.Pass.{Slot, ClosedFactor, at}
 use Rattle.schedule.specs.Gather.{messagesIn, upTo, within, alive-among, alive-messages}
@@ -135,12 +136,12 @@ module _ (t : ℕ) (p : Pass) where
   not-both true b = refl
   not-both false b = refl
 
-  pub done : (upto w i : ℕ) → AliveTo t p upto w i → p .count ≤ i → p .count ≤ 32 → Alive t p (bitXor upto (bitAnd upto w))
+  pub done : (upto w i : ℕ) → AliveTo t p upto w i → p .count ≤ i → p .count ≤ max-variables → Alive t p (bitXor upto (bitAnd upto w))
   unfolding alive-messages alive-among keysIn
   done upto w i a h f =
       let e : i ≡ p .count = omega (arith, a .here) in
       record {
-        is = rising-on (p .count) 32 (λ j. has j r) f (λ j l. sure-false (has j r) (not-T (has j r) (λ q. omega (arith, low j q))))
+        is = rising-on (p .count) max-variables (λ j. has j r) f (λ j l. sure-false (has j r) (not-T (has j r) (λ q. omega (arith, low j q))))
             ∙ rising-same (p .count) (λ j. has j r) (λ j. upTo t (at (messagesOf p) j) && not (mem j (within t (messagesOf p)))) both
             ∙ ap (λ (n : ℕ). rising n (λ j. upTo t (at (messagesOf p) j) && not (mem j (within t (messagesOf p))))) (sym (messages-length p));
         low = low;

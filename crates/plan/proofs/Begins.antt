@@ -11,8 +11,10 @@ use borrow.Author.Tests.{lt-ltb}
 use lib.Dec.{T}
 use lib.ListN.{length, length-append, getD, take, drop, replicate, length-replicate, getD-replicate, List·getD-eq-default, length-reverse}
 use lib.Seq.{take-at, drop-at, getD-take, take-suc, length-take-le}
+use Rattle.factor.specs.Limits.{max-variables, max-factors}
 use Rattle.schedule.specs.Count.{mem, from}
 use Rattle.schedule.specs.Pass.{Slot, original, closed, keysOf, after, step, full-pass}
+use Rattle.plan.specs.Limits.{pass-slots}
 use Rattle.plan.specs.Mask.{has}
 use Rattle.plan.specs.Pass.{pickSlot, slotOf, maskAt, messagesOf, Ready, Means, Steps, laid, Laid, Live, Order, Agrees, Begins, Passes}
 use Rattle.plan.specs.declared.pass.Pass.{Pass}
@@ -20,11 +22,11 @@ use Rattle.plan.proofs.Digits.{has-zero}
 use Rattle.plan.proofs.Prefixes.{map-take}
 use Rattle.plan.proofs.Membership.{mem-nil}
 
-slot-orig : (x : ℕ) → x < 64 → slotOf x ≡ original x
+slot-orig : (x : ℕ) → x < max-factors → slotOf x ≡ original x
 unfolding slotOf
-slot-orig x h = ap (λ (b : Bool). pickSlot b x) (lt-ltb x 64 h)
+slot-orig x h = ap (λ (b : Bool). pickSlot b x) (lt-ltb x max-factors h)
 
-originals : (l : List ℕ) → ((i : ℕ) → i < length l → getD l i 0 < 64) → map slotOf l ≡ map original l
+originals : (l : List ℕ) → ((i : ℕ) → i < length l → getD l i 0 < max-factors) → map slotOf l ≡ map original l
 originals [] h = refl
 originals (x ∷ l) h = ap₂ (λ (s : Slot) (t : List Slot). s ∷ t) (slot-orig x (h 0 (omega arith))) (originals l (λ i k. h (suc i) (omega arith)))
 
@@ -38,17 +40,17 @@ zero-at n i = go (decLt i n)
 abbrev pub begun : List ℕ → List ℕ → ℕ → Pass
 begun masks slots count = record {
   masks = masks;
-  cleared = replicate 32 0;
-  steps = replicate 32 0;
-  starts = replicate 32 0;
-  ends = replicate 32 0;
+  cleared = replicate max-variables 0;
+  steps = replicate max-variables 0;
+  starts = replicate max-variables 0;
+  ends = replicate max-variables 0;
   count = 0;
   active = 0;
-  board = record { slots = slots; used = count; content = replicate 96 0; filled = 0 };
+  board = record { slots = slots; used = count; content = replicate pass-slots 0; filled = 0 };
 }
 
-module _ (keys live masks slots : List ℕ) (count : ℕ) (long : length keys ≡ 64) (long' : length live ≡ 64) (lv : Live live count) (lm : masks ≡ laid keys) (ls : Laid live count slots) where
-  low : (i : ℕ) → i < count → getD slots i 0 < 96
+module _ (keys live masks slots : List ℕ) (count : ℕ) (long : length keys ≡ max-factors) (long' : length live ≡ max-factors) (lv : Live live count) (lm : masks ≡ laid keys) (ls : Laid live count slots) where
+  low : (i : ℕ) → i < count → getD slots i 0 < pass-slots
   low i h =
       omega (arith, lv .low i h, sym (getD-take count slots i 0 h) ∙ ap (λ (l : List ℕ). getD l i 0) (ls .first) ∙ getD-take count live i 0 h)
 
@@ -71,15 +73,15 @@ module _ (keys live masks slots : List ℕ) (count : ℕ) (long : length keys �
     ordered = λ j h. absurd (omega arith);
   }
     where
-      laid-long : length (keys ++ replicate 32 0) ≡ 96
-      laid-long = length-append keys (replicate 32 0) ∙ omega (arith, long)
+      laid-long : length (keys ++ replicate max-variables 0) ≡ pass-slots
+      laid-long = length-append keys (replicate max-variables 0) ∙ omega (arith, long)
 
   masks-are : (K : ℕ → List ℕ) → Agrees keys K → (s : Slot) (j : ℕ) → has j (maskAt masks s) ≡ mem j (keysOf K [] s)
   unfolding maskAt keysOf laid
-  masks-are K h (original i) j = ap (λ (m : List ℕ). has j (getD (take 64 m) i 0)) lm ∙ ap (λ (l : List ℕ). has j (getD l i 0)) (take-at keys (replicate 32 0) 64 long) ∙ h i j
+  masks-are K h (original i) j = ap (λ (m : List ℕ). has j (getD (take max-factors m) i 0)) lm ∙ ap (λ (l : List ℕ). has j (getD l i 0)) (take-at keys (replicate max-variables 0) max-factors long) ∙ h i j
   masks-are K h (closed i) j =
-      ap (λ (m : List ℕ). has j (getD (drop 64 m) i 0)) lm ∙ ap (λ (l : List ℕ). has j (getD l i 0)) (drop-at keys (replicate 32 0) 64 long)
-      ∙ ap (has j) (zero-at 32 i) ∙ has-zero j ∙ sym (mem-nil j)
+      ap (λ (m : List ℕ). has j (getD (drop max-factors m) i 0)) lm ∙ ap (λ (l : List ℕ). has j (getD l i 0)) (drop-at keys (replicate max-variables 0) max-factors long)
+      ∙ ap (has j) (zero-at max-variables i) ∙ has-zero j ∙ sym (mem-nil j)
 
   pub begins : Begins keys live count (begun masks slots count)
   unfolding after messagesOf from
@@ -105,7 +107,7 @@ reverse-take l t h = ap (λ (n : ℕ). reverse (take n l)) (add-one t) ∙ ap re
 abbrev pub Along : List ℕ → ℕ → Pass → ℕ → Pass → Type 0
 Along order n p₀ t p = (K : ℕ → List ℕ) (N : List ℕ) → Means n K p₀ (after n K N []) → Means n K p (after n K N (reverse (take t order)))
 
-pub along-more : (order : List ℕ) (n : ℕ) (p₀ : Pass) (t : ℕ) (p r : Pass) → length order ≡ 32 → Order order n → t < n → Along order n p₀ t p
+pub along-more : (order : List ℕ) (n : ℕ) (p₀ : Pass) (t : ℕ) (p r : Pass) → length order ≡ max-variables → Order order n → t < n → Along order n p₀ t p
     → Steps (getD order t 0) t p r → Along order n p₀ (t + 1) r
 unfolding after
 along-more order n p₀ t p r long o h inv s K N m =
@@ -114,6 +116,6 @@ along-more order n p₀ t p r long o h inv s K N m =
     (sym (length-reverse (take t order) ∙ length-take-le t order (omega (arith, o .few))))
     (s n K (after n K N (reverse (take t order))) (o .low t h) (inv K N m)))
 
-pub along-done : (keys live order : List ℕ) (count n : ℕ) (p₀ p : Pass) → n ≤ 32 → Begins keys live count p₀ → Along order n p₀ n p → Passes keys (take count live) (take n order) n p
+pub along-done : (keys live order : List ℕ) (count n : ℕ) (p₀ p : Pass) → n ≤ max-variables → Begins keys live count p₀ → Along order n p₀ n p → Passes keys (take count live) (take n order) n p
 unfolding full-pass
 along-done keys live order count n p₀ p f b inv K ag = inv K (take count live) (b n K f ag) .messages

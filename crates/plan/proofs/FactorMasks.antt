@@ -9,6 +9,7 @@ use native.Mathlib.Omega.{arith}
 use borrow.Author.Tests.{lt-ltb, le-ltb}
 use lib.ListN.{length, getD, set, length-set, replicate}
 use lib.Seq.{getD-set-same, getD-set-other}
+use Rattle.factor.specs.Limits.{max-factors}
 use Rattle.schedule.specs.Count.{mem}
 use Rattle.plan.specs.Mask.{has, Set}
 use Rattle.plan.specs.Factors.{ifSo, keysOf, keysAt, noKeys, Masked}
@@ -18,14 +19,14 @@ use Rattle.plan.proofs.Digits.{has-zero}
 use Rattle.plan.proofs.Membership.{mem-nil}
 
 pub record MaskedTo (factors : List FactorKeys) (r : List ℕ) (i : ℕ) : Type 0 where
-  pub long : length r ≡ 64
+  pub long : length r ≡ max-factors
   pub done : (k : ℕ) → k < i → Set (keysOf (getD factors k noKeys)) (getD r k 0)
   pub rest : (k : ℕ) → i ≤ k → getD r k 0 ≡ 0
 
-pub masked-none : (factors : List FactorKeys) → MaskedTo factors (replicate 64 0) 0
-masked-none factors = record { long = refl; done = λ k h. absurd (omega arith); rest = λ k h. zero-at 64 k }
+pub masked-none : (factors : List FactorKeys) → MaskedTo factors (replicate max-factors 0) 0
+masked-none factors = record { long = refl; done = λ k h. absurd (omega arith); rest = λ k h. zero-at max-factors k }
 
-pub masked-more : (factors : List FactorKeys) (r : List ℕ) (i m : ℕ) → i < 64 → MaskedTo factors r i → Set (keysOf (getD factors i noKeys)) m → MaskedTo factors (set r i m) (i + 1)
+pub masked-more : (factors : List FactorKeys) (r : List ℕ) (i m : ℕ) → i < max-factors → MaskedTo factors r i → Set (keysOf (getD factors i noKeys)) m → MaskedTo factors (set r i m) (i + 1)
 masked-more factors r i m h t s = record {
   long = length-set r i m ∙ t .long;
   done = λ k l. done k l (ℕ-discrete k i);

@@ -9,6 +9,7 @@ use native.Mathlib.Omega.{arith}
 use lib.Dec.{T, ltb→lt}
 use lib.ListN.{length, take, length-append, List·getD-append, List·getD-eq-default}
 use lib.Seq.{getD-append-seam, length-take-le}
+use Rattle.factor.specs.Limits.{max-variables, max-factors}
 use Rattle.schedule.specs.Count.{count, In, mem, keep, joined, from, rising}
 use Rattle.schedule.specs.Pass.{ClosedFactor, noMessage, at, State, keysOf, Walked, walk, touches, coupled, stays, append, sending, closing, step, after, full-pass}
 use Rattle.schedule.specs.Gather.{uncovered, gathering, gatherAt, gather}
@@ -81,14 +82,14 @@ forest p n K N order e each =
 
 -- ---- two passes
 module _ (fw bw : Pass) (live : List ℕ) (count' n : ℕ) (K : ℕ → List ℕ) (order : List ℕ)
-    (ef : messagesOf fw ≡ full-pass n K (take count' live) order) (eb : messagesOf bw ≡ full-pass n K (take count' live) (reverse order)) (long : length live ≡ 64) (lv : Live live count') (few : n ≤ 32)
+    (ef : messagesOf fw ≡ full-pass n K (take count' live) order) (eb : messagesOf bw ≡ full-pass n K (take count' live) (reverse order)) (long : length live ≡ max-factors) (lv : Live live count') (few : n ≤ max-variables)
     (rf : Ready n fw) (rb : Ready n bw)
     (distinct : (f : ℕ) → count f (take count' live) ≤ 1) (registered : (f j : ℕ) → In j (K f) → j < n) (each : (j : ℕ) → count j order ≡ count j (from 0 n)) where
   pub gatherable : (k : ℕ) → k < n → Gatherable fw bw live count' (place k order) (n - 1 - place k order)
   unfolding gather gatherAt gathering uncovered
   gatherable k l = record {
-    forward = ready-later n 32 fw (fw .active) few rf;
-    backward = ready-later n 32 bw (bw .active) few rb;
+    forward = ready-later n max-variables fw (fw .active) few rf;
+    backward = ready-later n max-variables bw (bw .active) few rb;
     forest = forest fw n K (take count' live) order ef each;
     forest' = forest bw n K (take count' live) (reverse order) eb (λ j. count-reverse j order ∙ each j);
     originals = lv;

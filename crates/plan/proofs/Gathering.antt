@@ -10,6 +10,7 @@ use lib.Bits.{bitAnd, bitOr, bitXor}
 use lib.Dec.{T, eqb, not-T}
 use lib.ListN.{length, getD, take, drop, length-append}
 use lib.Seq.{drop-at}
+use Rattle.factor.specs.Limits.{max-variables, max-factors}
 use Rattle.schedule.specs.Count.{mem, any, keep, joined}
 use Rattle.schedule.specs.Pass.{at}
 use Rattle.schedule.specs.Gather.{alive-messages, leaves, keysLast, uncovered, gathering, gatherAt}
@@ -30,15 +31,15 @@ not-both true b = refl
 not-both false b = refl
 
 -- the keys of a set but k
-last-is : (n : ℕ) (k touched own : ℕ) (ks : List ℕ) → n ≤ 32 → own ≡ 2 ^ k → ((j : ℕ) → j < 32 → has j touched ≡ mem j ks) → ((j : ℕ) → T (mem j ks) → j < n)
+last-is : (n : ℕ) (k touched own : ℕ) (ks : List ℕ) → n ≤ max-variables → own ≡ 2 ^ k → ((j : ℕ) → j < max-variables → has j touched ≡ mem j ks) → ((j : ℕ) → T (mem j ks) → j < n)
     → keysIn (bitXor touched (bitAnd touched own)) ≡ keysLast n k ks
 unfolding keysIn keysLast
 last-is n k touched own ks f e h low =
-    rising-same 32 (λ j. has j (bitXor touched (bitAnd touched own))) (λ j. mem j ks && not (eqb j k))
+    rising-same max-variables (λ j. has j (bitXor touched (bitAnd touched own))) (λ j. mem j ks && not (eqb j k))
     (λ j l.
     has-xor j touched (bitAnd touched own) ∙ ap (differs (has j touched)) (has-and j touched own) ∙ not-both (has j touched) (has j own)
     ∙ ap₂ (λ (x y : Bool). x && not y) (h j l) (ap (has j) e ∙ has-single j k))
-    ∙ rising-on n 32 (λ j. mem j ks && not (eqb j k)) f
+    ∙ rising-on n max-variables (λ j. mem j ks && not (eqb j k)) f
     (λ j l. sure-false (mem j ks && not (eqb j k)) (not-T (mem j ks && not (eqb j k)) (λ t. omega (arith, low j (and-l (mem j ks) (not (eqb j k)) t)))))
 
 low-joined : {A : Type 0} (n : ℕ) (g : A → List ℕ) (l : List A) (j : ℕ) → ((e : A) → T (mem j (g e)) → j < n) → T (mem j (joined g l)) → j < n
@@ -65,7 +66,7 @@ module _ (fw bw : Pass) (live : List ℕ) (count r s : ℕ) (pre : Gatherable fw
   abbrev U : List ℕ
   U = keep (λ i. not (mem i (A ++ B))) (take count live)
 
-  total : length A + length B + length U ≤ 64
+  total : length A + length B + length U ≤ max-factors
   total = omega (arith, pre .room, length-append (A ++ B) U, length-append A B)
 
   pub listable : Listable fw f e
@@ -124,7 +125,7 @@ module _ (fw bw : Pass) (live : List ℕ) (count r s : ℕ) (pre : Gatherable fw
                 hu j ∙ any-same (λ x. has j (getD keys x 0)) (λ x. mem j (K x)) (drop (two .count) (itemsOf all)) (λ x. ag' x j)
                 ∙ ap (any (λ x. mem j (K x))) rest-items ∙ sym (mem-joined j K U)
 
-            are : (j : ℕ) → j < 32 → has j touched ≡ mem j ((FK ++ BK) ++ joined K U)
+            are : (j : ℕ) → j < max-variables → has j touched ≡ mem j ((FK ++ BK) ++ joined K U)
             are j l =
                 has-or j (bitOr fk bk) uk
                 ∙ ap₂ (λ (x y : Bool). x || y)

@@ -12,6 +12,7 @@ use borrow.Author.Tests.{eq-eqb, ne-eqb}
 use lib.Dec.{T, eqb, lt→ltb}
 use lib.ListN.{length, getD, take, drop, set, length-set, length-append, length-reverse}
 use lib.Seq.{take-suc-set, drop-cons, getD-take, length-take-le, getD-set-same, getD-set-other}
+use Rattle.factor.specs.Limits.{max-variables, max-factors}
 use Rattle.schedule.specs.Count.{count, In, from}
 use Rattle.schedule.specs.Pass.{full-pass}
 use Rattle.schedule.specs.Gather.{gather, gatherAt}
@@ -112,30 +113,30 @@ module _ (keys live order : List ℕ) (number n : ℕ) (sound : Sound keys live 
   pub below : (K : ℕ → List ℕ) → Agrees keys K → (f j : ℕ) → In j (K f) → j < n
   below K ag f j h = sound .low f j (subst T (sym (ag f j)) (lt→ltb 0 (count j (K f)) h))
 
-  module _ (long : length live ≡ 64) (long' : length order ≡ 32) where
+  module _ (long : length live ≡ max-factors) (long' : length order ≡ max-variables) where
     order-long : length (take n order) ≡ n
     order-long = length-take-le n order (omega (arith, sound .few))
 
     pub placed : (k : ℕ) → k < n → place k (take n order) < n
-    placed k h = go (found-at k (take n order) (omega (arith, sound .each k, from-in k 0 n (omega arith) (omega arith))))
+    placed k h = go (found-at k (take n order) (omega (arith, sound .ordered .each k, from-in k 0 n (omega arith) (omega arith))))
       where
         go : (pre : List ℕ) × (q : List ℕ) × (take n order ≡ pre ++ (k ∷ q)) × (length pre ≡ place k (take n order)) → place k (take n order) < n
         go (pre, q, e, d) = omega (arith, ap length e, length-append pre (k ∷ q), order-long)
 
     pub in-order : Order order n
-    in-order = record { few = sound .few; low = low-of order n order-long (sound .each) }
+    in-order = record { few = sound .few; low = low-of order n order-long (sound .ordered .each) }
 
     pub in-back : (back : List ℕ) → take n back ≡ reverse (take n order) → Order back n
     in-back back e = record {
       few = sound .few;
-      low = low-of back n (ap length e ∙ length-reverse (take n order) ∙ order-long) (λ j. ap (count j) e ∙ count-reverse j (take n order) ∙ sound .each j);
+      low = low-of back n (ap length e ∙ length-reverse (take n order) ∙ order-long) (λ j. ap (count j) e ∙ count-reverse j (take n order) ∙ sound .ordered .each j);
     }
 
 -- Both passes of a sound graph, as the code has made them: the sizes of the arrays, the bounds, and what the messages are.
 pub record Both (keys live order : List ℕ) (number n : ℕ) (fw bw : Pass) : Type 0 where
   pub sound : Sound keys live number order n
-  pub long : length live ≡ 64
-  pub long' : length order ≡ 32
+  pub long : length live ≡ max-factors
+  pub long' : length order ≡ max-variables
   pub ready : Ready n fw
   pub ready' : Ready n bw
   pub forward : Passes keys (take number live) (take n order) n fw
@@ -153,8 +154,8 @@ module _ (keys live order : List ℕ) (number n : ℕ) (fw bw : Pass) (both : Bo
   may-gather k r s h e d =
       subst (λ (x : ℕ). Gatherable fw bw live number r x) (sym (d ∙ ap (λ (x : ℕ). n - 1 - x) e))
       (subst (λ (x : ℕ). Gatherable fw bw live number x (n - 1 - place k along)) (sym e)
-      (gatherable fw bw live number n (own keys) along (both .forward (own keys) agreed) (both .backward (own keys) agreed) (both .long) (both .sound .originals) (both .sound .few)
-      (both .ready) (both .ready') (both .sound .distinct) (below keys live order number n (both .sound) (own keys) agreed) (both .sound .each) k h))
+      (gatherable fw bw live number n (own keys) along (both .forward (own keys) agreed) (both .backward (own keys) agreed) (both .long) (both .sound .ordered .originals) (both .sound .few)
+      (both .ready) (both .ready') (both .sound .ordered .distinct) (below keys live order number n (both .sound) (own keys) agreed) (both .sound .ordered .each) k h))
     where
       agreed : Agrees keys (own keys)
       agreed = agrees keys live order number n (both .sound)
@@ -166,11 +167,11 @@ module _ (keys live order : List ℕ) (number n : ℕ) (fw bw : Pass) (both : Bo
   -- the first k gatherings are those of the definition
   pub record Planning (at : List Gathered) (k : ℕ) : Type 0 where
     pub here : k ≤ n
-    pub size : length at ≡ 32
+    pub size : length at ≡ max-variables
     pub is : (K : ℕ → List ℕ) → Agrees keys K → map gatheredOf (take k at) ≡ map (wanted K) (from 0 k)
     pub held : (i : ℕ) → i < k → Held (getD at i noGathered)
 
-  pub start : (at : List Gathered) → length at ≡ 32 → Planning at 0
+  pub start : (at : List Gathered) → length at ≡ max-variables → Planning at 0
   unfolding from
   start at l = record { here = omega arith; size = l; is = λ K ag. refl; held = λ i h. absurd (omega arith) }
 
@@ -178,8 +179,8 @@ module _ (keys live order : List ℕ) (number n : ℕ) (fw bw : Pass) (both : Bo
   unfolding gather
   got k r s g K ag e d h =
       h n K ag
-      (keyed fw bw live number n K along (both .forward K ag) (both .backward K ag) (both .long) (both .sound .originals) (both .sound .few) (both .ready) (both .ready') (both .sound .distinct)
-      (below keys live order number n (both .sound) K ag) (both .sound .each))
+      (keyed fw bw live number n K along (both .forward K ag) (both .backward K ag) (both .long) (both .sound .ordered .originals) (both .sound .few) (both .ready) (both .ready') (both .sound .ordered .distinct)
+      (below keys live order number n (both .sound) K ag) (both .sound .ordered .each))
       ∙ ap₂ (λ (x y : ℕ). gatherAt n K N (messagesOf fw) (messagesOf bw) x y k) e (d ∙ ap (λ (x : ℕ). n - 1 - x) e)
       ∙ ap₂ (λ (x y : List _). gatherAt n K N x y (place k along) (n - 1 - place k along) k) (both .forward K ag) (both .backward K ag)
 

@@ -7,8 +7,10 @@ use native.Mathlib.Numerals.{add-one}
 use native.Mathlib.Omega.{arith}
 use lib.ListN.{length, getD, take, set, length-set, length-append, length-reverse, length-reverseAux}
 use lib.Seq.{length-take-le, take-suc-set, drop-cons, getD-take, append-snoc}
+use Rattle.factor.specs.Limits.{max-variables, max-factors}
 use Rattle.schedule.specs.Pass.{Slot, original, closed}
 use Rattle.schedule.specs.Gather.{originalsIn, messagesIn}
+use Rattle.plan.specs.Limits.{pass-slots}
 use Rattle.plan.specs.Pass.{slotOf}
 use Rattle.plan.specs.Gather.{part, itemsOf, stackOf, Space, Visitable, Visited}
 use Rattle.plan.specs.declared.gather.Listing.{Listing}
@@ -24,30 +26,30 @@ abbrev pub with-message : Listing → ℕ → Listing
 with-message l x = record { items = l .items; count = l .count; stack = set (l .stack) (l .top) x; top = l .top + 1 }
 
 module _ (l : Listing) (x : ℕ) (s : Space l) where
-  pub item-space : l .count < 64 → x < 64 → Space (with-item l x)
+  pub item-space : l .count < max-factors → x < max-factors → Space (with-item l x)
   item-space h k = record {
     items = record {
       long = length-set (l .items) (l .count) x ∙ s .items .long;
       few = omega arith;
-      low = λ i q. low-set (l .items) (l .count) x i 64 (omega (arith, s .items .long)) k (λ n. s .items .low i (omega arith));
+      low = λ i q. low-set (l .items) (l .count) x i max-factors (omega (arith, s .items .long)) k (λ n. s .items .low i (omega arith));
     };
     long = s .long;
     few = s .few;
     low = s .low;
   }
 
-  pub item-items : l .count < 64 → itemsOf (with-item l x) ≡ itemsOf l ++ (x ∷ [])
+  pub item-items : l .count < max-factors → itemsOf (with-item l x) ≡ itemsOf l ++ (x ∷ [])
   item-items h = ap (λ (n : ℕ). take n (set (l .items) (l .count) x)) (add-one (l .count)) ∙ take-suc-set (l .items) (l .count) x (omega (arith, s .items .long))
 
-  pub message-space : l .top < 32 → x < 32 → Space (with-message l x)
+  pub message-space : l .top < max-variables → x < max-variables → Space (with-message l x)
   message-space h k = record {
     items = s .items;
     long = length-set (l .stack) (l .top) x ∙ s .long;
     few = omega arith;
-    low = λ i q. low-set (l .stack) (l .top) x i 32 (omega (arith, s .long)) k (λ n. s .low i (omega arith));
+    low = λ i q. low-set (l .stack) (l .top) x i max-variables (omega (arith, s .long)) k (λ n. s .low i (omega arith));
   }
 
-  pub message-stack : l .top < 32 → stackOf (with-message l x) ≡ x ∷ stackOf l
+  pub message-stack : l .top < max-variables → stackOf (with-message l x) ≡ x ∷ stackOf l
   message-stack h =
       ap (λ (n : ℕ). reverse (take n (set (l .stack) (l .top) x))) (add-one (l .top)) ∙ ap reverse (take-suc-set (l .stack) (l .top) x (omega (arith, s .long)))
       ∙ reverse-on (take (l .top) (l .stack)) x []
@@ -78,17 +80,17 @@ module _ (content : List ℕ) (a b : ℕ) (l₀ : Listing) (v : Visitable conten
     abbrev x : ℕ
     x = getD content i 0
 
-    low : x < 96
+    low : x < pass-slots
     low = v .codes .low i h
 
     cons : part i b content ≡ slotOf x ∷ part (i + 1) b content
     cons = part-cons content i b h (omega (arith, v .codes .few, v .codes .long))
 
-    module _ (k : x < 64) where
+    module _ (k : x < max-factors) where
       cons-orig : part i b content ≡ original x ∷ part (i + 1) b content
       cons-orig = cons ∙ ap (λ (s : Slot). s ∷ part (i + 1) b content) (slot-low x k)
 
-      pub orig-room : l .count < 64
+      pub orig-room : l .count < max-factors
       orig-room =
           omega (
             arith,
@@ -112,11 +114,11 @@ module _ (content : List ℕ) (a b : ℕ) (l₀ : Listing) (v : Visitable conten
         stack = ap (λ (s : List Slot). reverseAux (messagesIn s) (stackOf l)) (sym cons-orig) ∙ t .stack;
       }
 
-    module _ (k : 64 ≤ x) where
-      cons-msg : part i b content ≡ closed (x - 64) ∷ part (i + 1) b content
+    module _ (k : max-factors ≤ x) where
+      cons-msg : part i b content ≡ closed (x - max-factors) ∷ part (i + 1) b content
       cons-msg = cons ∙ ap (λ (s : Slot). s ∷ part (i + 1) b content) (slot-high x k)
 
-      pub msg-room : l .top < 32
+      pub msg-room : l .top < max-variables
       msg-room =
           omega (
             arith,
@@ -129,14 +131,14 @@ module _ (content : List ℕ) (a b : ℕ) (l₀ : Listing) (v : Visitable conten
             ap (λ (s : List Slot). length (messagesIn s)) cons-msg,
           )
 
-      pub visit-msg : Visiting (with-message l (x - 64)) (i + 1)
+      pub visit-msg : Visiting (with-message l (x - max-factors)) (i + 1)
       visit-msg = record {
         after = omega (arith, t .after);
         here = omega arith;
-        space = message-space l (x - 64) (t .space) msg-room (omega (arith, low));
+        space = message-space l (x - max-factors) (t .space) msg-room (omega (arith, low));
         items = ap (λ (s : List Slot). itemsOf l ++ originalsIn s) (sym cons-msg) ∙ t .items;
         stack =
-            ap (reverseAux (messagesIn (part (i + 1) b content))) (message-stack l (x - 64) (t .space) msg-room)
+            ap (reverseAux (messagesIn (part (i + 1) b content))) (message-stack l (x - max-factors) (t .space) msg-room)
             ∙ ap (λ (s : List Slot). reverseAux (messagesIn s) (stackOf l)) (sym cons-msg) ∙ t .stack;
       }
 

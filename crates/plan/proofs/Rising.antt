@@ -1,4 +1,4 @@
--- Keys and originals rising: the arrays that hold them, and that registered factors are then all that the plan asks.
+-- Keys and originals rising in arrays, and that registered factors with an order are all that the plan asks.
 -- Assumes nothing.
 use mathlib.Core.Path.{_≡_, refl, sym, ap, ap₂, subst, _∙_}
 use mathlib.Core.Bool.{Bool, true, false}
@@ -11,13 +11,14 @@ use native.Mathlib.Decide.{decLt}
 use borrow.Author.Tests.{lt-ltb, le-ltb}
 use lib.Dec.{T, ltb, ltb→lt}
 use lib.ListN.{length, getD, take, set, length-set}
-use lib.Seq.{getD-take, take-all, take-suc-set}
+use lib.Seq.{take-all, take-suc-set}
+use Rattle.factor.specs.Limits.{max-variables, max-factors}
 use Rattle.schedule.specs.Count.{count, In, from}
 use Rattle.schedule.proofs.Counts.{count-nil}
 use Rattle.schedule.proofs.Demand3.{from-once}
 use Rattle.plan.specs.Mask.{has}
 use Rattle.plan.specs.Factors.{ifSo, keysOf, keysAt, noKeys, Masked}
-use Rattle.plan.specs.Plan.{Registered, Sound}
+use Rattle.plan.specs.Plan.{Ordered, Registered, Sound}
 use Rattle.plan.specs.declared.factors.FactorKeys.{FactorKeys}
 use Rattle.plan.proofs.Membership.{from-snoc}
 
@@ -61,6 +62,16 @@ filled-done size r i t h =
     let e : i ≡ size = omega (arith, t .here) in
     sym (take-all size r (omega (arith, t .long))) ∙ subst (λ (m : ℕ). take m r ≡ from 0 m) e (t .is)
 
+-- Keys and originals rising name each key once, and no original twice.
+pub rising-ordered : (live order : List ℕ) (number n : ℕ) → live ≡ from 0 max-factors → order ≡ from 0 max-variables → number ≤ max-factors → n ≤ max-variables → Ordered live number order n
+rising-ordered live order number n el eo some few =
+    rw (el, eo)
+    (record {
+      originals = record { few = some; low = λ i h. omega (arith, from-at 0 max-factors i (omega arith)) };
+      distinct = λ f. omega (arith, ap (count f) (take-from 0 max-factors number some), from-once number f);
+      each = λ j. ap (count j) (take-from 0 max-variables n few);
+    })
+
 -- ---- what the plan asks
 module _ (factors : List FactorKeys) (number n : ℕ) (reg : Registered factors number n) (keys : List ℕ) (masked : Masked factors number keys) where
   -- a key of any set is registered
@@ -77,14 +88,5 @@ module _ (factors : List FactorKeys) (number n : ℕ) (reg : Registered factors 
       go (yes h) = reg .below i h j (put true (lt-ltb i number h))
       go (no h) = absurd (omega (arith, put false (le-ltb i number (omega arith)), count-nil j))
 
-  pub sound : (live order : List ℕ) → take number live ≡ from 0 number → take n order ≡ from 0 n → Sound keys live number order n
-  sound live order all rising = record {
-    few = reg .few;
-    low = low;
-    originals = record {
-      few = reg .some;
-      low = λ i h. omega (arith, reg .some, sym (getD-take number live i 0 h) ∙ ap (λ (l : List ℕ). getD l i 0) all ∙ from-at 0 number i h);
-    };
-    distinct = λ f. omega (arith, ap (count f) all, from-once number f);
-    each = λ j. ap (count j) rising;
-  }
+  pub sound : (live order : List ℕ) (lives : ℕ) → Ordered live lives order n → Sound keys live lives order n
+  sound live order lives o = record { few = reg .few; low = low; ordered = o }

@@ -13,9 +13,11 @@ use lib.Bits.{bitAnd}
 use lib.Dec.{T, not-T}
 use lib.ListN.{length, getD, take, drop, set, length-map, length-set, length-drop, List·getD-append, List·getD-eq-default, length-append}
 use lib.Seq.{getD-set-same, getD-set-other, take-set-le, drop-set-add, take-suc-set, take-take, getD-at}
+use Rattle.factor.specs.Limits.{max-variables, max-factors}
 use Rattle.schedule.specs.Count.{mem, any, joined, from, rising}
 use Rattle.schedule.specs.Pass.{Slot, original, closed, ClosedFactor, noMessage, at, State, keysOf, touches, Walked, walk, append}
 use Rattle.schedule.proofs.Counts.{and-l}
+use Rattle.plan.specs.Limits.{pass-slots}
 use Rattle.plan.specs.Mask.{has, keysIn, Union}
 use Rattle.plan.specs.Pass.{pickSlot, slotOf, maskAt, slotsOf, walking, Walks, msgAt, messagesOf, Ready, Means, sent}
 use Rattle.plan.specs.declared.pass.Board.{Board}
@@ -27,22 +29,22 @@ use Rattle.plan.proofs.Membership.{mem-joined, any-same, any-map, mem-r
 use Rattle.plan.proofs.Walking.{mask-at}
 use Rattle.plan.proofs.WalkTurns.{low-set}
 
-pub slot-msg : (c : ℕ) → slotOf (64 + c) ≡ closed c
+pub slot-msg : (c : ℕ) → slotOf (max-factors + c) ≡ closed c
 unfolding slotOf
-slot-msg c = ap (λ (b : Bool). pickSlot b (64 + c)) (le-ltb (64 + c) 64 (omega arith)) ∙ ap closed (omega arith)
+slot-msg c = ap (λ (b : Bool). pickSlot b (max-factors + c)) (le-ltb (max-factors + c) max-factors (omega arith)) ∙ ap closed (omega arith)
 
 pub messages-length : (p : Pass) → length (messagesOf p) ≡ p .count
 unfolding messagesOf
 messages-length p = length-map (from 0 (p .count)) (msgAt p) ∙ length-from 0 (p .count)
 
-pub keysIn-mem : (n m j : ℕ) → n ≤ 32 → (T (has j m) → j < n) → mem j (keysIn m) ≡ has j m
+pub keysIn-mem : (n m j : ℕ) → n ≤ max-variables → (T (has j m) → j < n) → mem j (keysIn m) ≡ has j m
 unfolding keysIn
-keysIn-mem n m j f h = mem-rising 32 (λ j. has j m) j (λ t. omega (arith, h t))
+keysIn-mem n m j f h = mem-rising max-variables (λ j. has j m) j (λ t. omega (arith, h t))
 
 -- the keys of a mask, by a test, all below n
-pub keysIn-is : (n m : ℕ) (p : ℕ → Bool) → n ≤ 32 → ((j : ℕ) → T (has j m) → j < n) → ((j : ℕ) → has j m ≡ p j) → keysIn m ≡ rising n p
+pub keysIn-is : (n m : ℕ) (p : ℕ → Bool) → n ≤ max-variables → ((j : ℕ) → T (has j m) → j < n) → ((j : ℕ) → has j m ≡ p j) → keysIn m ≡ rising n p
 unfolding keysIn
-keysIn-is n m p f h e = rising-on n 32 (λ j. has j m) f none ∙ ap (rising n) (fun-ext e)
+keysIn-is n m p f h e = rising-on n max-variables (λ j. has j m) f none ∙ ap (rising n) (fun-ext e)
   where
     none : (j : ℕ) → n ≤ j → has j m ≡ false
     none j l = sure-false (has j m) (not-T (has j m) (λ t. omega (arith, h j t)))
@@ -50,43 +52,43 @@ keysIn-is n m p f h e = rising-on n 32 (λ j. has j m) f none ∙ ap (rising n) 
 -- the pass after the message: w the board after the walk, ks the keys of its content
 abbrev pub with-message : Pass → Board → ℕ → ℕ → ℕ → Pass
 with-message p w ks cleared t = record {
-  masks = set (p .masks) (64 + p .count) (bitAnd (p .active) ks);
+  masks = set (p .masks) (max-factors + p .count) (bitAnd (p .active) ks);
   cleared = set (p .cleared) (p .count) cleared;
   steps = set (p .steps) (p .count) t;
   starts = set (p .starts) (p .count) (p .board .filled);
   ends = set (p .ends) (p .count) (w .filled);
   count = p .count + 1;
   active = p .active;
-  board = record { slots = set (w .slots) (w .used) (64 + p .count); used = w .used + 1; content = w .content; filled = w .filled };
+  board = record { slots = set (w .slots) (w .used) (max-factors + p .count); used = w .used + 1; content = w .content; filled = w .filled };
 }
 
-module _ (p : Pass) (w : Board) (ks cleared t : ℕ) (ready : Ready t p) (low : t < 32) (split : Walks (p .masks) cleared (p .board) w) where
+module _ (p : Pass) (w : Board) (ks cleared t : ℕ) (ready : Ready t p) (low : t < max-variables) (split : Walks (p .masks) cleared (p .board) w) where
   abbrev c : ℕ
   c = p .count
 
   abbrev r : Pass
   r = with-message p w ks cleared t
 
-  few : c < 32
+  few : c < max-variables
   few = omega (arith, ready .few)
 
-  space : w .used < 96
+  space : w .used < pass-slots
   space = omega (arith, ready .few, ready .total, split .sum)
 
   pub readied : Ready (t + 1) r
   readied = record {
     room = record {
       active = record {
-        long = length-set (w .slots) (w .used) (64 + c) ∙ split .room .active .long;
+        long = length-set (w .slots) (w .used) (max-factors + c) ∙ split .room .active .long;
         few = omega (arith, space);
-        low = λ k l. low-set (w .slots) (w .used) (64 + c) k 96 (omega (arith, space, split .room .active .long)) (omega (arith, few)) (λ q. split .room .active .low k (omega arith));
+        low = λ k l. low-set (w .slots) (w .used) (max-factors + c) k pass-slots (omega (arith, space, split .room .active .long)) (omega (arith, few)) (λ q. split .room .active .low k (omega arith));
       };
       contents = split .room .contents;
       room = omega (arith, few, ready .total, split .sum);
     };
     total = omega (arith, ready .total, split .sum);
     few = omega (arith, ready .few);
-    masks = length-set (p .masks) (64 + c) (bitAnd (p .active) ks) ∙ ready .masks;
+    masks = length-set (p .masks) (max-factors + c) (bitAnd (p .active) ks) ∙ ready .masks;
     cleared = length-set (p .cleared) c cleared ∙ ready .cleared;
     steps = length-set (p .steps) c t ∙ ready .steps;
     starts = length-set (p .starts) c (p .board .filled) ∙ ready .starts;
@@ -113,11 +115,11 @@ module _ (p : Pass) (w : Board) (ks cleared t : ℕ) (ready : Ready t p) (low : 
       closed j h (no e) = omega (arith, getD-set-other (p .ends) c j (w .filled) 0 e, ready .closed j (omega arith), split .more)
 
   -- the mask of a message
-  new-mask : getD (drop 64 (r .masks)) c 0 ≡ bitAnd (p .active) ks
-  new-mask = ap (λ (l : List ℕ). getD l c 0) (drop-set-add 64 (p .masks) c (bitAnd (p .active) ks)) ∙ getD-set-same (drop 64 (p .masks)) c (bitAnd (p .active) ks) 0 (omega (arith, few, length-drop 64 (p .masks), ready .masks))
+  new-mask : getD (drop max-factors (r .masks)) c 0 ≡ bitAnd (p .active) ks
+  new-mask = ap (λ (l : List ℕ). getD l c 0) (drop-set-add max-factors (p .masks) c (bitAnd (p .active) ks)) ∙ getD-set-same (drop max-factors (p .masks)) c (bitAnd (p .active) ks) 0 (omega (arith, few, length-drop max-factors (p .masks), ready .masks))
 
-  old-mask : (j : ℕ) → j ≢ c → getD (drop 64 (r .masks)) j 0 ≡ getD (drop 64 (p .masks)) j 0
-  old-mask j h = ap (λ (l : List ℕ). getD l j 0) (drop-set-add 64 (p .masks) c (bitAnd (p .active) ks)) ∙ getD-set-other (drop 64 (p .masks)) c j (bitAnd (p .active) ks) 0 h
+  old-mask : (j : ℕ) → j ≢ c → getD (drop max-factors (r .masks)) j 0 ≡ getD (drop max-factors (p .masks)) j 0
+  old-mask j h = ap (λ (l : List ℕ). getD l j 0) (drop-set-add max-factors (p .masks) c (bitAnd (p .active) ks)) ∙ getD-set-other (drop max-factors (p .masks)) c j (bitAnd (p .active) ks) 0 h
 
   old-content : (a e : ℕ) → e ≤ p .board .filled → drop a (take e (w .content)) ≡ drop a (take e (p .board .content))
   old-content a e h =
@@ -200,19 +202,19 @@ module _ (p : Pass) (w : Board) (ks cleared t : ℕ) (ready : Ready t p) (low : 
     masks-are : (s : Slot) (j : ℕ) → has j (maskAt (r .masks) s) ≡ mem j (keysOf K (ms ++ (new ∷ [])) s)
     unfolding maskAt keysOf
     masks-are (original i) j =
-        ap (λ (l : List ℕ). has j (getD l i 0)) (take-set-le 64 (p .masks) (64 + c) (bitAnd (p .active) ks) (omega arith)) ∙ m .masks (original i) j
+        ap (λ (l : List ℕ). has j (getD l i 0)) (take-set-le max-factors (p .masks) (max-factors + c) (bitAnd (p .active) ks) (omega arith)) ∙ m .masks (original i) j
     masks-are (closed i) j = go (ℕ-discrete i c)
       where
-        go : Dec (i ≡ c) → has j (getD (drop 64 (r .masks)) i 0) ≡ mem j ((at (ms ++ (new ∷ [])) i) .kept)
+        go : Dec (i ≡ c) → has j (getD (drop max-factors (r .masks)) i 0) ≡ mem j ((at (ms ++ (new ∷ [])) i) .kept)
         go (yes e) =
-            ap (λ (k : ℕ). has j (getD (drop 64 (r .masks)) k 0)) e ∙ ap (has j) new-mask ∙ sym (keysIn-mem n (bitAnd (p .active) ks) j (m .few) (kept-below j))
+            ap (λ (k : ℕ). has j (getD (drop max-factors (r .masks)) k 0)) e ∙ ap (has j) new-mask ∙ sym (keysIn-mem n (bitAnd (p .active) ks) j (m .few) (kept-below j))
             ∙ ap (mem j) kept-is ∙ ap (λ (x : ClosedFactor). mem j (x .kept)) (sym at-new) ∙ ap (λ (k : ℕ). mem j ((at (ms ++ (new ∷ [])) k) .kept)) (sym e)
         go (no e) = ap (has j) (old-mask i e) ∙ m .masks (closed i) j ∙ ap (λ (x : ClosedFactor). mem j (x .kept)) (sym (at-old i e))
 
     slots-are : slotsOf (r .board) ≡ W .left ++ (closed (length ms) ∷ [])
     slots-are =
-        ap (λ (k : ℕ). take k (map slotOf (r .board .slots))) (add-one (w .used)) ∙ ap (take (suc (w .used))) (map-set slotOf (w .slots) (w .used) (64 + c))
-        ∙ take-suc-set (map slotOf (w .slots)) (w .used) (slotOf (64 + c)) (omega (arith, space, length-map (w .slots) slotOf, split .room .active .long))
+        ap (λ (k : ℕ). take k (map slotOf (r .board .slots))) (add-one (w .used)) ∙ ap (take (suc (w .used))) (map-set slotOf (w .slots) (w .used) (max-factors + c))
+        ∙ take-suc-set (map slotOf (w .slots)) (w .used) (slotOf (max-factors + c)) (omega (arith, space, length-map (w .slots) slotOf, split .room .active .long))
         ∙ ap₂ (λ (x : List Slot) (s : Slot). x ++ (s ∷ [])) (split .left ∙ ap (λ (x : Walked). x .left) same-walk) (slot-msg c ∙ ap closed (sym long))
 
     pub sends : Means n K r (sent n K t st (st .active-keys) (keysIn cleared))

@@ -6,6 +6,7 @@ use Prim.Native.Nat.{ℕ, zero, suc, _+_, _-_, _≤_, _<_}
 use native.Mathlib.Omega.{arith}
 use lib.ListN.{length, getD, take, set, length-set, length-append, length-reverseAux}
 use lib.Seq.{take-suc-set}
+use Rattle.factor.specs.Limits.{max-variables, max-factors}
 use Rattle.schedule.specs.Count.{count, In, joined}
 use Rattle.schedule.specs.Pass.{Slot, ClosedFactor, at}
 use Rattle.schedule.specs.Gather.{originalsIn, messagesIn, under, leaves}
@@ -35,7 +36,7 @@ leaves-all : (ms : List ClosedFactor) → Older ms → (j : ℕ) → heavy ms (j
 unfolding leaves under
 leaves-all ms old j h = stack-all leafH ms old (length ms) (j ∷ []) h
 
-module _ (p : Pass) (ready : Ready 32 p) (forest : Forest p) where
+module _ (p : Pass) (ready : Ready max-variables p) (forest : Forest p) where
   abbrev ms : List ClosedFactor
   ms = messagesOf p
 
@@ -45,7 +46,7 @@ module _ (p : Pass) (ready : Ready 32 p) (forest : Forest p) where
   pub record Opening (l₀ l : Listing) : Type 0 where
     pub space : Space l
     pub items : itemsOf l ++ under-all (stackOf l) ≡ itemsOf l₀ ++ under-all (stackOf l₀)
-    pub room : l .count + length (under-all (stackOf l)) ≤ 64
+    pub room : l .count + length (under-all (stackOf l)) ≤ max-factors
     pub heavy : heavy ms (stackOf l) ≤ p .count
     pub low : (x : ℕ) → In x (stackOf l) → x < p .count
 
@@ -66,7 +67,7 @@ module _ (p : Pass) (ready : Ready 32 p) (forest : Forest p) where
         items = s .items;
         long = length-set (l .stack) 0 j ∙ s .long;
         few = omega arith;
-        low = λ i h. low-set (l .stack) 0 j i 32 (omega (arith, s .long)) (omega (arith, o .here, ready .few)) (λ n. absurd (n (omega arith)));
+        low = λ i h. low-set (l .stack) 0 j i max-variables (omega (arith, s .long)) (omega (arith, o .here, ready .few)) (λ n. absurd (n (omega arith)));
       };
       items = refl;
       room = omega (arith, o .room, ap length leaves-are, ap (λ (t : List ℕ). length (under-all t)) one);
@@ -119,7 +120,7 @@ module _ (p : Pass) (ready : Ready 32 p) (forest : Forest p) where
     weight =
         ap (heavy ms) stack-is ∙ heavy-step ms (forest .older) m (stackOf (popped l)) ∙ ap (λ (x : List Slot). suc (heavy ms (reverseAux (messagesIn x) (stackOf (popped l))))) content-is
 
-    pub top-low : m < 32
+    pub top-low : m < max-variables
     top-low = omega (arith, here, ready .few)
 
     popped-space : Space (popped l)

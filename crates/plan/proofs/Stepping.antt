@@ -9,6 +9,7 @@ use native.Mathlib.Omega.{arith}
 use lib.Bits.{bitAnd, bitOr, bitXor}
 use lib.Dec.{T, eqb, eqb→eq}
 use lib.ListN.{getD, take}
+use Rattle.factor.specs.Limits.{max-variables}
 use Rattle.schedule.specs.Count.{mem, any, keep, from, rising}
 use Rattle.schedule.specs.Pass.{ClosedFactor, State, keysOf, outside, keysIf, coupled, stays, append, sending, closing, step}
 use Rattle.schedule.proofs.Counts.{and-l, and-r, or-e}
@@ -35,7 +36,7 @@ keep-none p (x ∷ l) h = rw (h x) (keep-none p l h)
 
 keysIn-zero : keysIn 0 ≡ []
 unfolding keysIn rising
-keysIn-zero = keep-none (λ j. has j 0) (from 0 32) has-zero
+keysIn-zero = keep-none (λ j. has j 0) (from 0 max-variables) has-zero
 
 -- a message is sent where a key is cleared
 sending-sent : (n : ℕ) (K : ℕ → List ℕ) (t : ℕ) (st : State) (ak v : List ℕ) → v ≢ [] → sending n K t st ak v ≡ sent n K t st ak v

@@ -9,6 +9,7 @@ use native.Mathlib.Omega.{arith}
 use lib.Bits.{bitAnd}
 use lib.ListN.{length, getD, take, drop, length-append}
 use lib.Seq.{drop-cons, getD-take, length-take-le, append-snoc}
+use Rattle.factor.specs.Limits.{max-variables, max-factors}
 use Rattle.schedule.specs.Count.{mem, putIf, keep, from, joined, rising}
 use Rattle.schedule.specs.Gather.{leaves}
 use Rattle.schedule.proofs.Sums.{joined-append}
@@ -23,7 +24,7 @@ use Rattle.plan.proofs.Listings.{with-item, item-space, item-items, ite
 use Rattle.plan.proofs.Unions.{in-set, off-set, joined-in, joined-off, joined-zero, keysIn-below}
 
 -- ---- the originals that are not listed
-module _ (live : List ℕ) (count : ℕ) (l₀ : Listing) (long : length live ≡ 64) (lv : Live live count) (room : Coverable live count l₀) (space₀ : Space l₀) where
+module _ (live : List ℕ) (count : ℕ) (l₀ : Listing) (long : length live ≡ max-factors) (lv : Live live count) (room : Coverable live count l₀) (space₀ : Space l₀) where
   abbrev free : ℕ → Bool
   free x = not (mem x (itemsOf l₀))
 
@@ -51,7 +52,7 @@ module _ (live : List ℕ) (count : ℕ) (l₀ : Listing) (long : length live �
       cons-free : rest i ≡ x ∷ rest (i + 1)
       cons-free = cons ∙ ap (λ (b : Bool). putIf (not b) x (rest (i + 1))) (sym (are x) ∙ off-set set x s e z)
 
-      pub free-room : l .count < 64
+      pub free-room : l .count < max-factors
       free-room =
           omega (
             arith,
@@ -90,7 +91,7 @@ module _ (live : List ℕ) (count : ℕ) (l₀ : Listing) (long : length live �
       all = sym (append-nil (itemsOf l)) ∙ ap (λ (r : List ℕ). itemsOf l ++ r) (sym (ap (keep free) (drop-none i count live h) ∙ keep-nil free)) ∙ t .items
 
 -- ---- the leaves under the messages of a set
-module _ (p : Pass) (set : ℕ) (l₀ : Listing) (few : p .count ≤ 32) (ls : Listable p set l₀) (space₀ : Space l₀) where
+module _ (p : Pass) (set : ℕ) (l₀ : Listing) (few : p .count ≤ max-variables) (ls : Listable p set l₀) (space₀ : Space l₀) where
   abbrev under : ℕ → List ℕ
   under j = joined (leaves (messagesOf p)) (rising j (λ k. has k set))
 

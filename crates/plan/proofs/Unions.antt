@@ -12,6 +12,7 @@ use lib.Bits.{bitAnd, bitOr}
 use lib.Dec.{T, eqb, eqb→eq, eqb-refl, not-T}
 use lib.ListN.{length, getD, take, drop}
 use lib.Seq.{take-suc, getD-drop}
+use Rattle.factor.specs.Limits.{max-variables, max-factors}
 use Rattle.schedule.specs.Count.{mem, any, putIf, keep, from, joined, rising}
 use Rattle.schedule.specs.Pass.{Slot, original, closed, ClosedFactor, noMessage, at}
 use Rattle.schedule.specs.Gather.{messagesIn}
@@ -54,13 +55,13 @@ set-take l i r s h inv e =
     (set-append (take i l) (getD l i 0 ∷ []) r s inv (set-one (getD l i 0) s e))
 
 -- ---- a slot by its number
-pub slot-low : (x : ℕ) → x < 64 → slotOf x ≡ original x
+pub slot-low : (x : ℕ) → x < max-factors → slotOf x ≡ original x
 unfolding slotOf
-slot-low x h = ap (λ (b : Bool). pickSlot b x) (lt-ltb x 64 h)
+slot-low x h = ap (λ (b : Bool). pickSlot b x) (lt-ltb x max-factors h)
 
-pub slot-high : (x : ℕ) → 64 ≤ x → slotOf x ≡ closed (x - 64)
+pub slot-high : (x : ℕ) → max-factors ≤ x → slotOf x ≡ closed (x - max-factors)
 unfolding slotOf
-slot-high x h = ap (λ (b : Bool). pickSlot b x) (le-ltb x 64 h)
+slot-high x h = ap (λ (b : Bool). pickSlot b x) (le-ltb x max-factors h)
 
 part-more : (content : List ℕ) (a i : ℕ) → a ≤ i → i < length content → part a (i + 1) content ≡ part a i content ++ (slotOf (getD content i 0) ∷ [])
 part-more content a i h l =
@@ -74,12 +75,12 @@ module _ (content : List ℕ) (a i r : ℕ) (h : a ≤ i) (l : i < length conten
   messages : messagesIn (part a (i + 1) content) ≡ messagesIn (part a i content) ++ messagesIn (slotOf x ∷ [])
   messages = ap messagesIn (part-more content a i h l) ∙ msgs-append (part a i content) (slotOf x ∷ [])
 
-  pub inner-msg : (s : ℕ) → 64 ≤ x → s ≡ 2 ^ (x - 64) → Set (messagesIn (part a (i + 1) content)) (bitOr r s)
+  pub inner-msg : (s : ℕ) → max-factors ≤ x → s ≡ 2 ^ (x - max-factors) → Set (messagesIn (part a (i + 1) content)) (bitOr r s)
   inner-msg s k e =
       subst (λ (t : List ℕ). Set t (bitOr r s)) (sym (messages ∙ ap (λ (t : Slot). messagesIn (part a i content) ++ messagesIn (t ∷ [])) (slot-high x k)))
-      (set-append (messagesIn (part a i content)) ((x - 64) ∷ []) r s inv (set-one (x - 64) s e))
+      (set-append (messagesIn (part a i content)) ((x - max-factors) ∷ []) r s inv (set-one (x - max-factors) s e))
 
-  pub inner-orig : x < 64 → Set (messagesIn (part a (i + 1) content)) r
+  pub inner-orig : x < max-factors → Set (messagesIn (part a (i + 1) content)) r
   inner-orig k =
       subst (λ (t : List ℕ). Set t r) (sym (messages ∙ ap (λ (t : Slot). messagesIn (part a i content) ++ messagesIn (t ∷ [])) (slot-low x k) ∙ append-nil (messagesIn (part a i content)))) inv
 
@@ -155,28 +156,28 @@ pub joined-zero : (g : ℕ → List ℕ) (p : ℕ → Bool) → joined g (rising
 joined-zero g p = ap (joined g) (rising-zero p) ∙ joined-nil g
 
 -- the numbers of a set that are all below n
-pub keysIn-below : (n set : ℕ) → n ≤ 32 → ((j : ℕ) → T (has j set) → j < n) → keysIn set ≡ rising n (λ j. has j set)
+pub keysIn-below : (n set : ℕ) → n ≤ max-variables → ((j : ℕ) → T (has j set) → j < n) → keysIn set ≡ rising n (λ j. has j set)
 unfolding keysIn
-keysIn-below n set f h = rising-on n 32 (λ j. has j set) f (λ j l. sure-false (has j set) (not-T (has j set) (λ t. omega (arith, h j t))))
+keysIn-below n set f h = rising-on n max-variables (λ j. has j set) f (λ j l. sure-false (has j set) (not-T (has j set) (λ t. omega (arith, h j t))))
 
-kept-mask : (p : Pass) (j : ℕ) → j < p .count → keptAt p j ≡ keysIn (getD (p .masks) (64 + j) 0)
+kept-mask : (p : Pass) (j : ℕ) → j < p .count → keptAt p j ≡ keysIn (getD (p .masks) (max-factors + j) 0)
 unfolding msgAt
-kept-mask p j h = ap (λ (m : ClosedFactor). m .kept) (at-msg p j h) ∙ ap keysIn (getD-drop 64 (p .masks) j 0)
+kept-mask p j h = ap (λ (m : ClosedFactor). m .kept) (at-msg p j h) ∙ ap keysIn (getD-drop max-factors (p .masks) j 0)
 
-low-mem : (m i : ℕ) → i < 32 → has i m ≡ mem i (keysIn m)
+low-mem : (m i : ℕ) → i < max-variables → has i m ≡ mem i (keysIn m)
 unfolding keysIn
-low-mem m i h = sym (mem-rising 32 (λ j. has j m) i (λ t. h))
+low-mem m i h = sym (mem-rising max-variables (λ j. has j m) i (λ t. h))
 
 abbrev pub KeptTo : Pass → ℕ → ℕ → ℕ → Type 0
-KeptTo p set j r = (i : ℕ) → i < 32 → has i r ≡ mem i (joined (keptAt p) (rising j (λ k. has k set)))
+KeptTo p set j r = (i : ℕ) → i < max-variables → has i r ≡ mem i (joined (keptAt p) (rising j (λ k. has k set)))
 
 pub kept-none : (p : Pass) (set : ℕ) → KeptTo p set 0 0
 kept-none p set i h = has-zero i ∙ sym (mem-nil i) ∙ ap (mem i) (sym (joined-zero (keptAt p) (λ k. has k set)))
 
-pub kept-in : (p : Pass) (set j r : ℕ) → j < p .count → has j set ≡ true → KeptTo p set j r → KeptTo p set (j + 1) (bitOr r (getD (p .masks) (64 + j) 0))
+pub kept-in : (p : Pass) (set j r : ℕ) → j < p .count → has j set ≡ true → KeptTo p set j r → KeptTo p set (j + 1) (bitOr r (getD (p .masks) (max-factors + j) 0))
 kept-in p set j r h e inv i l =
-    has-or i r (getD (p .masks) (64 + j) 0)
-    ∙ ap₂ (λ (x y : Bool). x || y) (inv i l) (low-mem (getD (p .masks) (64 + j) 0) i l ∙ ap (mem i) (sym (kept-mask p j h)))
+    has-or i r (getD (p .masks) (max-factors + j) 0)
+    ∙ ap₂ (λ (x y : Bool). x || y) (inv i l) (low-mem (getD (p .masks) (max-factors + j) 0) i l ∙ ap (mem i) (sym (kept-mask p j h)))
     ∙ sym (mem-append i (joined (keptAt p) (rising j (λ k. has k set))) (keptAt p j))
     ∙ ap (mem i) (sym (joined-in (keptAt p) (λ k. has k set) j e))
 

@@ -14,6 +14,7 @@ use lib.ListN.{length, getD, take, drop, set, length-map, length-set, List·getD
 use lib.Seq.{getD-set-same, getD-set-other, take-set-le}
 use Rattle.schedule.specs.Pass.{Slot, Walked, walk}
 use Rattle.schedule.proofs.Walks.{ahead}
+use Rattle.plan.specs.Limits.{pass-slots}
 use Rattle.plan.specs.Mask.{meets}
 use Rattle.plan.specs.Pass.{slotOf, maskAt, Room, walking, Walks}
 use Rattle.plan.specs.declared.pass.Board.{Board}
@@ -73,8 +74,8 @@ module _ (masks : List ℕ) (cleared : ℕ) where
         let f = b .filled in
         let room = t .room in
         let e : b .used ≡ suc u = omega arith in
-        let ls : length S ≡ 96 = length-map (b .slots) slotOf ∙ t .room .active .long in
-        let lc : length C ≡ 96 = length-map (b .content) slotOf ∙ t .room .contents .long in
+        let ls : length S ≡ pass-slots = length-map (b .slots) slotOf ∙ t .room .active .long in
+        let lc : length C ≡ pass-slots = length-map (b .content) slotOf ∙ t .room .contents .long in
         record {
           here = omega arith;
           whole =
@@ -94,12 +95,12 @@ module _ (masks : List ℕ) (cleared : ℕ) where
             active = record {
               long = length-set (b .slots) i (getD (b .slots) u 0) ∙ t .room .active .long;
               few = omega (arith, t .room .active .few);
-              low = λ k l. low-set (b .slots) i (getD (b .slots) u 0) k 96 (omega (arith, t .room .active .few, t .room .active .long)) (t .room .active .low u (omega arith)) (λ q. t .room .active .low k (omega arith));
+              low = λ k l. low-set (b .slots) i (getD (b .slots) u 0) k pass-slots (omega (arith, t .room .active .few, t .room .active .long)) (t .room .active .low u (omega arith)) (λ q. t .room .active .low k (omega arith));
             };
             contents = record {
               long = length-set (b .content) f (getD (b .slots) i 0) ∙ t .room .contents .long;
               few = omega (arith, t .room .room);
-              low = λ k l. low-set (b .content) f (getD (b .slots) i 0) k 96 (omega (arith, t .room .room, t .room .contents .long)) (t .room .active .low i h) (λ q. t .room .contents .low k (omega arith));
+              low = λ k l. low-set (b .content) f (getD (b .slots) i 0) k pass-slots (omega (arith, t .room .room, t .room .contents .long)) (t .room .active .low i h) (λ q. t .room .contents .low k (omega arith));
             };
             room = omega (arith, t .room .room);
           };

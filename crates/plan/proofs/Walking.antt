@@ -9,6 +9,7 @@ use lib.ListN.{length, getD, take, drop, set}
 use lib.Seq.{take-suc, length-take-le, drop-append-le, drop-cons, getD-take, getD-drop, take-set-le, take-suc-set}
 use borrow.Author.Tests.{ltb-true, ltb-false}
 use lib.Dec.{ltb}
+use Rattle.factor.specs.Limits.{max-factors}
 use Rattle.schedule.specs.Pass.{Slot, Walked, lastOf, initOf, filled, walk}
 use Rattle.schedule.proofs.Walks.{ahead, walk-on-taken, walk-on-left}
 use Rattle.plan.specs.Pass.{pickSlot, slotOf, maskAt}
@@ -62,8 +63,8 @@ module _ (p : Slot → Bool) (S C : List Slot) (i f f₀ : ℕ) (d : Slot) where
 -- the mask of a slot by its number
 pub mask-at : (masks : List ℕ) (x : ℕ) → maskAt masks (slotOf x) ≡ getD masks x 0
 unfolding slotOf maskAt
-mask-at masks x = go (ltb x 64) refl
+mask-at masks x = go (ltb x max-factors) refl
   where
-    go : (b : Bool) → ltb x 64 ≡ b → maskAt masks (pickSlot b x) ≡ getD masks x 0
-    go true e = getD-take 64 masks x 0 (ltb-true x 64 e)
-    go false e = getD-drop 64 masks (x - 64) 0 ∙ ap (λ (n : ℕ). getD masks n 0) (omega (arith, ltb-false x 64 e))
+    go : (b : Bool) → ltb x max-factors ≡ b → maskAt masks (pickSlot b x) ≡ getD masks x 0
+    go true e = getD-take max-factors masks x 0 (ltb-true x max-factors e)
+    go false e = getD-drop max-factors masks (x - max-factors) 0 ∙ ap (λ (n : ℕ). getD masks n 0) (omega (arith, ltb-false x max-factors e))

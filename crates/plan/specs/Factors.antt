@@ -6,7 +6,7 @@ use mathlib.Core.List.{List, []}
 use Prim.Native.Nat.{ℕ, _≤_, _<_}
 use lib.Dec.{ltb}
 use lib.ListN.{length, getD, take}
-use Rattle.factor.specs.Limits.{max-keys}
+use Rattle.factor.specs.Limits.{max-variables, max-keys}
 use Rattle.plan.specs.Pass.{Agrees}
 use Rattle.plan.specs.declared.factors.FactorKeys.{FactorKeys}
 
@@ -18,7 +18,7 @@ keysOf f = take (f .touched) (f .keys)
 pub record Fits (f : FactorKeys) : Type 0 where
   pub long : length (f .keys) ≡ max-keys
   pub few : f .touched ≤ max-keys
-  pub low : (i : ℕ) → i < f .touched → getD (f .keys) i 0 < 32
+  pub low : (i : ℕ) → i < f .touched → getD (f .keys) i 0 < max-variables
 
 abbrev pub noKeys : FactorKeys
 noKeys = record { touched = 0; keys = [] }

@@ -6,6 +6,7 @@ use mathlib.Core.List.{List, [], _∷_, _++_, map, reverse, reverseAux}
 use Prim.Native.Nat.{ℕ, _+_, _≤_, _<_}
 use lib.Dec.{T}
 use lib.ListN.{length, getD, take, drop}
+use Rattle.factor.specs.Limits.{max-variables, max-factors}
 use Rattle.schedule.specs.Count.{mem, keep, joined}
 use Rattle.schedule.specs.Pass.{Slot, at}
 use Rattle.schedule.specs.Gather.{originalsIn, messagesIn, alive-messages, leaves, gatherAt}
@@ -33,9 +34,9 @@ pub record Alive (t : ℕ) (p : Pass) (r : ℕ) : Type 0 where
 -- ---- A listing
 -- the first `count` are numbers of originals
 pub record Items (count : ℕ) (items : List ℕ) : Type 0 where
-  pub long : length items ≡ 64
-  pub few : count ≤ 64
-  pub low : (i : ℕ) → i < count → getD items i 0 < 64
+  pub long : length items ≡ max-factors
+  pub few : count ≤ max-factors
+  pub low : (i : ℕ) → i < count → getD items i 0 < max-factors
 
 abbrev pub itemsOf : Listing → List ℕ
 itemsOf l = take (l .count) (l .items)
@@ -46,17 +47,17 @@ stackOf l = reverse (take (l .top) (l .stack))
 
 pub record Space (l : Listing) : Type 0 where
   pub items : Items (l .count) (l .items)
-  pub long : length (l .stack) ≡ 32
-  pub few : l .top ≤ 32
-  pub low : (i : ℕ) → i < l .top → getD (l .stack) i 0 < 32
+  pub long : length (l .stack) ≡ max-variables
+  pub few : l .top ≤ max-variables
+  pub low : (i : ℕ) → i < l .top → getD (l .stack) i 0 < max-variables
 
 -- One message is opened: there is room for its originals and its messages; the originals are listed, the messages pushed.
 pub record Visitable (content : List ℕ) (a b : ℕ) (l : Listing) : Type 0 where
   pub space : Space l
   pub codes : Codes b content
   pub ordered : a ≤ b
-  pub room : l .count + length (originalsIn (part a b content)) ≤ 64
-  pub stack : l .top + length (messagesIn (part a b content)) ≤ 32
+  pub room : l .count + length (originalsIn (part a b content)) ≤ max-factors
+  pub stack : l .top + length (messagesIn (part a b content)) ≤ max-variables
 
 pub record Visited (content : List ℕ) (a b : ℕ) (l r : Listing) : Type 0 where
   pub space : Space r
@@ -72,7 +73,7 @@ pub record Forest (p : Pass) : Type 0 where
 pub record Openable (p : Pass) (j : ℕ) (l : Listing) : Type 0 where
   pub forest : Forest p
   pub here : j < p .count
-  pub room : l .count + length (leaves (messagesOf p) j) ≤ 64
+  pub room : l .count + length (leaves (messagesOf p) j) ≤ max-factors
 
 pub record Opened (p : Pass) (j : ℕ) (l r : Listing) : Type 0 where
   pub space : Space r
@@ -82,7 +83,7 @@ pub record Opened (p : Pass) (j : ℕ) (l r : Listing) : Type 0 where
 pub record Listable (p : Pass) (set : ℕ) (l : Listing) : Type 0 where
   pub forest : Forest p
   pub low : (j : ℕ) → T (has j set) → j < p .count
-  pub room : l .count + length (joined (leaves (messagesOf p)) (keysIn set)) ≤ 64
+  pub room : l .count + length (joined (leaves (messagesOf p)) (keysIn set)) ≤ max-factors
 
 pub record Listed (p : Pass) (set : ℕ) (l r : Listing) : Type 0 where
   pub space : Space r
@@ -93,7 +94,7 @@ abbrev pub others : (live : List ℕ) (count : ℕ) → Listing → List ℕ
 others live count l = keep (λ i. not (mem i (itemsOf l))) (take count live)
 
 abbrev pub Coverable : (live : List ℕ) (count : ℕ) → Listing → Type 0
-Coverable live count l = l .count + length (others live count l) ≤ 64
+Coverable live count l = l .count + length (others live count l) ≤ max-factors
 
 pub record Covered (live : List ℕ) (count : ℕ) (l r : Listing) : Type 0 where
   pub space : Space r
@@ -102,7 +103,7 @@ pub record Covered (live : List ℕ) (count : ℕ) (l r : Listing) : Type 0 wher
 
 -- r is the set of the kept keys of the messages of a set
 abbrev pub Kept : Pass → (set r : ℕ) → Type 0
-Kept p set r = ((j : ℕ) → T (has j set) → j < p .count) → (i : ℕ) → i < 32 → has i r ≡ mem i (joined (λ j. (at (messagesOf p) j) .kept) (keysIn set))
+Kept p set r = ((j : ℕ) → T (has j set) → j < p .count) → (i : ℕ) → i < max-variables → has i r ≡ mem i (joined (λ j. (at (messagesOf p) j) .kept) (keysIn set))
 
 -- ---- The whole gathering
 -- the leaves under all gathered messages, and after them the uncovered originals
@@ -114,12 +115,12 @@ listedAt fw bw N r s = leavesAt fw bw r s ++ keep (λ i. not (mem i (leavesAt fw
 
 -- What the gathering asks of the two passes; demand 3 gives it, since every original is then listed once.
 pub record Gatherable (fw bw : Pass) (live : List ℕ) (count r s : ℕ) : Type 0 where
-  pub forward : Ready 32 fw
-  pub backward : Ready 32 bw
+  pub forward : Ready max-variables fw
+  pub backward : Ready max-variables bw
   pub forest : Forest fw
   pub forest' : Forest bw
   pub originals : Live live count
-  pub room : length (listedAt fw bw (take count live) r s) ≤ 64
+  pub room : length (listedAt fw bw (take count live) r s) ≤ max-factors
 
 -- what the answer means
 unfoldable pub gatheredOf : Gathered → lists.Gathered
@@ -139,7 +140,7 @@ pub record Held (g : Gathered) : Type 0 where
 
 -- every key is below n
 pub record Keyed (n : ℕ) (K : ℕ → List ℕ) (fw bw : Pass) : Type 0 where
-  pub few : n ≤ 32
+  pub few : n ≤ max-variables
   pub originals : (i j : ℕ) → T (mem j (K i)) → j < n
   pub forward : (i j : ℕ) → T (mem j ((at (messagesOf fw) i) .kept)) → j < n
   pub backward : (i j : ℕ) → T (mem j ((at (messagesOf bw) i) .kept)) → j < n

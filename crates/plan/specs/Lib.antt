@@ -1,4 +1,5 @@
 -- What the arrays of the code mean, in the terms of the crate `schedule`.
+pub mod Limits
 pub mod Mask
 pub mod Pass
 pub mod Gather

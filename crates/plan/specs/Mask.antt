@@ -7,6 +7,7 @@ use Prim.Native.Nat.{ℕ, zero, suc, _/_, _%_, _≤_, _<_}
 use lib.Dec.{eqb}
 use lib.Bits.{bitAnd}
 use lib.ListN.{length, getD, take, drop}
+use Rattle.factor.specs.Limits.{max-variables}
 use Rattle.schedule.specs.Count.{mem, any, rising}
 
 -- j is in the set m: the digit j of m is 1
@@ -17,7 +18,7 @@ has (suc j) m = has j (m / 2)
 -- the members of a set of keys, rising
 unfoldable pub keysIn : (m : ℕ) → List ℕ
 unfolding rising has
-keysIn m = rising 32 (λ j. has j m)
+keysIn m = rising max-variables (λ j. has j m)
 
 -- r is the set of the numbers of a list
 abbrev pub Set : List ℕ → (r : ℕ) → Type 0

@@ -7,30 +7,32 @@ use mathlib.Core.List.{List, [], _++_, map}
 use Prim.Native.Nat.{ℕ, _+_, _-_, _≤_, _<_}
 use lib.Dec.{T, ltb}
 use lib.ListN.{length, getD, take, drop, replicate}
+use Rattle.factor.specs.Limits.{max-variables, max-factors}
 use Rattle.schedule.specs.Count.{any, from, mem}
 use Rattle.schedule.specs.Pass.{Slot, original, closed, ClosedFactor, State, keysOf, touches, Walked, walk, append, step, after, full-pass}
+use Rattle.plan.specs.Limits.{pass-slots}
 use Rattle.plan.specs.Mask.{has, keysIn, strays, meets}
 use Rattle.plan.specs.declared.pass.Board.{Board}
 use Rattle.plan.specs.declared.pass.Pass.{Pass}
 
--- A slot by its number: an original below 64, a message from 64 on.
+-- A slot by its number: an original has its own, the messages follow all originals.
 abbrev pub pickSlot : Bool → ℕ → Slot
 pickSlot true x = original x
-pickSlot false x = closed (x - 64)
+pickSlot false x = closed (x - max-factors)
 
 unfoldable pub slotOf : ℕ → Slot
-slotOf x = pickSlot (ltb x 64) x
+slotOf x = pickSlot (ltb x max-factors) x
 
 -- the key set of a slot, in the array of all masks
 unfoldable pub maskAt : (masks : List ℕ) → Slot → ℕ
-maskAt masks (original i) = getD (take 64 masks) i 0
-maskAt masks (closed j) = getD (drop 64 masks) j 0
+maskAt masks (original i) = getD (take max-factors masks) i 0
+maskAt masks (closed j) = getD (drop max-factors masks) j 0
 
 -- the first `used` are numbers of slots
 pub record Codes (used : ℕ) (slots : List ℕ) : Type 0 where
-  pub long : length slots ≡ 96
-  pub few : used ≤ 96
-  pub low : (i : ℕ) → i < used → getD slots i 0 < 96
+  pub long : length slots ≡ pass-slots
+  pub few : used ≤ pass-slots
+  pub low : (i : ℕ) → i < used → getD slots i 0 < pass-slots
 
 -- r is the set of the coupled keys, of the slots l
 abbrev pub Coupled : (masks : List ℕ) (active : ℕ) (l : List ℕ) (r : ℕ) → Type 0
@@ -45,7 +47,7 @@ slotsOf b = take (b .used) (map slotOf (b .slots))
 pub record Room (b : Board) : Type 0 where
   pub active : Codes (b .used) (b .slots)
   pub contents : Codes (b .filled) (b .content)
-  pub room : b .used + b .filled ≤ 96
+  pub room : b .used + b .filled ≤ pass-slots
 
 -- the walk of the definition, over a board's slots
 abbrev pub walking : (masks : List ℕ) (cleared : ℕ) → Board → Walked
@@ -67,7 +69,7 @@ unfolding slotOf keysIn
 msgAt p j = record {
   step = getD (p .steps) j 0;
   content = map slotOf (drop (getD (p .starts) j 0) (take (getD (p .ends) j 0) (p .board .content)));
-  kept = keysIn (getD (drop 64 (p .masks)) j 0);
+  kept = keysIn (getD (drop max-factors (p .masks)) j 0);
   cleared = keysIn (getD (p .cleared) j 0);
 }
 
@@ -80,19 +82,19 @@ messagesOf p = map (msgAt p) (from 0 (p .count))
 -- the originals and the messages at most.
 pub record Ready (t : ℕ) (p : Pass) : Type 0 where
   pub room : Room (p .board)
-  pub total : p .board .used + p .board .filled ≤ 64 + p .count
+  pub total : p .board .used + p .board .filled ≤ max-factors + p .count
   pub few : p .count ≤ t
-  pub masks : length (p .masks) ≡ 96
-  pub cleared : length (p .cleared) ≡ 32
-  pub steps : length (p .steps) ≡ 32
-  pub starts : length (p .starts) ≡ 32
-  pub ends : length (p .ends) ≡ 32
+  pub masks : length (p .masks) ≡ pass-slots
+  pub cleared : length (p .cleared) ≡ max-variables
+  pub steps : length (p .steps) ≡ max-variables
+  pub starts : length (p .starts) ≡ max-variables
+  pub ends : length (p .ends) ≡ max-variables
   pub closed : (j : ℕ) → j < p .count → getD (p .ends) j 0 ≤ p .board .filled
   pub ordered : (j : ℕ) → j < p .count → getD (p .starts) j 0 ≤ getD (p .ends) j 0
 
 -- The arrays mean the state of the definition.
 pub record Means (n : ℕ) (K : ℕ → List ℕ) (p : Pass) (st : State) : Type 0 where
-  pub few : n ≤ 32
+  pub few : n ≤ max-variables
   pub keys : (j : ℕ) → has j (p .active) ≡ mem j (st .active-keys)
   pub below : (j : ℕ) → T (has j (p .active)) → j < n
   pub slots : slotsOf (p .board) ≡ st .active
@@ -115,21 +117,21 @@ Steps k t p r = (n : ℕ) (K : ℕ → List ℕ) (st : State) → k < n → Mean
 -- ---- The whole pass
 -- the masks of the originals, and none yet of a message
 unfoldable pub laid : (keys : List ℕ) → List ℕ
-laid keys = keys ++ replicate 32 0
+laid keys = keys ++ replicate max-variables 0
 
 -- the live originals stand first
 pub record Laid (live : List ℕ) (count : ℕ) (r : List ℕ) : Type 0 where
-  pub long : length r ≡ 96
+  pub long : length r ≡ pass-slots
   pub first : take count r ≡ take count live
 
 -- the first `count` are numbers of originals
 pub record Live (live : List ℕ) (count : ℕ) : Type 0 where
-  pub few : count ≤ 64
-  pub low : (i : ℕ) → i < count → getD live i 0 < 64
+  pub few : count ≤ max-factors
+  pub low : (i : ℕ) → i < count → getD live i 0 < max-factors
 
 -- the first n are keys, of n
 pub record Order (order : List ℕ) (n : ℕ) : Type 0 where
-  pub few : n ≤ 32
+  pub few : n ≤ max-variables
   pub low : (i : ℕ) → i < n → getD order i 0 < n
 
 -- The masks agree with the table K: each is the set of the keys that K lists.
@@ -137,7 +139,7 @@ abbrev pub Agrees : (keys : List ℕ) (K : ℕ → List ℕ) → Type 0
 Agrees keys K = (i j : ℕ) → has j (getD keys i 0) ≡ mem j (K i)
 
 abbrev pub Begins : (keys live : List ℕ) (count : ℕ) (r : Pass) → Type 0
-Begins keys live count r = (n : ℕ) (K : ℕ → List ℕ) → n ≤ 32 → Agrees keys K → Means n K r (after n K (take count live) [])
+Begins keys live count r = (n : ℕ) (K : ℕ → List ℕ) → n ≤ max-variables → Agrees keys K → Means n K r (after n K (take count live) [])
 
 -- The messages of r are those of the definition, along the order, for every table that the masks agree with.
 abbrev pub Passes : (keys N order : List ℕ) (n : ℕ) (r : Pass) → Type 0

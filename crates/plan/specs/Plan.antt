@@ -5,12 +5,13 @@ use mathlib.Core.List.{List, [], map}
 use Prim.Native.Nat.{ℕ, _≤_, _<_}
 use lib.Dec.{T}
 use lib.ListN.{length, getD, take}
+use Rattle.factor.specs.Limits.{max-variables, max-factors}
 use Rattle.schedule.specs.Count.{count, In, from}
 use Rattle.schedule.specs.Plan as lists
 use Rattle.plan.specs.Mask.{has}
 use Rattle.plan.specs.Pass.{messagesOf, Ready, Live, Agrees}
 use Rattle.plan.specs.Gather.{Held, gatheredOf}
-use Rattle.plan.specs.Factors.{keysOf, noKeys, AllFit, keysAt}
+use Rattle.plan.specs.Factors.{keysOf, noKeys, AllFit}
 use Rattle.plan.specs.declared.gather.Gathered.{Gathered}
 use Rattle.plan.specs.declared.plan.Plan.{Plan}
 use Rattle.plan.specs.declared.factors.FactorKeys.{FactorKeys}
@@ -18,14 +19,18 @@ use Rattle.plan.specs.declared.factors.FactorKeys.{FactorKeys}
 abbrev pub place : (k : ℕ) (order : List ℕ) → ℕ
 place k order = lists.place k order
 
--- What a valid graph gives: at most 32 keys; every key of an original is one of them; the live originals are numbers below 64,
--- none twice; and the order names each key once.
-pub record Sound (keys live : List ℕ) (number : ℕ) (order : List ℕ) (n : ℕ) : Type 0 where
-  pub few : n ≤ 32
-  pub low : (i j : ℕ) → T (has j (getD keys i 0)) → j < n
+-- Where a plan starts and along what: the first `number` of live are numbers of originals, none twice, and the first n of the order
+-- name each of n keys once.
+pub record Ordered (live : List ℕ) (number : ℕ) (order : List ℕ) (n : ℕ) : Type 0 where
   pub originals : Live live number
   pub distinct : (f : ℕ) → count f (take number live) ≤ 1
   pub each : (j : ℕ) → count j (take n order) ≡ count j (from 0 n)
+
+-- What a plan asks: no more keys than there may be; every key of an original is one of them; and where it starts and along what.
+pub record Sound (keys live : List ℕ) (number : ℕ) (order : List ℕ) (n : ℕ) : Type 0 where
+  pub few : n ≤ max-variables
+  pub low : (i j : ℕ) → T (has j (getD keys i 0)) → j < n
+  pub ordered : Ordered live number order n
 
 -- the plan that the arrays hold, for n keys
 unfoldable pub planOf : (n : ℕ) → Plan → lists.Plan
@@ -44,17 +49,12 @@ noGathered = record { forward = 0; backward = 0; items = []; covered = 0; count 
 pub record Bounded (n : ℕ) (p : Plan) : Type 0 where
   pub forward : Ready n (p .forward)
   pub backward : Ready n (p .backward)
-  pub long : length (p .at) ≡ 32
+  pub long : length (p .at) ≡ max-variables
   pub held : (k : ℕ) → k < n → Held (getD (p .at) k noGathered)
 
--- ---- Keys and originals rising
--- What registration gives: at most 32 keys and 64 factors, and each factor's keys are registered.
+-- What registration gives: the counts are within the limits, and each factor's keys are registered.
 pub record Registered (factors : List FactorKeys) (number n : ℕ) : Type 0 where
-  pub few : n ≤ 32
-  pub some : number ≤ 64
+  pub few : n ≤ max-variables
+  pub some : number ≤ max-factors
   pub fits : AllFit factors number
   pub below : (i : ℕ) → i < number → (j : ℕ) → In j (keysOf (getD factors i noKeys)) → j < n
-
--- the plan of the definition, over all factors and with keys rising
-abbrev pub risingPlan : List FactorKeys → (number n : ℕ) → lists.Plan
-risingPlan factors number n = lists.plan n (keysAt factors number) (from 0 number) (from 0 n)

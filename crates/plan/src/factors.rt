@@ -4,6 +4,7 @@ use factor::limits::FACTORS;
 use factor::limits::KEYS;
 use factor::wide;
 ghost use Prim.Native.Nat.{_≤_};
+ghost use Rattle.factor.specs.Limits.{max-factors};
 ghost use Rattle.plan.specs.Mask.{Set};
 ghost use Rattle.plan.specs.Factors as spec;
 
@@ -31,7 +32,7 @@ pub fn mask_of(f: FactorKeys) -> u32
 
 // The sets of all factors: of the first `count` their keys, of the others none.
 pub fn masks_of(factors: [FactorKeys; FACTORS], count: usize) -> [u32; FACTORS]
-    requires { ⌜ count ≤ 64 ⌝ }
+    requires { ⌜ count ≤ max-factors ⌝ }
     requires { ⌜ spec.AllFit factors count ⌝ }
     ensures { λ r. ⌜ spec.Masked factors count r ⌝ }
 {

@@ -8,6 +8,7 @@ use factor::limits::FACTORS;
 use factor::limits::VARIABLES;
 ghost use Prim.Native.Nat.{_≤_, _<_};
 ghost use lib.ListN.{take};
+ghost use Rattle.factor.specs.Limits.{max-variables};
 ghost use Rattle.plan.specs.Mask.{Set};
 ghost use Rattle.plan.specs.Pass as pass;
 ghost use Rattle.plan.specs.Gather as spec;
@@ -52,7 +53,7 @@ fn messages_in(content: &[u8; PASS_SLOTS], from: usize, to: usize) -> u32
 
 // The messages of step at most t that no such message contains.
 fn alive_messages(messages: Pass, t: usize) -> u32
-    requires { ⌜ pass.Ready 32 messages ⌝ }
+    requires { ⌜ pass.Ready max-variables messages ⌝ }
     ensures { λ r. ⌜ spec.Alive t messages r ⌝ }
 {
     let b = messages.board;
@@ -99,7 +100,7 @@ fn visit(content: &[u8; PASS_SLOTS], from: usize, to: usize, listing: Listing) -
 
 // The leaves under the message `root`: the top of the stack is opened until none is left.
 fn mark_leaves(messages: Pass, root: usize, listing: Listing) -> Listing
-    requires { ⌜ pass.Ready 32 messages ⌝ }
+    requires { ⌜ pass.Ready max-variables messages ⌝ }
     requires { ⌜ spec.Space listing ⌝ }
     requires { ⌜ spec.Openable messages root listing ⌝ }
     ensures { λ r. ⌜ spec.Opened messages root listing r ⌝ }
@@ -122,7 +123,7 @@ fn mark_leaves(messages: Pass, root: usize, listing: Listing) -> Listing
 
 // The leaves under each message of a set, by rising message.
 fn leaves_of(messages: Pass, set: u32, listing: Listing) -> Listing
-    requires { ⌜ pass.Ready 32 messages ⌝ }
+    requires { ⌜ pass.Ready max-variables messages ⌝ }
     requires { ⌜ spec.Space listing ⌝ }
     requires { ⌜ spec.Listable messages set listing ⌝ }
     ensures { λ r. ⌜ spec.Listed messages set listing r ⌝ }
@@ -179,7 +180,7 @@ fn uncovered(live: [u8; FACTORS], count: usize, listing: Listing) -> Listing
 
 // The kept keys of the messages of a set.
 fn kept_keys(messages: Pass, set: u32) -> u32
-    requires { ⌜ pass.Ready 32 messages ⌝ }
+    requires { ⌜ pass.Ready max-variables messages ⌝ }
     ensures { λ r. ⌜ spec.Kept messages set r ⌝ }
 {
     let n = messages.count;
@@ -208,7 +209,7 @@ pub fn gather(
     k: usize,
 ) -> Gathered
     requires { ⌜ spec.Gatherable fw bw live count r s ⌝ }
-    requires { ⌜ k < 32 ⌝ }
+    requires { ⌜ k < max-variables ⌝ }
     ensures { λ g. ⌜ spec.Gathers fw bw keys (take count live) r s k g ⌝ }
     ensures { λ g. ⌜ spec.Held g ⌝ }
 {

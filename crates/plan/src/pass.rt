@@ -7,6 +7,7 @@ use factor::limits::VARIABLES;
 ghost use Prim.Native.Nat.{_+_, _≤_, _<_};
 ghost use mathlib.Core.Path.{_≡_};
 ghost use lib.ListN.{take};
+ghost use Rattle.factor.specs.Limits.{max-variables, max-factors};
 ghost use Rattle.plan.specs.Pass as spec;
 
 // The active slots are the first `used` of slots; the contents of all messages so far, one after the other, are the first
@@ -18,7 +19,7 @@ pub struct Board {
     pub filled: usize,
 }
 
-// A pass on its way, and at its end the messages it made: of the message j, kept keys masks[64 + j], cleared keys cleared[j],
+// A pass on its way, and at its end the messages it made: of the message j, kept keys masks[FACTORS + j], cleared keys cleared[j],
 // step steps[j], content the slots of board.content from starts[j] to ends[j]. The keys of the original i are masks[i].
 pub struct Pass {
     pub masks: [u32; PASS_SLOTS],
@@ -96,7 +97,7 @@ fn laid_masks(keys: [u32; FACTORS]) -> [u32; PASS_SLOTS]
 
 // The live originals in the first places: a pass starts with them as its active slots.
 fn laid_slots(live: [u8; FACTORS], count: usize) -> [u8; PASS_SLOTS]
-    requires { ⌜ count ≤ 64 ⌝ }
+    requires { ⌜ count ≤ max-factors ⌝ }
     ensures { λ r. ⌜ spec.Laid live count r ⌝ }
 {
     let mut r = [0u8; PASS_SLOTS];
@@ -141,7 +142,7 @@ impl Pass {
     // content's keys that are still active. It becomes an active slot itself.
     fn send(mut self, cleared: u32, t: usize) -> Pass
         requires { ⌜ spec.Ready t self ⌝ }
-        requires { ⌜ t < 32 ⌝ }
+        requires { ⌜ t < max-variables ⌝ }
         ensures { λ r. ⌜ spec.Ready (t + 1) r ⌝ }
         ensures { λ r. ⌜ spec.Sends cleared t self r ⌝ }
     {
@@ -170,8 +171,8 @@ impl Pass {
     // arises exactly if there is one.
     fn step(mut self, k: usize, t: usize) -> Pass
         requires { ⌜ spec.Ready t self ⌝ }
-        requires { ⌜ t < 32 ⌝ }
-        requires { ⌜ k < 32 ⌝ }
+        requires { ⌜ t < max-variables ⌝ }
+        requires { ⌜ k < max-variables ⌝ }
         ensures { λ r. ⌜ spec.Ready (t + 1) r ⌝ }
         ensures { λ r. ⌜ spec.Steps k t self r ⌝ }
     {

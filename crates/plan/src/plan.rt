@@ -10,8 +10,11 @@ use factor::limits::VARIABLES;
 ghost use mathlib.Core.Path.{_≡_};
 ghost use mathlib.Core.List.{reverse};
 ghost use Prim.Native.Nat.{_≤_};
-ghost use lib.ListN.{take};
+ghost use lib.ListN.{length, take};
+ghost use Rattle.factor.specs.Limits.{max-variables};
 ghost use Rattle.schedule.specs.Count.{from};
+ghost use Rattle.schedule.specs.Plan as lists;
+ghost use Rattle.plan.specs.Factors.{keysAt};
 ghost use Rattle.plan.specs.Plan as spec;
 
 // The messages of both passes, and at[k] what the key k gathers.
@@ -23,7 +26,7 @@ pub struct Plan {
 
 // The order of the backward pass.
 fn reversed(order: [u8; VARIABLES], n: usize) -> [u8; VARIABLES]
-    requires { ⌜ n ≤ 32 ⌝ }
+    requires { ⌜ n ≤ max-variables ⌝ }
     ensures { λ r. ⌜ take n r ≡ reverse (take n order) ⌝ }
 {
     let mut r = [0u8; VARIABLES];
@@ -37,7 +40,7 @@ fn reversed(order: [u8; VARIABLES], n: usize) -> [u8; VARIABLES]
 
 // The place of a key in the order, which is its step in the forward pass.
 fn place(order: [u8; VARIABLES], n: usize, k: usize) -> usize
-    requires { ⌜ n ≤ 32 ⌝ }
+    requires { ⌜ n ≤ max-variables ⌝ }
     ensures { λ r. ⌜ r ≡ spec.place k (take n order) ⌝ }
 {
     let mut i = 0;
@@ -53,7 +56,7 @@ fn place(order: [u8; VARIABLES], n: usize, k: usize) -> usize
 
 // The plan for n keys along an order, over the first `count` of the live originals, from the key sets of the originals. What is
 // required says only that keys are below n, that no live original stands twice, and that the order is one of the n keys.
-pub fn make_plan(
+fn make_plan(
     keys: [u32; FACTORS],
     live: [u8; FACTORS],
     count: usize,
@@ -91,40 +94,33 @@ pub fn make_plan(
     }
 }
 
-// All keys, rising: the order where none is named.
-fn rising_keys() -> [u8; VARIABLES]
-    ensures { λ r. ⌜ r ≡ from 0 32 ⌝ }
-{
-    let mut r = [0u8; VARIABLES];
-    let mut i = 0;
-    while i < VARIABLES {
-        r[i] = i as u8;
-        i += 1;
-    }
-    r
-}
-
-// All originals, rising: the first `count` of them are live where none is superseded.
-fn rising_originals() -> [u8; FACTORS]
-    ensures { λ r. ⌜ r ≡ from 0 64 ⌝ }
-{
-    let mut r = [0u8; FACTORS];
-    let mut i = 0;
-    while i < FACTORS {
-        r[i] = i as u8;
-        i += 1;
-    }
-    r
-}
-
-// The plan of the first `count` factors over n keys, with keys and originals rising: the plan of document 01.
-pub fn rising_plan(factors: [FactorKeys; FACTORS], count: usize, n: usize) -> Plan
+// The plan of the first `count` factors over n keys: over the first `lives` of the live originals, along an order of the keys.
+pub fn plan_of(
+    factors: [FactorKeys; FACTORS],
+    count: usize,
+    live: [u8; FACTORS],
+    lives: usize,
+    order: [u8; VARIABLES],
+    n: usize,
+) -> Plan
     requires { ⌜ spec.Registered factors count n ⌝ }
-    ensures { λ r. ⌜ spec.planOf n r ≡ spec.risingPlan factors count n ⌝ }
+    requires { ⌜ spec.Ordered live lives order n ⌝ }
+    ensures { λ r. ⌜ spec.planOf n r ≡ lists.plan n (keysAt factors count) (take lives live) (take n order) ⌝ }
     ensures { λ r. ⌜ spec.Bounded n r ⌝ }
 {
     let keys = masks_of(factors, count);
-    let live = rising_originals();
-    let order = rising_keys();
-    make_plan(keys, live, count, order, n)
+    make_plan(keys, live, lives, order, n)
+}
+
+// Every place holds its own number: all keys rising, or all originals.
+pub fn rise(list: &mut [u8])
+    requires { ⌜ length (now list) ≤ 256 ⌝ }
+    ensures { λ r. ⌜ now (list .exit) ≡ from 0 (length (now (list .entry))) ⌝ }
+{
+    let n = list.len();
+    let mut i = 0;
+    while i < n {
+        list[i] = i as u8;
+        i += 1;
+    }
 }

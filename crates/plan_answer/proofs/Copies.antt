@@ -8,7 +8,9 @@ use borrow.Author.Tests.{ltb-false}
 use lib.Dec.{ltb}
 use lib.ListN.{length, getD, take, drop, replicate, length-map, length-drop, List·getD-map}
 use lib.Seq.{getD-drop, getD-take, length-take-le, length-slice}
+use Rattle.factor.specs.Limits.{max-variables, max-factors}
 use Rattle.schedule.specs.Pass.{at}
+use Rattle.plan.specs.Limits.{pass-slots}
 use Rattle.plan.specs.Pass.{pickSlot, slotOf, msgAt, messagesOf, Ready}
 use Rattle.plan.specs.Gather.{gatheredOf, Held}
 use Rattle.plan.specs.Plan.{planOf, noGathered}
@@ -28,20 +30,20 @@ use Rattle.plan_answer.proofs.Members.{set-members}
 -- a slot's number is the one that the arrays have for it
 code-slot : (x : ℕ) → code (slotOf x) ≡ x
 unfolding code slotOf
-code-slot x = go (ltb x 64) refl
+code-slot x = go (ltb x max-factors) refl
   where
-    go : (b : Bool) → ltb x 64 ≡ b → code (pickSlot b x) ≡ x
+    go : (b : Bool) → ltb x max-factors ≡ b → code (pickSlot b x) ≡ x
     go true e = refl
-    go false e = omega (arith, ltb-false x 64 e)
+    go false e = omega (arith, ltb-false x max-factors e)
 
 codes : (l : List ℕ) → map code (map slotOf l) ≡ l
 codes [] = refl
 codes (x ∷ l) = rw (code-slot x, codes l) refl
 
 -- the message j of a pass, from its laid content and its masks
-pub message-is : (p : Pass) (j : ℕ) (content : List ℕ) (kept cleared : ℕ) → Ready 32 p → j < p .count
-    → content ≡ drop (getD (p .starts) j 0) (take (getD (p .ends) j 0) (p .board .content)) ++ drop (getD (p .ends) j 0 - getD (p .starts) j 0) (replicate 96 0)
-    → kept ≡ getD (p .masks) (64 + j) 0 → kept < 2 ^ 32 → cleared ≡ getD (p .cleared) j 0 → cleared < 2 ^ 32
+pub message-is : (p : Pass) (j : ℕ) (content : List ℕ) (kept cleared : ℕ) → Ready max-variables p → j < p .count
+    → content ≡ drop (getD (p .starts) j 0) (take (getD (p .ends) j 0) (p .board .content)) ++ drop (getD (p .ends) j 0 - getD (p .starts) j 0) (replicate pass-slots 0)
+    → kept ≡ getD (p .masks) (max-factors + j) 0 → kept < 2 ^ 32 → cleared ≡ getD (p .cleared) j 0 → cleared < 2 ^ 32
     → _≡_ {A = Message} (record { step = getD (p .steps) j 0; content = content; slots = getD (p .ends) j 0 - getD (p .starts) j 0; kept = kept; cleared = cleared }) (messageOf (at (messagesOf p) j))
 unfolding messageOf msgAt
 message-is p j content kept cleared ready h e ek hk ec hc =
@@ -49,11 +51,11 @@ message-is p j content kept cleared ready h e ek hk ec hc =
     let b = getD (p .ends) j 0 in
     let l = drop a (take b (p .board .content)) in
     let n : length l ≡ b - a = length-slice a b (p .board .content) (omega (arith, ready .closed j h, ready .room .contents .few, ready .room .contents .long)) in
-    rw (at-msg p j h, e, padded-is 0 96 (b - a) l n, codes l, length-map l slotOf, n, getD-drop 64 (p .masks) j 0, ← ek, ← ec, set-members kept hk, set-members cleared hc)
+    rw (at-msg p j h, e, padded-is 0 pass-slots (b - a) l n, codes l, length-map l slotOf, n, getD-drop max-factors (p .masks) j 0, ← ek, ← ec, set-members kept hk, set-members cleared hc)
 
 -- what a key gathers, from its laid leaves
 pub key-plan-is : (q : Gathered) (leaves : List ℕ) → Held q → q .forward < 2 ^ 32 → q .backward < 2 ^ 32 → q .last < 2 ^ 32
-    → leaves ≡ drop 0 (take (q .count) (q .items)) ++ drop (q .count - 0) (replicate 64 0)
+    → leaves ≡ drop 0 (take (q .count) (q .items)) ++ drop (q .count - 0) (replicate max-factors 0)
     → _≡_ {A = KeyPlan} (record { forward = q .forward; backward = q .backward; leaves = leaves; covered = q .covered; count = q .count; last = q .last }) (keyPlanOf (gatheredOf q))
 unfolding keyPlanOf gatheredOf
 key-plan-is q leaves held f b l e =
@@ -61,7 +63,7 @@ key-plan-is q leaves held f b l e =
     let all = take (q .count) (q .items) in
     let n : length all ≡ q .count = length-take-le (q .count) (q .items) (omega (arith, held .items .few, held .items .long)) in
     let m : length all - length (drop (q .covered) all) ≡ q .covered = omega (arith, length-drop (q .covered) all, held .covered) in
-    rw (e, z, padded-is 0 64 (q .count) all n, m, n, set-members (q .forward) f, set-members (q .backward) b, set-members (q .last) l)
+    rw (e, z, padded-is 0 max-factors (q .count) all n, m, n, set-members (q .forward) f, set-members (q .backward) b, set-members (q .last) l)
 
 -- what the first n keys gather
 pub keys-length : (at : List Gathered) (n : ℕ) → n ≤ length at → length (map gatheredOf (take n at)) ≡ n

@@ -69,7 +69,7 @@ fn mask(m: u32) -> u32
 
 // The message j of a pass.
 fn message_of(p: Pass, j: usize) -> Message
-    requires { ⌜ Ready 32 p × (j < p .count) ⌝ }
+    requires { ⌜ Ready max-variables p × (j < p .count) ⌝ }
     ensures { λ r. ⌜ r ≡ spec.messageOf (at (messagesOf p) j) ⌝ }
 {
     let board = p.board;
@@ -89,7 +89,7 @@ fn message_of(p: Pass, j: usize) -> Message
 
 // All messages of a pass, each at its number.
 fn message_table(p: Pass) -> [Message; VARIABLES]
-    requires { ⌜ Ready 32 p ⌝ }
+    requires { ⌜ Ready max-variables p ⌝ }
     ensures { λ r. ⌜ r ≡ spec.messageTable (messagesOf p) ⌝ }
 {
     let blank = Message {

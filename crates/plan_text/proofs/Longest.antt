@@ -8,7 +8,7 @@ use native.Mathlib.Numerals.{add-one}
 use borrow.Author.Tests.{ltb-true, ltb-false}
 use lib.Dec.{ltb}
 use lib.ListN.{length, getD, take, drop, length-append, length-map, length-reverse}
-use Rattle.factor.specs.Limits.{max-variables}
+use Rattle.factor.specs.Limits.{max-variables, max-factors}
 use Rattle.graph.specs.Record.{valid}
 use Rattle.graph.specs.Refusals.{numberOf}
 use Rattle.graph.specs.declared.Graph.{Graph}
@@ -21,6 +21,7 @@ use Rattle.schedule.proofs.Counts.{count-reverse}
 use Rattle.schedule.proofs.Sums.{length-from}
 use Rattle.schedule.proofs.Runs.{from-lt, running}
 use Rattle.schedule.proofs.Demand3.{from-once}
+use Rattle.plan.specs.Limits.{pass-slots}
 use Rattle.plan.specs.Mask.{has, keysIn}
 use Rattle.plan.specs.Pass.{slotOf, msgAt, messagesOf, Codes, Ready}
 use Rattle.plan.specs.Gather.{Items, Held, gatheredOf}
@@ -66,13 +67,13 @@ grown-most t s most (suc n) e more few =
 field-most : (x : ℕ) → x < 100 → length (fieldText x) ≤ 3
 field-most x l = omega (arith, field-length x, few-digits 1 x (omega arith))
 
-slot-most : (s : ℕ) → s < 96 → length (slotText (slotOf s)) ≤ 4
+slot-most : (s : ℕ) → s < pass-slots → length (slotText (slotOf s)) ≤ 4
 unfolding slotText
-slot-most s l = by (ltb s 64) refl
+slot-most s l = by (ltb s max-factors) refl
   where
-    by : (b : Bool) → ltb s 64 ≡ b → length (slotText (slotOf s)) ≤ 4
-    by true e = rw (slot-low s (ltb-true s 64 e)) (omega (arith, field-most s (omega arith)))
-    by false e = rw (slot-high s (ltb-false s 64 e)) (omega (arith, few-digits 1 (s - 64) (omega arith)))
+    by : (b : Bool) → ltb s max-factors ≡ b → length (slotText (slotOf s)) ≤ 4
+    by true e = rw (slot-low s (ltb-true s max-factors e)) (omega (arith, field-most s (omega arith)))
+    by false e = rw (slot-high s (ltb-false s max-factors e)) (omega (arith, few-digits 1 (s - max-factors) (omega arith)))
 
 -- entries of an array, from one place to another
 part-most : (f : ℕ → List ℕ) (l : List ℕ) (most a b : ℕ) → a ≤ b → b ≤ length l → ((i : ℕ) → i < b → length (f (getD l i 0)) ≤ most) → length (joined f (drop a (take b l))) ≤ most * (b - a)
@@ -88,13 +89,13 @@ member-most : (b : Bool) (k : ℕ) → k < 100 → length (joined fieldText (put
 member-most true k l = rw (joined-one fieldText k) (field-most k l)
 member-most false k l = rw (joined-nil fieldText) (omega arith)
 
-set-most : (word : List ℕ) (set : ℕ) → length (listText word (keysIn set)) ≤ length word + 96
+set-most : (word : List ℕ) (set : ℕ) → length (listText word (keysIn set)) ≤ length word + 3 * max-variables
 unfolding listText keysIn
 set-most word set =
     omega (
       arith,
-      length-append word (joined fieldText (rising 32 (λ i. has i set))),
-      grown-most (λ k. joined fieldText (rising k (λ i. has i set))) (λ k. joined fieldText (putIf (has k set) k [])) 3 32 (sym (joined-zero fieldText (λ i. has i set))) (λ k l. member-more fieldText (λ i. has i set) k) (λ k l. member-most (has k set) k (omega arith)),
+      length-append word (joined fieldText (rising max-variables (λ i. has i set))),
+      grown-most (λ k. joined fieldText (rising k (λ i. has i set))) (λ k. joined fieldText (putIf (has k set) k [])) 3 max-variables (sym (joined-zero fieldText (λ i. has i set))) (λ k l. member-more fieldText (λ i. has i set) k) (λ k l. member-most (has k set) k (omega arith)),
     )
 
 named-most : (word : List ℕ) (x : ℕ) → x < 100 → length (namedText word x) ≤ length word + 3
@@ -129,7 +130,7 @@ content-most content a b used o u h =
 abbrev pub LowSteps : Pass → Type 0
 LowSteps p = (j : ℕ) → j < p .count → getD (p .steps) j 0 < 100
 
-message-most : (name : List ℕ) (p : Pass) (j : ℕ) → length name ≤ 8 → Ready 32 p → LowSteps p → j < p .count → length (messageText name j (msgAt p j)) ≤ 617
+message-most : (name : List ℕ) (p : Pass) (j : ℕ) → length name ≤ 8 → Ready max-variables p → LowSteps p → j < p .count → length (messageText name j (msgAt p j)) ≤ 617
 unfolding messageText msgAt
 message-most name p j few ready low l =
     simp length-append (omega (
@@ -137,16 +138,16 @@ message-most name p j few ready low l =
       named-most name j (omega (arith, ready .few)),
       named-most stepWord (getD (p .steps) j 0) (low j l),
       content-most (p .board .content) (getD (p .starts) j 0) (getD (p .ends) j 0) (p .board .filled) (ready .ordered j l) (ready .closed j l) (ready .room .contents),
-      set-most keptWord (getD (drop 64 (p .masks)) j 0),
+      set-most keptWord (getD (drop max-factors (p .masks)) j 0),
       set-most clearedWord (getD (p .cleared) j 0),
     ))
 
-pass-most : (name : List ℕ) (p : Pass) → length name ≤ 8 → Ready 32 p → LowSteps p → length (numbered (messageText name) 0 (messagesOf p)) ≤ 617 * p .count
+pass-most : (name : List ℕ) (p : Pass) → length name ≤ 8 → Ready max-variables p → LowSteps p → length (numbered (messageText name) 0 (messagesOf p)) ≤ 617 * p .count
 unfolding messagesOf
 pass-most name p few ready low =
     grown-most (λ j. numbered (messageText name) 0 (map (msgAt p) (from 0 j))) (λ j. messageText name j (msgAt p j)) 617 (p .count) (given-none (messageText name) (msgAt p)) (λ j l. given-more (messageText name) (msgAt p) j) (λ j l. message-most name p j few ready low l)
 
-key-most : (k : ℕ) (q : Gathered) → k < 32 → Held q → length (keyText k (gatheredOf q)) ≤ 718
+key-most : (k : ℕ) (q : Gathered) → k < max-variables → Held q → length (keyText k (gatheredOf q)) ≤ 718
 unfolding keyText gatheredOf
 key-most k q l held =
     simp length-append (omega (
@@ -159,16 +160,16 @@ key-most k q l held =
       set-most lastWord (q .last),
     ))
 
-keys-most : (n : ℕ) (p : Plan) → n ≤ 32 → Bounded n p → length (numbered keyText 0 (map gatheredOf (take n (p .at)))) ≤ 718 * n
+keys-most : (n : ℕ) (p : Plan) → n ≤ max-variables → Bounded n p → length (numbered keyText 0 (map gatheredOf (take n (p .at)))) ≤ 718 * n
 keys-most n p few b =
     grown-most (λ k. numbered keyText 0 (map gatheredOf (take k (p .at)))) (λ k. keyText k (gatheredOf (getD (p .at) k noGathered))) 718 n (taken-none keyText gatheredOf (p .at)) (λ k l. taken-more keyText gatheredOf (p .at) k noGathered (omega (arith, b .long))) (λ k l. key-most k (getD (p .at) k noGathered) (omega arith) (b .held k l))
 
 -- 32 messages a pass and 32 keys
-pub plan-most : (n : ℕ) (p : Plan) → n ≤ 32 → Bounded n p → LowSteps (p .forward) → LowSteps (p .backward) → length (planText (planOf n p)) ≤ text-room
+pub plan-most : (n : ℕ) (p : Plan) → n ≤ max-variables → Bounded n p → LowSteps (p .forward) → LowSteps (p .backward) → length (planText (planOf n p)) ≤ text-room
 unfolding planText planOf
 plan-most n p few b fw bw =
-    let f : Ready 32 (p .forward) = ready-later n 32 (p .forward) (p .forward .active) few (b .forward) in
-    let g : Ready 32 (p .backward) = ready-later n 32 (p .backward) (p .backward .active) few (b .backward) in
+    let f : Ready max-variables (p .forward) = ready-later n max-variables (p .forward) (p .forward .active) few (b .forward) in
+    let g : Ready max-variables (p .backward) = ready-later n max-variables (p .backward) (p .backward .active) few (b .backward) in
     simp length-append (omega (arith, f .few, g .few, pass-most forwardWord (p .forward) (omega arith) f fw, pass-most backwardWord (p .backward) (omega arith) g bw, keys-most n p few b))
 
 -- ---- the plan of a graph
@@ -179,7 +180,7 @@ order-steps n K N order each =
     let run = running n K N (reverse order) (λ j. omega (arith, count-reverse j order, each j, from-once n j)) (λ j h. from-lt j n (omega (arith, count-reverse j order, each j))) in
     λ j l. omega (arith, run .steps j l, length-reverse order)
 
-low-steps : (p : Pass) (ms : List ClosedFactor) (most : ℕ) → messagesOf p ≡ ms → most ≤ 32 → ((j : ℕ) → j < length ms → at ms j .step < most) → LowSteps p
+low-steps : (p : Pass) (ms : List ClosedFactor) (most : ℕ) → messagesOf p ≡ ms → most ≤ max-variables → ((j : ℕ) → j < length ms → at ms j .step < most) → LowSteps p
 unfolding msgAt messagesOf
 low-steps p ms most e few low j l =
     let n : length ms ≡ p .count = sym (ap length e) ∙ length-map (from 0 (p .count)) (msgAt p) ∙ length-from 0 (p .count) in

@@ -26,10 +26,12 @@ ghost use mathlib.Core.Path.{_≡_};
 ghost use mathlib.Core.List.{[], _∷_, map};
 ghost use Prim.Native.Nat.{_≤_, _<_};
 ghost use lib.ListN.{length, take, drop};
+ghost use Rattle.factor.specs.Limits.{max-variables, max-factors};
 ghost use Rattle.text.specs.Decimals.{fieldText};
 ghost use Rattle.text.specs.Putting.{Puts};
 ghost use Rattle.lines.specs.Lines.{written, laidIn};
 ghost use Rattle.schedule.specs.Count.{joined, putIf};
+ghost use Rattle.plan.specs.Limits.{pass-slots};
 ghost use Rattle.plan.specs.Mask.{has, keysIn};
 ghost use Rattle.plan.specs.Pass.{Ready, slotOf, msgAt, messagesOf};
 ghost use Rattle.plan.specs.Gather.{Held, gatheredOf};
@@ -68,7 +70,7 @@ fn put_named(out: &mut [u8], at: usize, name: &[u8], x: usize) -> usize
 
 // A number if it is a member of a set, and nothing if not.
 fn put_member(out: &mut [u8], at: usize, set: u32, k: usize) -> usize
-    requires { ⌜ k < 32 ⌝ }
+    requires { ⌜ k < max-variables ⌝ }
     ensures { λ r. ⌜ Puts (now (out .entry)) (now (out .exit)) at r (joined fieldText (putIf (has k set) k [])) ⌝ }
 {
     if set & single(k) == 0 {
@@ -96,7 +98,7 @@ fn put_content(
     from: usize,
     end: usize,
 ) -> usize
-    requires { ⌜ (from ≤ end) × (end ≤ 96) ⌝ }
+    requires { ⌜ (from ≤ end) × (end ≤ pass-slots) ⌝ }
     ensures { λ r. ⌜ Puts (now (out .entry)) (now (out .exit)) at r (spec.contentText (map slotOf (drop from (take end content)))) ⌝ }
 {
     let mut to = put_word(out, at, b" content");
@@ -116,7 +118,7 @@ fn put_items(
     from: usize,
     end: usize,
 ) -> usize
-    requires { ⌜ (from ≤ end) × (end ≤ 64) ⌝ }
+    requires { ⌜ (from ≤ end) × (end ≤ max-factors) ⌝ }
     ensures { λ r. ⌜ Puts (now (out .entry)) (now (out .exit)) at r (spec.listText (now (name .entry)) (drop from (take end items))) ⌝ }
 {
     let mut to = put_word(out, at, name);
@@ -129,7 +131,7 @@ fn put_items(
 
 // The line of the message j, led by the name of its pass.
 fn put_message(out: &mut [u8], at: usize, name: &[u8], messages: Pass, j: usize) -> usize
-    requires { ⌜ Ready 32 messages ⌝ }
+    requires { ⌜ Ready max-variables messages ⌝ }
     requires { ⌜ j < messages .count ⌝ }
     ensures { λ r. ⌜ Puts (now (out .entry)) (now (out .exit)) at r (spec.messageText (now (name .entry)) j (msgAt messages j)) ⌝ }
 {
@@ -150,7 +152,7 @@ fn put_message(out: &mut [u8], at: usize, name: &[u8], messages: Pass, j: usize)
 
 // The lines of all messages of a pass.
 fn put_pass(out: &mut [u8], at: usize, name: &[u8], messages: Pass) -> usize
-    requires { ⌜ Ready 32 messages ⌝ }
+    requires { ⌜ Ready max-variables messages ⌝ }
     ensures { λ r. ⌜ Puts (now (out .entry)) (now (out .exit)) at r (spec.numbered (spec.messageText (now (name .entry))) 0 (messagesOf messages)) ⌝ }
 {
     let mut to = at;
@@ -179,7 +181,7 @@ fn put_key(out: &mut [u8], at: usize, k: usize, q: Gathered) -> usize
 
 // The lines of the first n keys.
 fn put_keys(out: &mut [u8], at: usize, plan: Plan, n: usize) -> usize
-    requires { ⌜ (n ≤ 32) × Bounded n plan ⌝ }
+    requires { ⌜ (n ≤ max-variables) × Bounded n plan ⌝ }
     ensures { λ r. ⌜ Puts (now (out .entry)) (now (out .exit)) at r (spec.numbered spec.keyText 0 (map gatheredOf (take n (plan .at)))) ⌝ }
 {
     let mut to = at;
@@ -192,7 +194,7 @@ fn put_keys(out: &mut [u8], at: usize, plan: Plan, n: usize) -> usize
 
 // The whole plan of n keys, from the buffer's start.
 fn put_plan(out: &mut [u8], plan: Plan, n: usize) -> usize
-    requires { ⌜ (n ≤ 32) × Bounded n plan ⌝ }
+    requires { ⌜ (n ≤ max-variables) × Bounded n plan ⌝ }
     ensures { λ r. ⌜ Puts (now (out .entry)) (now (out .exit)) 0 r (spec.planText (planOf n plan)) ⌝ }
 {
     let fw = plan.forward;
@@ -204,7 +206,7 @@ fn put_plan(out: &mut [u8], plan: Plan, n: usize) -> usize
 
 // The text of a plan at the buffer's start, where it fits. The first run is into one byte that nobody reads: it finds the length.
 fn lay_arrays(plan: Plan, n: usize, out: &mut [u8]) -> Written
-    requires { ⌜ (n ≤ 32) × Bounded n plan ⌝ }
+    requires { ⌜ (n ≤ max-variables) × Bounded n plan ⌝ }
     ensures { λ r. ⌜ r ≡ written (now (out .entry)) (spec.planText (planOf n plan)) ⌝ }
     ensures { λ _. ⌜ now (out .exit) ≡ laidIn (now (out .entry)) (spec.planText (planOf n plan)) ⌝ }
 {

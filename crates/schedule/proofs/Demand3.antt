@@ -227,7 +227,7 @@ from-once n j = go (decLt j n)
 module _ (n : ℕ) (K : ℕ → List ℕ) (N order : List ℕ) (distinct : (f : ℕ) → count f N ≤ 1) (registered : (f : ℕ) → In f N → (j : ℕ) → In j (K f) → j < n)
     (each : (j : ℕ) → count j order ≡ count j (from 0 n)) where
   -- the order is as long as there are keys
-  long : length order ≡ n
+  pub long : length order ≡ n
   long = omega (arith, length-sum order, sum-perm (λ x. 1) order (from 0 n) each, length-sum (from 0 n), length-from 0 n)
 
   reversed : (k : ℕ) (pre q : List ℕ) → order ≡ pre ++ (k ∷ q) → reverse order ≡ reverse q ++ (k ∷ reverse pre)
@@ -257,7 +257,7 @@ module _ (n : ℕ) (K : ℕ → List ℕ) (N order : List ℕ) (distinct : (f : 
           (subst (λ (o : List ℕ). (ak out : List ℕ) × Side K N q k ((after n K N o) .messages) ak out) (sym (reverse-reverse order ∙ e)) (a-side n K N pre q k (λ j. omega (arith, ap (count j) e, each j, from-once n j)) (λ j h. from-lt j n (omega (arith, ap (count j) e, each j)))))
 
   -- what the plan has gathered at a key
-  gathered-at : (k : ℕ) → k < n → (d : Gathered) → getD ((plan n K N order) .at-key) k d ≡ gather n K N (full-pass n K N order) (full-pass n K N (reverse order)) (place k order) k
+  pub gathered-at : (k : ℕ) → k < n → (d : Gathered) → getD ((plan n K N order) .at-key) k d ≡ gather n K N (full-pass n K N order) (full-pass n K N (reverse order)) (place k order) k
   unfolding plan
   gathered-at k l d = nth at 0 n k l d ∙ ap at (zero-add k)
     where

@@ -31,6 +31,10 @@ pub record Tidy (n : ℕ) (K : ℕ → List ℕ) (N : List ℕ) (ms : List Close
   pub keyed : (s : Slot) → List·Memᴰ s (m .content) → (x : ℕ) → In x (keysOf K ms s) → 1 ≤ count x (m .cleared) + count x (m .kept)
   pub originals : (i : ℕ) → List·Memᴰ (original i) (m .content) → In i N
 
+-- among more originals it holds too
+pub tidy-more : {n : ℕ} {K : ℕ → List ℕ} {N N′ : List ℕ} {ms : List ClosedFactor} {m : ClosedFactor} → ((i : ℕ) → In i N → In i N′) → Tidy n K N ms m → Tidy n K N′ ms m
+tidy-more more t = record { apart = t .apart; low = t .low; keyed = t .keyed; originals = λ i h. more i (t .originals i h) }
+
 module _ (n : ℕ) (K : ℕ → List ℕ) (N P : List ℕ) (st : State) (k : ℕ) (once : (j : ℕ) → count j (k ∷ P) ≤ 1) (below : (j : ℕ) → In j (k ∷ P) → j < n) (run : Run K N P st) where
   abbrev ms : List ClosedFactor
   ms = st .messages
@@ -160,6 +164,20 @@ tidied n K N (k ∷ P) once below =
     let b : (j : ℕ) → In j P → j < n = λ j h. below j (omega (arith, count-cons j k P)) in
     step-tidy n K N P (after n K N P) k once below (running n K N P o b) (tidied n K N P o b)
 
+-- a step sends one message at most
+step-most : (n : ℕ) (K : ℕ → List ℕ) (t k : ℕ) (st : State) → length (step n K t k st .messages) ≤ length (st .messages) + 1
+unfolding step closing sending append
+step-most n K t k st = go (rising n (λ j. mem j (k ∷ st .active-keys) && not (stays k (coupled K (st .messages) (k ∷ st .active-keys) (st .active)) j)))
+  where
+    go : (v : List ℕ) → length (sending n K t st (keep (stays k (coupled K (st .messages) (k ∷ st .active-keys) (st .active))) (k ∷ st .active-keys)) v .messages) ≤ length (st .messages) + 1
+    go [] = omega arith
+    go (c ∷ cs) = simp length-append (omega arith)
+
+messages-most : (n : ℕ) (K : ℕ → List ℕ) (N P : List ℕ) → length (after n K N P .messages) ≤ length P
+unfolding after
+messages-most n K N [] = omega arith
+messages-most n K N (k ∷ P) = omega (arith, step-most n K (length P) k (after n K N P), messages-most n K N P)
+
 -- ---- a whole pass, along an order that names each key once
 
 module _ (n : ℕ) (K : ℕ → List ℕ) (N order : List ℕ) (each : (j : ℕ) → count j order ≡ count j (from 0 n)) where
@@ -182,6 +200,10 @@ module _ (n : ℕ) (K : ℕ → List ℕ) (N order : List ℕ) (each : (j : ℕ)
   unfolding full-pass
   steps j l = omega (arith, running n K N (reverse order) once below .steps j l, length-reverse order)
 
+  pub few-messages : length (full-pass n K N order) ≤ length order
+  unfolding full-pass
+  few-messages = omega (arith, messages-most n K N (reverse order), length-reverse order)
+
 -- ---- what a key gathers
 
 pub record Settled (n : ℕ) (K : ℕ → List ℕ) (N : List ℕ) (fw bw : List ClosedFactor) (k : ℕ) (g : Gathered) : Type 0 where
@@ -192,6 +214,10 @@ pub record Settled (n : ℕ) (K : ℕ → List ℕ) (N : List ℕ) (fw bw : List
   pub forward : (j : ℕ) → In j (g .forward) → (j < length fw) × ((x : ℕ) → In x (at fw j .kept) → 1 ≤ count x (g .last) + count x (k ∷ []))
   pub backward : (j : ℕ) → In j (g .backward) → (j < length bw) × ((x : ℕ) → In x (at bw j .kept) → 1 ≤ count x (g .last) + count x (k ∷ []))
   pub originals : (i : ℕ) → In i (g .originals) → In i N × ((x : ℕ) → In x (K i) → 1 ≤ count x (g .last) + count x (k ∷ []))
+
+-- among more originals it holds too
+pub settled-more : {n : ℕ} {K : ℕ → List ℕ} {N N′ : List ℕ} {fw bw : List ClosedFactor} {k : ℕ} {g : Gathered} → ((i : ℕ) → In i N → In i N′) → Settled n K N fw bw k g → Settled n K N′ fw bw k g
+settled-more more s = record { apart = s .apart; low = s .low; forward = s .forward; backward = s .backward; originals = λ i h. (more i (s .originals i h .0), s .originals i h .1) }
 
 hit-most : (x y : ℕ) → hit x y ≤ 1
 hit-most x y = go (hit-cases x y)

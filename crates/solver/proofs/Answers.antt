@@ -3,18 +3,21 @@ use mathlib.Core.Path.{_≡_, refl, sym, ap, _∙_}
 use mathlib.Core.Bool.{Bool, true, false, cond}
 use mathlib.Core.List.{List, []}
 use Prim.Native.Nat.{ℕ}
-use Rattle.factor.specs.Limits.{max-factors}
+use lib.ListN.{take}
+use Rattle.factor.specs.Limits.{max-variables, max-factors}
 use Rattle.factor.specs.Told.{value, refusal}
 use Rattle.graph.specs.Record.{valid}
 use Rattle.graph.specs.declared.Graph.{Graph}
 use Rattle.graph.specs.declared.refusal.Refusal.{Refusal}
 use Rattle.graph.specs.declared.refusal.Refusal.the-variants.{NoSuchGraph}
+use Rattle.graph.proofs.Validity.{valid-variables, valid-count}
 use Rattle.schedule.specs.Count.{from}
 use Rattle.schedule.specs.Plan as lists
 use Rattle.plan.specs.Factors.{keysAt}
-use Rattle.plan.specs.Plan.{planOf, risingPlan}
+use Rattle.plan.specs.Plan.{planOf}
 use Rattle.plan.specs.declared.factors.FactorKeys.{FactorKeys}
 use Rattle.plan.specs.declared.plan.Plan.{Plan}
+use Rattle.plan.proofs.Rising.{take-from}
 use Rattle.plan_answer.specs.Answer.{answerOf}
 use Rattle.plan_answer.specs.declared.Plan as struct
 use Rattle.solver.specs.Plan.{graphPlan, noPlan, Answer, planned, answer, read, Table}
@@ -24,18 +27,24 @@ use Rattle.solver.specs.declared.Outcome.the-variants.{Made, Refused}
 use Rattle.solver.specs.Told.{outcomeTold, planTold}
 use Rattle.solver.proofs.Tables.{same-keys}
 
-empty-plan : (K : ℕ → List ℕ) → lists.plan 0 K (from 0 0) (from 0 0) ≡ noPlan
-unfolding lists.plan
-empty-plan K = refl
+-- all originals and all keys in their order, as the plan's code is given them: the plan is the graph's
+pub graph-plan : (g : Graph) (table : List FactorKeys) (live order : List ℕ) → valid g ≡ true → Table g max-factors table → live ≡ from 0 max-factors → order ≡ from 0 max-variables
+    → lists.plan (g .variables) (keysAt table (g .count)) (take (g .count) live) (take (g .variables) order) ≡ graphPlan g
+unfolding graphPlan
+graph-plan g table live order v t el eo = rw (el, eo, take-from 0 max-factors (g .count) (valid-count g v), take-from 0 max-variables (g .variables) (valid-variables g v), same-keys g table v t)
 
-pub made : (g : Graph) (table : List FactorKeys) (p : Plan) → valid g ≡ true → Table g max-factors table → planOf (g .variables) p ≡ risingPlan table (g .count) (g .variables)
-    → read (record { outcome = Made; keys = g .variables; plan = p }) ≡ planned g
-unfolding read planned graphPlan
-made g table p v t e = rw (v, e, same-keys g table v t)
-
-pub turned-back : (g : Graph) (table : List FactorKeys) (p : Plan) → valid g ≡ false → planOf 0 p ≡ risingPlan table 0 0 → read (record { outcome = Refused NoSuchGraph; keys = 0; plan = p }) ≡ planned g
+pub made : (g : Graph) (p : Plan) → valid g ≡ true → planOf (g .variables) p ≡ graphPlan g → read (record { outcome = Made; keys = g .variables; plan = p }) ≡ planned g
 unfolding read planned
-turned-back g table p v e = rw (v, e ∙ empty-plan (keysAt table 0))
+made g p v e = rw (v, e)
+
+-- there are no messages along an order of no keys
+empty-plan : (K : ℕ → List ℕ) (N : List ℕ) → lists.plan 0 K N [] ≡ noPlan
+unfolding lists.plan
+empty-plan K N = refl
+
+pub turned-back : (g : Graph) (K : ℕ → List ℕ) (N : List ℕ) (p : Plan) → valid g ≡ false → planOf 0 p ≡ lists.plan 0 K N [] → read (record { outcome = Refused NoSuchGraph; keys = 0; plan = p }) ≡ planned g
+unfolding read planned
+turned-back g K N p v e = rw (v, e ∙ empty-plan K N)
 
 pub told : (r : Arranged) (g : Graph) (p : struct.Plan) → read r ≡ planned g → p ≡ answerOf (planOf (r .keys) (r .plan)) → _≡_ {A = Planned} (record { outcome = r .outcome; keys = r .keys; plan = p }) (answer g)
 unfolding read answer

@@ -1,94 +1,77 @@
--- The plan of a valid graph can be carried out: its messages and its gatherings have what the arithmetic relies on. Assumes nothing.
-use mathlib.Core.Path.{_≡_, refl, sym, ap, _∙_}
+-- A plan over originals of a valid graph, along any order of its keys, can be carried out: its messages and its gatherings have what a run relies on. The graph's own plan is one such. Assumes nothing.
+use mathlib.Core.Path.{_≡_, refl, _∙_}
 use mathlib.Core.Bool.{true}
 use mathlib.Core.List.{List, reverse}
 use Prim.Native.Nat.{ℕ, _-_, _≤_, _<_}
 use native.Mathlib.Omega.{arith}
-use native.Mathlib.Nat.{zero-add}
-use lib.ListN.{length, getD, take, length-take, length-reverse}
-use lib.Seq.{getD-take}
+use lib.ListN.{length, length-map, length-reverse}
 use Rattle.graph.specs.Record.{valid}
 use Rattle.graph.specs.declared.Graph.{Graph}
 use Rattle.graph.proofs.Validity.{valid-variables}
-use Rattle.schedule.specs.Count.{count, from}
-use Rattle.schedule.specs.Pass.{ClosedFactor, at, full-pass}
-use Rattle.schedule.specs.Gather.{Gathered, gather, gatherAt}
+use Rattle.schedule.specs.Count.{count, In, from}
+use Rattle.schedule.specs.Pass.{full-pass}
+use Rattle.schedule.specs.Gather.{gather}
 use Rattle.schedule.specs.Plan as lists
-use Rattle.schedule.proofs.Counts.{count-reverse}
-use Rattle.schedule.proofs.Messages.{tidy, older, steps, Settled, settled}
+use Rattle.schedule.proofs.Counts.{count-reverse, from-in}
+use Rattle.schedule.proofs.Runs.{from-lt}
+use Rattle.schedule.proofs.Messages.{tidy, tidy-more, older, steps, few-messages, settled, settled-more}
+use Rattle.schedule.proofs.Demand3.{from-once, long, gathered-at, demand3}
 use Rattle.schedule.proofs.Sums.{length-from}
-use Rattle.plan.specs.Plan.{planOf, Bounded, noGathered}
-use Rattle.plan.specs.Pass.{messagesOf}
-use Rattle.plan.specs.Gather.{gatheredOf}
-use Rattle.plan.specs.declared.plan.Plan.{Plan}
-use Rattle.plan.proofs.Sending.{messages-length}
-use Rattle.plan.proofs.Unions.{at-from}
 use Rattle.messages.specs.Tables.{keysOf, Carriable}
-use Rattle.messages.proofs.Members.{at-map}
 use Rattle.solver.specs.Plan.{graphPlan}
+use Rattle.solver.specs.Stages.{Runnable}
 use Rattle.solver.proofs.GraphOnce.{low}
 
-module _ (g : Graph) (v : valid g ≡ true) where
+module _ (g : Graph) (v : valid g ≡ true) (N order : List ℕ) (live : (i : ℕ) → In i N → i < g .count) (distinct : (f : ℕ) → count f N ≤ 1)
+    (each : (j : ℕ) → count j order ≡ count j (from 0 (g .variables))) where
   abbrev n : ℕ
   n = g .variables
 
-  abbrev N : List ℕ
-  N = from 0 (g .count)
+  abbrev K : ℕ → List ℕ
+  K = keysOf g
+
+  known : (i : ℕ) → In i N → In i (from 0 (g .count))
+  known i h = omega (arith, from-in i 0 (g .count) (omega arith) (omega (arith, live i h)))
+
+  order-long : length order ≡ n
+  order-long = long n K N order distinct (λ f s. low g v f) each
 
   -- a pass along an order of all keys
-  carriable : (order : List ℕ) → ((j : ℕ) → count j order ≡ count j (from 0 n)) → length (full-pass n (keysOf g) N order) ≤ 32 → Carriable g (full-pass n (keysOf g) N order)
-  carriable order each few = record { sound = v; few = few; tidy = tidy n (keysOf g) N order each; older = older n (keysOf g) N order each }
+  carriable : (o : List ℕ) → ((j : ℕ) → count j o ≡ count j (from 0 n)) → length o ≡ n → Carriable g (full-pass n K N o)
+  carriable o all e =
+      record {
+        sound = v;
+        few = omega (arith, few-messages n K N o all, valid-variables g v);
+        tidy = λ j h. tidy-more known (tidy n K N o all j h);
+        older = older n K N o all;
+      }
 
-  falling : (j : ℕ) → count j (reverse (from 0 n)) ≡ count j (from 0 n)
-  falling j = count-reverse j (from 0 n)
+  back : (j : ℕ) → count j (reverse order) ≡ count j (from 0 n)
+  back j = count-reverse j order ∙ each j
 
-  module _ (p : Plan) (bounded : Bounded n p) (is : planOf n p ≡ graphPlan g) where
-    forward-is : messagesOf (p .forward) ≡ graphPlan g .forward
-    unfolding planOf
-    forward-is = ap (λ (q : lists.Plan). q .forward) is
+  back-long : length (reverse order) ≡ n
+  back-long = length-reverse order ∙ order-long
 
-    backward-is : messagesOf (p .backward) ≡ graphPlan g .backward
-    unfolding planOf
-    backward-is = ap (λ (q : lists.Plan). q .backward) is
+  pub runnable : Runnable g (lists.plan n K N order)
+  unfolding lists.plan gather
+  runnable =
+      let fw : Carriable g (full-pass n K N order) = carriable order each order-long in
+      let bw : Carriable g (full-pass n K N (reverse order)) = carriable (reverse order) back back-long in
+      record {
+        forward = fw;
+        backward = bw;
+        forward-steps = λ j h. omega (arith, steps n K N order each j h, order-long);
+        backward-steps = λ j h. omega (arith, steps n K N (reverse order) back j h, back-long);
+        for-each = length-map (from 0 n) _ ∙ length-from 0 n;
+        settled =
+            λ k h d. rw (gathered-at n K N order distinct (λ f s. low g v f) each k h d)
+            (settled-more known
+            (settled n K N (full-pass n K N order) (full-pass n K N (reverse order)) (lists.place k order) (n - 1 - lists.place k order) k
+            (λ j l x i. fw .tidy j l .low x (omega arith)) (λ j l x i. bw .tidy j l .low x (omega arith)) (λ i s x u. low g v i x u)));
+        single = λ k h d f. omega (arith, demand3 n K N order distinct (λ f s. low g v f) each k h d .listed f, distinct f);
+      }
 
-    pub forward-carriable : Carriable g (messagesOf (p .forward))
-    unfolding graphPlan lists.plan
-    forward-carriable =
-        let few : length (messagesOf (p .forward)) ≤ 32 = omega (arith, messages-length (p .forward), bounded .forward .few, valid-variables g v) in
-        rw forward-is (carriable (from 0 n) (λ j. refl) (rw forward-is at few))
-
-    pub backward-carriable : Carriable g (messagesOf (p .backward))
-    unfolding graphPlan lists.plan
-    backward-carriable =
-        let few : length (messagesOf (p .backward)) ≤ 32 = omega (arith, messages-length (p .backward), bounded .backward .few, valid-variables g v) in
-        rw backward-is (carriable (reverse (from 0 n)) falling (rw backward-is at few))
-
-    -- a step of the backward pass is one of n
-    pub backward-steps : (j : ℕ) → j < length (messagesOf (p .backward)) → at (messagesOf (p .backward)) j .step < n
-    unfolding graphPlan lists.plan
-    backward-steps j l =
-        let e : length (reverse (from 0 n)) ≡ n = length-reverse (from 0 n) ∙ length-from 0 n in
-        rw backward-is (omega (arith, steps n (keysOf g) N (reverse (from 0 n)) falling j (rw backward-is at l), e))
-
-    -- what a key gathers, in the arrays and in the plan
-    gathered-is : (k : ℕ) → k < n → (d : Gathered) → gatheredOf (getD (p .at) k noGathered) ≡ getD (graphPlan g .at-key) k d
-    unfolding planOf
-    gathered-is k l d =
-        let long : k < length (take n (p .at)) = omega (arith, length-take n (p .at), bounded .long, valid-variables g v) in
-        ap gatheredOf (sym (getD-take n (p .at) k noGathered l)) ∙ sym (at-map gatheredOf (take n (p .at)) k noGathered d long) ∙ ap (λ (q : lists.Plan). getD (q .at-key) k d) is
-
-    pub all-settled : (k : ℕ) → k < n → Settled n (keysOf g) N (messagesOf (p .forward)) (messagesOf (p .backward)) k (gatheredOf (getD (p .at) k noGathered))
-    unfolding graphPlan lists.plan gather
-    all-settled k l =
-        let fc = forward-carriable in
-        let bc = backward-carriable in
-        let order : List ℕ = from 0 n in
-        let fw : List ClosedFactor = full-pass n (keysOf g) N order in
-        let bw : List ClosedFactor = full-pass n (keysOf g) N (reverse order) in
-        let e : gatheredOf (getD (p .at) k noGathered) ≡ gatherAt n (keysOf g) N (messagesOf (p .forward)) (messagesOf (p .backward)) (lists.place k order) (n - 1 - lists.place k order) k
-        = gathered-is k l (gatheredOf noGathered) ∙ at-from (λ k. gather n (keysOf g) N fw bw (lists.place k order) k) 0 n k (gatheredOf noGathered) l
-        ∙ ap (λ (i : ℕ). gather n (keysOf g) N fw bw (lists.place i order) i) (zero-add k)
-        ∙ rw (forward-is, backward-is) refl in
-        rw e
-        (settled n (keysOf g) N (messagesOf (p .forward)) (messagesOf (p .backward)) (lists.place k order) (n - 1 - lists.place k order) k
-        (λ j h x i. fc .tidy j h .low x (omega arith)) (λ j h x i. bc .tidy j h .low x (omega arith)) (λ i h x u. low g v i x u))
+-- over all factors and with keys rising
+pub graph-runnable : (g : Graph) → valid g ≡ true → Runnable g (graphPlan g)
+unfolding graphPlan
+graph-runnable g v = runnable g v (from 0 (g .count)) (from 0 (g .variables)) (λ i h. from-lt i (g .count) h) (from-once (g .count)) (λ j. refl)

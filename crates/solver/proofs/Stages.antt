@@ -1,21 +1,23 @@
 -- The stages of a run come to what the definition says. Assumes nothing.
 use mathlib.Core.Path.{_≡_, refl, sym, ap, _∙_, subst}
-use mathlib.Core.Bool.{true, false}
+use mathlib.Core.Bool.{Bool, true, false, not, cond}
 use mathlib.Core.List.{List, [], _∷_, _++_, append-assoc}
 use Prim.Native.Nat.{ℕ, zero, suc, _+_, _*_, _-_, _≤_, _<_}
 use native.Mathlib.Nat.{mul-le-mul}
 use native.Mathlib.Omega.{arith}
 use lib.Ieee.{Float}
-use lib.ListN.{length, getD, take, drop}
-use lib.Seq.{take-at, drop-drop}
+use lib.ListN.{length, getD, take, drop, length-take}
+use lib.Seq.{take-at, drop-drop, getD-take}
 use lib.Dec.{leb}
-use borrow.Author.Tests.{le-leb, lt-leb}
+use borrow.Author.Tests.{leb-true, le-leb, lt-leb}
 use Rattle.matrix.specs.Views.{part, splice}
+use Rattle.factor.specs.Limits.{max-variables}
 use Rattle.workspace.specs.Frames.{work-numbers}
 use Rattle.workspace.proofs.Parts.{part-below}
 use Rattle.factor.specs.Counting as counting
 use Rattle.factor.specs.Counting.{every}
 use Rattle.factor.specs.Factor.{sizeOf, lay}
+use Rattle.factor.proofs.Counting.{every-at}
 use Rattle.graph.specs.Record.{offset, valid}
 use Rattle.graph.specs.declared.Graph.{Graph}
 use Rattle.graph.specs.declared.refusal.Refusal.{Refusal}
@@ -26,10 +28,12 @@ use Rattle.schedule.specs.Plan as lists
 use Rattle.plan.specs.Pass.{messagesOf, msgAt}
 use Rattle.plan.specs.declared.pass.Pass.{Pass}
 use Rattle.plan.proofs.Unions.{at-msg}
-use Rattle.plan.specs.Plan.{planOf, Bounded}
+use Rattle.plan.specs.Gather.{gatheredOf}
+use Rattle.plan.specs.Plan.{planOf, noGathered, Bounded}
 use Rattle.slots.specs.Tables.{numbersOf}
 use Rattle.tables.specs.Originals.{Originals}
 use Rattle.lists.specs.Lists.{messageNumber, backward-shift}
+use Rattle.plan.specs.declared.gather.Gathered as arrays
 use Rattle.plan.specs.declared.plan.Plan.{Plan}
 use Rattle.plan.specs.Pass as pass
 use Rattle.plan.proofs.Sending.{messages-length}
@@ -37,11 +41,13 @@ use Rattle.plan.proofs.Stepping.{ready-later}
 use Rattle.gaussian.specs.Elimination.{Outcome, pivot, unbounded, message}
 use Rattle.messages.specs.Values.{values, none, stopped, stopFrom, finished, overlaid}
 use Rattle.messages.specs.Figure.{rowsAt, widthAt, needTo, need}
+use Rattle.messages.proofs.Members.{at-map}
 use Rattle.messages.proofs.Rows.{products}
 use Rattle.messages.proofs.Slots.{message-rows-most, message-kept, message-few, need-rises}
 use Rattle.messages.proofs.Reading.{values-length}
+use Rattle.messages.proofs.Carrying.{stored-stays}
 use Rattle.messages.specs.Tables.{Carriable, AllStored, Tables, PlacedTo, Before, keys-length, heads-length, firstKey}
-use Rattle.messages.specs.Asked.{stopOf}
+use Rattle.messages.specs.Asked.{most-start, stopOf}
 use Rattle.messages.specs.declared.Carried.{Carried}
 use Rattle.messages.specs.declared.Carried.the-variants.{Through, Halted}
 use Rattle.marginals.specs.Asked.{placeOf, Findable, Gatherable, planned, Finds, FindsPlanned}
@@ -54,12 +60,14 @@ use Rattle.solver.specs.Plan.{graphPlan, read}
 use Rattle.solver.specs.Plan as spec
 use Rattle.solver.specs.declared.Arranged as calls
 use Rattle.solver.specs.declared.Outcome.the-variants.{Made}
-use Rattle.solver.specs.Run.{Verdict, refusal, first, second, third, carried, checked, figureOf, run}
-use Rattle.solver.specs.Stages.{verdict, Planned, Ready, Enough, thirdOf, secondOf}
+use Rattle.solver.specs.Run.{Verdict, refusal, refuse, first, second, third, carried, checked, figureOf, run}
+use Rattle.solver.specs.Stages.{verdict, Planned, Ready, Enough, storesOf, ThirdPlanned}
+use Rattle.solver.specs.declared.run.Places.{Places}
 use Rattle.solver.specs.declared.run.Ran.{Ran}
 use Rattle.solver.specs.declared.run.Ended.the-variants.{Done}
+use Rattle.solver.specs.declared.run.Stores.the-variants as stores
 use Rattle.solver.proofs.Answers.{made-valid}
-use Rattle.solver.proofs.Carriable.{forward-carriable, backward-carriable, backward-steps, all-settled}
+use Rattle.solver.proofs.Carriable.{graph-runnable}
 
 -- ---- leaves
 
@@ -73,7 +81,7 @@ no-place sizes = refl
 pub place-next : (sizes : List ℕ) (k sum s : ℕ) → sum ≡ placeOf sizes k → s ≡ sizeOf sizes k → sum + (s + s * s) ≡ placeOf sizes (k + 1)
 place-next sizes k sum s e es = rw (e, es) (sym (place-more sizes k))
 
-pub numbers-told : (g : Graph) → valid g ≡ true → (sum k : ℕ) → sum ≡ placeOf (g .sizes) k → k ≡ 32 → (sum ≡ marginalNumbers g) × (sum ≤ 224)
+pub numbers-told : (g : Graph) → valid g ≡ true → (sum k : ℕ) → sum ≡ placeOf (g .sizes) k → k ≡ max-variables → (sum ≡ marginalNumbers g) × (sum ≤ 224)
 unfolding placeOf marginalNumbers
 numbers-told g v sum k e ek =
     let t : sum ≡ marginalNumbers g = e ∙ ap (placeOf (g .sizes)) ek in
@@ -85,51 +93,30 @@ step-told p j l = sym (ap (λ (m : ClosedFactor). m .step) (at-msg p j l))
 
 -- ---- stage 3
 
-module _ (g : Graph) (p : Plan) (half figure : ℕ) (keys heads : List ℕ) (factors messages marginals : List Float) (work : ℕ) (ready : Ready g p half figure keys heads)
-    (enough : Enough g figure factors messages work (length marginals)) (fw : AllStored g factors (messagesOf (p .forward)) 0 messages) (bw : AllStored g factors (messagesOf (p .backward)) half messages) where
-  gatherable : Gatherable g (planOf (g .variables) p) (p .at) factors messages keys heads
-  unfolding planOf
-  gatherable =
-      let pl = ready .plan in
-      record {
-        forward = forward-carriable g (pl .sound) p (pl .bounded) (pl .is);
-        backward = backward-carriable g (pl .sound) p (pl .bounded) (pl .is);
-        tables = ready .tables;
-        placed = ready .placed;
-        placed′ = rw (← ready .half-is) (ready .placed′);
-        stored = fw .each;
-        stored′ = rw (← ready .half-is) (bw .each);
-        long = omega (arith, pl .bounded .long, valid-variables g (pl .sound));
-        gathers = refl;
-        held = pl .bounded .held;
-        settled = all-settled g (pl .sound) p (pl .bounded) (pl .is);
-        enough = enough .of-factors;
-        enough′ = omega (arith, ready .half-is, ready .figure-is, enough .of-messages);
-      }
+-- the results have room for any graph's marginals
+pub with-room : {g : Graph} {at : List arrays.Gathered} {factors messages : List Float} {work : ℕ} {keys heads : List ℕ} {marginals : ℕ} → Findable g at factors messages work keys heads marginals
+    → (results : ℕ) → 224 ≤ results → Findable g at factors messages work keys heads results
+with-room {g} f results h = record { sound = f .sound; long = f .long; held = f .held; asked = f .asked; room = omega (arith, numbers-most g (f .sound)) }
 
-  pub third-asks : (results : ℕ) → 224 ≤ results → Findable g (p .at) factors messages work keys heads results
-  third-asks results h = findable g (planOf (g .variables) p) (p .at) factors messages keys heads gatherable work results (enough .of-work) (omega (arith, numbers-most g (ready .plan .sound)))
+module _ (g : Graph) (at : List arrays.Gathered) (figure : ℕ) (factors messages : List Float) (keys heads : List ℕ) (marginals : List Float) (r : Carried) (before after : List Float)
+    (finds : FindsPlanned g at factors messages keys heads r before after) where
+  pub third-refused : (k : ℕ) (why : Refusal) → r ≡ Halted k why → ThirdPlanned g at figure factors messages keys heads marginals (refusal figure why 3 k) marginals
+  unfolding third
+  third-refused k why e q ga =
+      let s : missingFrom 0 (planned g factors q) ≡ stopped k why = sym (finds q ga .tells) ∙ ap stopOf e in
+      rw s refl
 
-  module _ (r : Carried) (before after : List Float) (finds : FindsPlanned g (p .at) factors messages keys heads r before after) where
-    found : Finds (planned g factors (planOf (g .variables) p)) (marginalNumbers g) r before after
-    found = finds (planOf (g .variables) p) gatherable
-
-    pub third-refused : (k : ℕ) (why : Refusal) → r ≡ Halted k why → verdict (refusal figure why 3 k) messages marginals ≡ thirdOf g (planOf (g .variables) p) figure factors messages marginals
-    unfolding thirdOf third
-    third-refused k why e =
-        let s : missingFrom 0 (planned g factors (planOf (g .variables) p)) ≡ stopped k why = sym (found .tells) ∙ ap stopOf e in
-        rw s refl
-
-    pub third-done : (n : ℕ) (t marginals′ : List Float) → r ≡ Through → n ≡ marginalNumbers g → t ≡ part after 0 n → marginals′ ≡ splice marginals 0 n t
-        → verdict (record { figure = figure; ended = Done }) messages marginals′ ≡ thirdOf g (planOf (g .variables) p) figure factors messages marginals
-    unfolding thirdOf third
-    third-done n t marginals′ e en et em =
-        let l : List Float = marginalsIn (planned g factors (planOf (g .variables) p)) in
-        let s : missingFrom 0 (planned g factors (planOf (g .variables) p)) ≡ none = sym (found .tells) ∙ ap stopOf e in
-        let k : length l ≡ n - 0 = found .count e ∙ sym en ∙ omega arith in
-        let el : t ≡ l = et ∙ ap (take (n - 0)) (found .stand e) ∙ take-at l (drop (length l) before) (n - 0) k in
-        let em′ : marginals′ ≡ overlaid marginals l = em ∙ ap (λ (x : List Float). x ++ drop (n - 0) marginals) el ∙ ap (λ (i : ℕ). l ++ drop i marginals) (sym k) in
-        rw (s, em′) refl
+  pub third-done : (n : ℕ) (t marginals′ : List Float) → r ≡ Through → n ≡ marginalNumbers g → t ≡ part after 0 n → marginals′ ≡ splice marginals 0 n t
+      → ThirdPlanned g at figure factors messages keys heads marginals (record { figure = figure; ended = Done }) marginals′
+  unfolding third
+  third-done n t marginals′ e en et em q ga =
+      let found : Finds (planned g factors q) (marginalNumbers g) r before after = finds q ga in
+      let l : List Float = marginalsIn (planned g factors q) in
+      let s : missingFrom 0 (planned g factors q) ≡ none = sym (found .tells) ∙ ap stopOf e in
+      let k : length l ≡ n - 0 = found .count e ∙ sym en ∙ omega arith in
+      let el : t ≡ l = et ∙ ap (take (n - 0)) (found .stand e) ∙ take-at l (drop (length l) before) (n - 0) k in
+      let em′ : marginals′ ≡ overlaid marginals l = em ∙ ap (λ (x : List Float). x ++ drop (n - 0) marginals) el ∙ ap (λ (i : ℕ). l ++ drop i marginals) (sym k) in
+      rw (s, em′) refl
 
 -- ---- stores
 
@@ -169,135 +156,182 @@ unfolding values
 stop-low g factors p j why r e er =
     omega (arith, stop-from 0 (values g factors (messagesOf p)) j why (sym e ∙ ap stopOf er), values-length g factors (messagesOf p) (length (messagesOf p)), messages-length p)
 
-module _ (g : Graph) (p : Plan) (half figure : ℕ) (keys heads : List ℕ) (factors messages marginals : List Float) (work : ℕ) (ready : Ready g p half figure keys heads)
-    (enough : Enough g figure factors messages work (length marginals)) where
-  pl : Planned g p
-  pl = ready .plan
+-- what a pass asks for, over tables and stores of these lengths
+abbrev Asks : Graph → Pass → (shift start : ℕ) (keys heads : List ℕ) (factors messages work : ℕ) → Type 0
+Asks g ps shift start keys heads factors messages work =
+    (pass.Ready max-variables ps × Carriable g (messagesOf ps) × (shift ≤ backward-shift) × (start ≤ most-start))
+    × ((Tables g keys heads × PlacedTo g (messagesOf ps) shift start keys heads (length (messagesOf ps)))
+    × ((offset g (g .count) ≤ factors) × (start + need g (messagesOf ps) ≤ messages) × (work-numbers ≤ work)))
 
-  pub forwards : Carriable g (messagesOf (p .forward))
-  forwards = forward-carriable g (pl .sound) p (pl .bounded) (pl .is)
+pass-ready : {g : Graph} {ps : Pass} → Carriable g (messagesOf ps) → pass.Ready (g .variables) ps → pass.Ready max-variables ps × Carriable g (messagesOf ps)
+pass-ready {g} {ps} c r = (ready-later (g .variables) max-variables ps (ps .active) (valid-variables g (c .sound)) r, c)
 
-  pub backwards : Carriable g (messagesOf (p .backward))
-  backwards = backward-carriable g (pl .sound) p (pl .bounded) (pl .is)
+-- what a pass of a plan is placed and carried with
+module _ (g : Graph) (p : Plan) (pl : Planned g p (planOf (g .variables) p)) where
+  pub forwards : pass.Ready max-variables (p .forward) × Carriable g (messagesOf (p .forward))
+  unfolding planOf
+  forwards = pass-ready (pl .runnable .forward) (pl .bounded .forward)
 
-  pub half-most : half ≤ 66560
-  half-most = rw (ready .half-is) (need-most g (messagesOf (p .forward)) forwards)
+  pub backwards : pass.Ready max-variables (p .backward) × Carriable g (messagesOf (p .backward))
+  unfolding planOf
+  backwards = pass-ready (pl .runnable .backward) (pl .bounded .backward)
 
-  pub forward-ready : pass.Ready 32 (p .forward)
-  forward-ready = ready-later (g .variables) 32 (p .forward) (p .forward .active) (valid-variables g (pl .sound)) (pl .bounded .forward)
+  pub forward-most : need g (messagesOf (p .forward)) ≤ 66560
+  forward-most = need-most g (messagesOf (p .forward)) (forwards .1)
 
-  pub backward-ready : pass.Ready 32 (p .backward)
-  backward-ready = ready-later (g .variables) 32 (p .backward) (p .backward .active) (valid-variables g (pl .sound)) (pl .bounded .backward)
+  -- a refused message has a step
+  pub step-fits : (factors : List Float) (j : ℕ) (why : Refusal) (r : Carried) → stopOf r ≡ stopFrom 0 (values g factors (messagesOf (p .backward))) → r ≡ Halted j why
+      → at (messagesOf (p .backward)) j .step < g .variables
+  unfolding planOf
+  step-fits factors j why r et er = pl .runnable .backward-steps j (omega (arith, stop-low g factors (p .backward) j why r et er, messages-length (p .backward)))
 
-  pub forward-room : 0 + need g (messagesOf (p .forward)) ≤ length messages
-  forward-room = omega (arith, ready .half-is, ready .figure-is, enough .of-messages)
+  -- ---- with their places
+  module _ (places : Places) (keys heads : List ℕ) (ready : Ready g (planOf (g .variables) p) places keys heads) where
+    half-is : places .half ≡ need g (messagesOf (p .forward))
+    unfolding planOf
+    half-is = ready .half-is
 
-  pub backward-room : half + need g (messagesOf (p .backward)) ≤ length messages
-  backward-room = omega (arith, ready .figure-is, enough .of-messages)
+    figure-is : places .figure ≡ places .half + need g (messagesOf (p .backward))
+    unfolding planOf
+    figure-is = ready .figure-is
 
-  -- ---- stage 2, where messages are those of stage 1
-  module _ (r : Carried) (after : List Float) (et : stopOf r ≡ stopFrom 0 (values g factors (messagesOf (p .backward)))) (ea : after ≡ lay messages half (finished (values g factors (messagesOf (p .backward))))) where
-    pub second-refused : (j step : ℕ) (why : Refusal) → r ≡ Halted j why → step ≡ at (messagesOf (p .backward)) j .step
-        → verdict (refusal figure why 2 (g .variables - 1 - step)) after marginals ≡ secondOf g (planOf (g .variables) p) half figure factors messages marginals
-    unfolding secondOf second planOf
+    pub first-asks : (factors messages work marginals : ℕ) → Enough g (places .figure) factors messages work marginals → Asks g (p .forward) 0 0 keys heads factors messages work
+    unfolding planOf
+    first-asks factors messages work marginals enough =
+        ((forwards .0, forwards .1, omega arith, omega arith), ((ready .tables, ready .placed), (enough .of-factors, omega (arith, half-is, figure-is, enough .of-messages), enough .of-work)))
+
+    pub second-asks : (factors messages work marginals : ℕ) → Enough g (places .figure) factors messages work marginals → Asks g (p .backward) backward-shift (places .half) keys heads factors messages work
+    unfolding planOf
+    second-asks factors messages work marginals enough = (
+      (backwards .0, backwards .1, omega arith, omega (arith, half-is, forward-most)),
+      ((ready .tables, ready .placed′), (enough .of-factors, omega (arith, figure-is, enough .of-messages), enough .of-work)),
+    )
+
+    module _ (factors messages : List Float) (work marginals : ℕ) (enough : Enough g (places .figure) (length factors) (length messages) work marginals) where
+      -- the forward messages end at half
+      pub forward-ends : (after : List Float) → AllStored g factors (messagesOf (p .forward)) 0 after
+          → (places .half ≡ 0 + length (finished (values g factors (messagesOf (p .forward))))) × (0 + length (finished (values g factors (messagesOf (p .forward)))) ≤ length messages)
+      forward-ends after fw = (omega (arith, half-is, fw .long), omega (arith, half-is, figure-is, fw .long, enough .of-messages))
+
+      -- the forward messages stand where they stood
+      pub forward-stays : (after : List Float) → after ≡ lay messages (places .half) (finished (values g factors (messagesOf (p .backward)))) → AllStored g factors (messagesOf (p .forward)) 0 messages
+          → AllStored g factors (messagesOf (p .backward)) (places .half) after → AllStored g factors (messagesOf (p .forward)) 0 after
+      unfolding need
+      forward-stays after ea fw bw =
+          record {
+            each = λ j h.
+                stored-stays g factors (messagesOf (p .forward)) 0 messages after j (length (messagesOf (p .forward))) (places .half) h (omega (arith, half-is))
+                (λ a b l. part-stays messages (finished (values g factors (messagesOf (p .backward)))) after (places .half) a b ea (omega (arith, figure-is, enough .of-messages, bw .long)) l) (fw .each j h);
+            long = fw .long;
+          }
+
+      -- ---- stage 3, where all messages have been made
+      module _ (fw : AllStored g factors (messagesOf (p .forward)) 0 messages) (bw : AllStored g factors (messagesOf (p .backward)) (places .half) messages) where
+        -- what a key gathers, in the plan and in the arrays
+        gathered-is : (k : ℕ) → k < g .variables → getD (planOf (g .variables) p .at-key) k (gatheredOf noGathered) ≡ gatheredOf (getD (p .at) k noGathered)
+        unfolding planOf
+        gathered-is k l =
+            let long : k < length (take (g .variables) (p .at)) = omega (arith, length-take (g .variables) (p .at), pl .bounded .long, valid-variables g (forwards .1 .sound)) in
+            at-map gatheredOf (take (g .variables) (p .at)) k noGathered (gatheredOf noGathered) long ∙ ap gatheredOf (getD-take (g .variables) (p .at) k noGathered l)
+
+        pub gatherable : Gatherable g (planOf (g .variables) p) (p .at) factors messages keys heads
+        unfolding planOf
+        gatherable =
+            record {
+              forward = pl .runnable .forward;
+              backward = pl .runnable .backward;
+              tables = ready .tables;
+              placed = ready .placed;
+              placed′ = rw (← ready .half-is) (ready .placed′);
+              stored = fw .each;
+              stored′ = rw (← ready .half-is) (bw .each);
+              long = omega (arith, pl .bounded .long, valid-variables g (forwards .1 .sound));
+              gathers = refl;
+              held = pl .bounded .held;
+              settled = λ k l. rw (← gathered-is k l) (pl .runnable .settled k l (gatheredOf noGathered));
+              enough = enough .of-factors;
+              enough′ = omega (arith, half-is, figure-is, enough .of-messages);
+            }
+
+        pub third-asks : Findable g (p .at) factors messages work keys heads marginals
+        third-asks = findable g (planOf (g .variables) p) (p .at) factors messages keys heads gatherable work marginals (enough .of-work) (enough .of-marginals)
+
+-- ---- the stages in turn
+
+module _ (g : Graph) (q : lists.Plan) (figure : ℕ) (factors messages marginals : List Float) where
+  abbrev fw : List Outcome
+  fw = values g factors (q .forward)
+
+  abbrev bw : List Outcome
+  bw = values g factors (q .backward)
+
+  pub first-refused : (after : List Float) (j step : ℕ) (why : Refusal) (r : Carried) → stopOf r ≡ stopFrom 0 fw → r ≡ Halted j why → after ≡ lay messages 0 (finished fw) → step ≡ at (q .forward) j .step
+      → verdict (refusal figure why 1 step) after marginals ≡ carried g q figure factors messages marginals
+  unfolding carried first
+  first-refused after j step why r et er ea es =
+      let s : stopFrom 0 fw ≡ stopped j why = sym et ∙ ap stopOf er in
+      rw (s, es, ea, laid-first messages (finished fw)) refl
+
+  -- the forward pass is through
+  module _ (half : ℕ) (r₁ r₂ : Carried) (after₁ after₂ : List Float) (et₁ : stopOf r₁ ≡ stopFrom 0 fw) (et₂ : stopOf r₂ ≡ stopFrom 0 bw) (er₁ : r₁ ≡ Through)
+      (ea₁ : after₁ ≡ lay messages 0 (finished fw)) (ea₂ : after₂ ≡ lay after₁ half (finished bw)) (eh : half ≡ 0 + length (finished fw)) (room : 0 + length (finished fw) ≤ length messages) where
+    through : stopFrom 0 fw ≡ none
+    through = sym et₁ ∙ ap stopOf er₁
+
+    both : after₂ ≡ overlaid messages (finished fw ++ finished bw)
+    both = ea₂ ∙ rw ea₁ (lay-lay messages (finished fw) 0 (omega arith) (finished bw) _ eh) ∙ laid-first messages (finished fw ++ finished bw)
+
+    pub second-refused : (j step : ℕ) (why : Refusal) → r₂ ≡ Halted j why → step ≡ at (q .backward) j .step
+        → verdict (refusal figure why 2 (g .variables - 1 - step)) after₂ marginals ≡ carried g q figure factors messages marginals
+    unfolding carried first second
     second-refused j step why er es =
-        let s : stopFrom 0 (values g factors (messagesOf (p .backward))) ≡ stopped j why = sym et ∙ ap stopOf er in
-        rw (s, es, ea) refl
+        let s : stopFrom 0 bw ≡ stopped j why = sym et₂ ∙ ap stopOf er in
+        rw (through, s, es, both) refl
 
-    pub step-fits : (j : ℕ) (why : Refusal) → r ≡ Halted j why → at (messagesOf (p .backward)) j .step < g .variables
-    step-fits j why er = backward-steps g (pl .sound) p (pl .bounded) (pl .is) j (omega (arith, stop-low g factors (p .backward) j why r et er, messages-length (p .backward)))
-
-    pub second-done : (ran : Ran) (marginals′ : List Float) → r ≡ Through → verdict ran after marginals′ ≡ thirdOf g (planOf (g .variables) p) figure factors after marginals
-        → verdict ran after marginals′ ≡ secondOf g (planOf (g .variables) p) half figure factors messages marginals
-    unfolding secondOf second planOf
-    second-done ran marginals′ er e =
-        let s : stopFrom 0 (values g factors (messagesOf (p .backward))) ≡ none = sym et ∙ ap stopOf er in
-        e ∙ ap (λ (x : List Float). thirdOf g (planOf (g .variables) p) figure factors x marginals) ea ∙ rw s refl
-
-    -- the forward messages stand where they stood
-    pub forward-stays : AllStored g factors (messagesOf (p .forward)) 0 messages → AllStored g factors (messagesOf (p .backward)) half after → AllStored g factors (messagesOf (p .forward)) 0 after
-    unfolding need
-    forward-stays fw bw =
-        record {
-          each = λ j h.
-              let o = fw .each j h in
-              record {
-                rows = o .rows;
-                a = o .a;
-                xi = o .xi;
-                w = o .w;
-                is = o .is;
-                of-rows = o .of-rows;
-                of-a = o .of-a;
-                of-xi = o .of-xi;
-                of-w = o .of-w;
-                stands =
-                    part-stays messages (finished (values g factors (messagesOf (p .backward)))) after half (0 + needTo g (messagesOf (p .forward)) j)
-                    (0 + needTo g (messagesOf (p .forward)) j + numbersOf (o .rows) (widthAt g (messagesOf (p .forward)) j)) ea (omega (arith, backward-room, bw .long))
-                    (rw (o .of-rows) (omega (arith, need-rises g (messagesOf (p .forward)) j (length (messagesOf (p .forward))) h, ready .half-is)))
-                    ∙ o .stands;
-              };
-          long = fw .long;
-        }
-
-  -- ---- stage 1
-  module _ (r : Carried) (after : List Float) (et : stopOf r ≡ stopFrom 0 (values g factors (messagesOf (p .forward)))) (ea : after ≡ lay messages 0 (finished (values g factors (messagesOf (p .forward))))) where
-    pub first-refused : (j step : ℕ) (why : Refusal) → r ≡ Halted j why → step ≡ at (messagesOf (p .forward)) j .step
-        → verdict (refusal figure why 1 step) after marginals ≡ carried g (planOf (g .variables) p) figure factors messages marginals
-    unfolding carried first planOf
-    first-refused j step why er es =
-        let s : stopFrom 0 (values g factors (messagesOf (p .forward))) ≡ stopped j why = sym et ∙ ap stopOf er in
-        rw (s, es, ea, laid-first messages (finished (values g factors (messagesOf (p .forward))))) refl
-
-    pub first-done : (ran : Ran) (messages′ marginals′ : List Float) → r ≡ Through → AllStored g factors (messagesOf (p .forward)) 0 after
-        → verdict ran messages′ marginals′ ≡ secondOf g (planOf (g .variables) p) half figure factors after marginals
-        → verdict ran messages′ marginals′ ≡ carried g (planOf (g .variables) p) figure factors messages marginals
-    unfolding carried first secondOf thirdOf planOf
-    first-done ran messages′ marginals′ er fw e =
-        let l : List Float = finished (values g factors (messagesOf (p .forward))) in
-        let m : List Float = finished (values g factors (messagesOf (p .backward))) in
-        let s : stopFrom 0 (values g factors (messagesOf (p .forward))) ≡ none = sym et ∙ ap stopOf er in
-        let k : half ≡ 0 + length l = omega (arith, ready .half-is, fw .long) in
-        let t : lay after half m ≡ overlaid messages (l ++ m)
-        = rw ea (lay-lay messages l 0 (omega arith) m half k) ∙ laid-first messages (l ++ m) in
-        e ∙ rw (t, s) refl
+    pub third-told : (r : Ran) (marginals′ : List Float) → r₂ ≡ Through → verdict r after₂ marginals′ ≡ third figure after₂ marginals (planned g factors q) (missingFrom 0 (planned g factors q))
+        → verdict r after₂ marginals′ ≡ carried g q figure factors messages marginals
+    unfolding carried first second
+    third-told r marginals′ er e =
+        let s : stopFrom 0 bw ≡ none = sym et₂ ∙ ap stopOf er in
+        e ∙ rw (through, s, both) refl
 
 -- the lengths of the stores stay
-pub enough-later : (g : Graph) (figure : ℕ) (factors messages messages′ : List Float) (work work′ marginals : ℕ) → Enough g figure factors messages work marginals → length messages′ ≡ length messages → work′ ≡ work
-    → Enough g figure factors messages′ work′ marginals
-enough-later g figure factors messages messages′ work work′ marginals e em ew =
-    record { of-factors = e .of-factors; of-messages = omega (arith, e .of-messages); of-work = omega (arith, e .of-work); of-marginals = e .of-marginals }
+pub enough-later : {g : Graph} {figure factors messages messages′ work work′ marginals : ℕ} → Enough g figure factors messages work marginals → messages′ ≡ messages → work′ ≡ work → Enough g figure factors messages′ work′ marginals
+enough-later e em ew = rw (em, ew) e
 
 -- ---- the tests of the stores
 
-module _ (g : Graph) (p : lists.Plan) (figure : ℕ) (factors messages marginals : List Float) (work : ℕ) where
-  pub short-factors : length factors < offset g (g .count) → verdict (refusal figure FactorStoreShort 1 0) messages marginals ≡ checked g p figure factors messages work marginals
-  unfolding checked
-  short-factors h = rw (lt-leb (offset g (g .count)) (length factors) h) refl
+-- long enough as the test has it, and in numbers
+pub enough-told : (g : Graph) (figure factors messages work marginals : ℕ) → storesOf g figure factors messages work marginals ≡ stores.Enough → Enough g figure factors messages work marginals
+unfolding storesOf
+enough-told g figure factors messages work marginals e = go (leb (offset g (g .count)) factors) (every (leb figure messages ∷ leb work-numbers work ∷ leb (marginalNumbers g) marginals ∷ [])) refl refl e
+  where
+    go : (a b : Bool) → leb (offset g (g .count)) factors ≡ a → every (leb figure messages ∷ leb work-numbers work ∷ leb (marginalNumbers g) marginals ∷ []) ≡ b
+        → cond (not a) (stores.Short FactorStoreShort) (cond (not b) (stores.Short StoreShort) stores.Enough) ≡ stores.Enough → Enough g figure factors messages work marginals
+    go true true ea eb z =
+        let l : List Bool = leb figure messages ∷ leb work-numbers work ∷ leb (marginalNumbers g) marginals ∷ [] in
+        record { of-factors = leb-true _ _ ea; of-messages = leb-true _ _ (every-at l 0 eb); of-work = leb-true _ _ (every-at l 1 eb); of-marginals = leb-true _ _ (every-at l 2 eb) }
+    go true false ea eb z = absurd (let x : _≡_ {A = ℕ} 0 1 = cc in omega arith)
+    go false b ea eb z = absurd (let x : _≡_ {A = ℕ} 0 1 = cc in omega arith)
 
-  module _ (hf : offset g (g .count) ≤ length factors) where
-    short-other : every (leb figure (length messages) ∷ leb work-numbers work ∷ leb (marginalNumbers g) (length marginals) ∷ []) ≡ false
-        → verdict (refusal figure StoreShort 1 0) messages marginals ≡ checked g p figure factors messages work marginals
-    unfolding checked
-    short-other e = rw (le-leb (offset g (g .count)) (length factors) hf, e) refl
+-- the test is the definition's
+module _ (g : Graph) (q : lists.Plan) (figure : ℕ) (factors messages marginals : List Float) (work : ℕ) where
+  pub short-checked : (why : Refusal) → storesOf g figure (length factors) (length messages) work (length marginals) ≡ stores.Short why
+      → verdict (refusal figure why 1 0) messages marginals ≡ checked g q figure factors messages work marginals
+  unfolding storesOf checked
+  short-checked why e = go (leb (offset g (g .count)) (length factors)) (every (leb figure (length messages) ∷ leb work-numbers work ∷ leb (marginalNumbers g) (length marginals) ∷ [])) e
+    where
+      go : (a b : Bool) → cond (not a) (stores.Short FactorStoreShort) (cond (not b) (stores.Short StoreShort) stores.Enough) ≡ stores.Short why
+          → verdict (refusal figure why 1 0) messages marginals
+          ≡ cond (not a) (refuse figure FactorStoreShort 1 0 messages marginals) (cond (not b) (refuse figure StoreShort 1 0 messages marginals) (carried g q figure factors messages marginals))
+      go false b z = let x : why ≡ FactorStoreShort = cc in rw x
+      go true false z = let x : why ≡ StoreShort = cc in rw x
+      go true true z = absurd (let x : _≡_ {A = ℕ} 0 1 = cc in omega arith)
 
-    pub short-messages : length messages < figure → verdict (refusal figure StoreShort 1 0) messages marginals ≡ checked g p figure factors messages work marginals
-    unfolding every
-    short-messages h = short-other (rw (lt-leb figure (length messages) h) refl)
-
-    module _ (hm : figure ≤ length messages) where
-      pub short-work : work < work-numbers → verdict (refusal figure StoreShort 1 0) messages marginals ≡ checked g p figure factors messages work marginals
-      unfolding every
-      short-work h = short-other (rw (le-leb figure (length messages) hm, lt-leb work-numbers work h) refl)
-
-      module _ (hw : work-numbers ≤ work) where
-        pub short-marginals : length marginals < marginalNumbers g → verdict (refusal figure StoreShort 1 0) messages marginals ≡ checked g p figure factors messages work marginals
-        unfolding every
-        short-marginals h = short-other (rw (le-leb figure (length messages) hm, le-leb work-numbers work hw, lt-leb (marginalNumbers g) (length marginals) h) refl)
-
-        pub checked-enough : marginalNumbers g ≤ length marginals → carried g p figure factors messages marginals ≡ checked g p figure factors messages work marginals
-        unfolding checked every
-        checked-enough h = rw (le-leb (offset g (g .count)) (length factors) hf, le-leb figure (length messages) hm, le-leb work-numbers work hw, le-leb (marginalNumbers g) (length marginals) h) refl
+  pub enough-checked : Enough g figure (length factors) (length messages) work (length marginals) → carried g q figure factors messages marginals ≡ checked g q figure factors messages work marginals
+  unfolding checked every
+  enough-checked e =
+      rw (le-leb (offset g (g .count)) (length factors) (e .of-factors), le-leb figure (length messages) (e .of-messages), le-leb work-numbers work (e .of-work), le-leb (marginalNumbers g) (length marginals) (e .of-marginals)) refl
 
 -- ---- the places of the messages
 
@@ -313,56 +347,45 @@ placed-stays g ms keys heads keys′ heads′ c b placed j h =
       key = λ i l. b .of-keys (firstKey 0 j + i) (omega (arith, c .few, message-few g ms c j h)) ∙ placed j h .key i l;
     }
 
-pub all-ready : (g : Graph) (p : Plan) (half figure : ℕ) (keys heads keys′ heads′ : List ℕ) → Planned g p → half ≡ 0 + need g (messagesOf (p .forward)) → figure ≡ half + need g (messagesOf (p .backward))
+pub all-ready : (g : Graph) (p : Plan) (half figure : ℕ) (keys heads keys′ heads′ : List ℕ) → Planned g p (planOf (g .variables) p) → half ≡ 0 + need g (messagesOf (p .forward)) → figure ≡ half + need g (messagesOf (p .backward))
     → PlacedTo g (messagesOf (p .forward)) 0 0 keys heads (length (messagesOf (p .forward))) → Before backward-shift keys heads keys′ heads′ → Tables g keys′ heads′
-    → PlacedTo g (messagesOf (p .backward)) backward-shift half keys′ heads′ (length (messagesOf (p .backward))) → Ready g p half figure keys′ heads′
+    → PlacedTo g (messagesOf (p .backward)) backward-shift half keys′ heads′ (length (messagesOf (p .backward))) → Ready g (planOf (g .variables) p) (record { half = half; figure = figure }) keys′ heads′
+unfolding planOf
 all-ready g p half figure keys heads keys′ heads′ pl eh ef fw b t bw =
     record {
-      plan = pl;
       tables = t;
-      placed = placed-stays g (messagesOf (p .forward)) keys heads keys′ heads′ (forward-carriable g (pl .sound) p (pl .bounded) (pl .is)) b fw;
+      placed = placed-stays g (messagesOf (p .forward)) keys heads keys′ heads′ (pl .runnable .forward) b fw;
       placed′ = bw;
       half-is = eh ∙ omega arith;
       figure-is = ef;
     }
 
--- what a pass is placed with
-pub plan-forward : (g : Graph) (p : Plan) → Planned g p → pass.Ready 32 (p .forward) × Carriable g (messagesOf (p .forward))
-plan-forward g p pl =
-    (ready-later (g .variables) 32 (p .forward) (p .forward .active) (valid-variables g (pl .sound)) (pl .bounded .forward), forward-carriable g (pl .sound) p (pl .bounded) (pl .is))
-
-pub plan-backward : (g : Graph) (p : Plan) → Planned g p → pass.Ready 32 (p .backward) × Carriable g (messagesOf (p .backward))
-plan-backward g p pl =
-    (ready-later (g .variables) 32 (p .backward) (p .backward .active) (valid-variables g (pl .sound)) (pl .bounded .backward), backward-carriable g (pl .sound) p (pl .bounded) (pl .is))
-
-pub forward-most : (g : Graph) (p : Plan) → Planned g p → need g (messagesOf (p .forward)) ≤ 66560
-forward-most g p pl = need-most g (messagesOf (p .forward)) (forward-carriable g (pl .sound) p (pl .bounded) (pl .is))
-
-pub figure-told : (g : Graph) (p : Plan) (half figure : ℕ) → Planned g p → half ≡ 0 + need g (messagesOf (p .forward)) → figure ≡ half + need g (messagesOf (p .backward)) → figure ≡ figureOf g (graphPlan g)
-unfolding figureOf planOf
-figure-told g p half figure pl eh ef = rw (← pl .is) (omega arith)
-
-pub plan-checked : (g : Graph) (p : Plan) (figure : ℕ) (factors messages marginals : List Float) (work : ℕ) (v : Verdict) → Planned g p → figure ≡ figureOf g (graphPlan g)
-    → v ≡ checked g (planOf (g .variables) p) figure factors messages work marginals → v ≡ checked g (graphPlan g) (figureOf g (graphPlan g)) factors messages work marginals
-plan-checked g p figure factors messages marginals work v pl ef e = e ∙ rw (pl .is, ef) refl
-
 -- ---- the run
 
-pub made-planned : (r : calls.Arranged) (g : Graph) → read r ≡ spec.planned g → Bounded (r .keys) (r .plan) → r .outcome ≡ Made → Planned g (r .plan)
+pub made-planned : (r : calls.Arranged) (g : Graph) → read r ≡ spec.planned g → Bounded (r .keys) (r .plan) → r .outcome ≡ Made → Planned g (r .plan) (graphPlan g)
 unfolding read spec.planned
 made-planned r g e b h =
     let v : valid g ≡ true = made-valid r g e h in
     let a : read r ≡ record { outcome = Made; keys = g .variables; plan = graphPlan g } = e ∙ rw v refl in
     let k : r .keys ≡ g .variables = ap (λ (x : spec.Answer). x .keys) a in
     record {
-      sound = v;
       bounded = subst (λ (n : ℕ). Bounded n (r .plan)) k b;
       is = ap (λ (n : ℕ). planOf n (r .plan)) (sym k) ∙ ap (λ (x : spec.Answer). x .plan) a;
+      runnable = graph-runnable g v;
     }
 
-pub run-made : (g : Graph) (factors messages marginals : List Float) (work : ℕ) (v : Verdict) → valid g ≡ true → v ≡ checked g (graphPlan g) (figureOf g (graphPlan g)) factors messages work marginals → v ≡ run g factors messages work marginals
-unfolding run
-run-made g factors messages marginals work v ok e = e ∙ rw ok refl
+-- what the arrays hold is what they are said to hold
+pub as-held : (g : Graph) (p : Plan) (q : lists.Plan) → Planned g p q → Planned g p (planOf (g .variables) p)
+as-held g p q pl = record { bounded = pl .bounded; is = refl; runnable = rw (pl .is) (pl .runnable) }
+
+-- the plan is the graph's, and the figure that of its messages
+module _ (g : Graph) (p : Plan) (places : Places) (keys heads : List ℕ) (factors messages marginals : List Float) (work : ℕ) (pl : Planned g p (graphPlan g))
+    (ready : Ready g (planOf (g .variables) p) places keys heads) where
+  pub run-made : (v : Verdict) → v ≡ checked g (planOf (g .variables) p) (places .figure) factors messages work marginals → v ≡ run g factors messages work marginals
+  unfolding run figureOf
+  run-made v e =
+      let f : places .figure ≡ need g (planOf (g .variables) p .forward) + need g (planOf (g .variables) p .backward) = omega (arith, ready .half-is, ready .figure-is) in
+      e ∙ rw (f, pl .is, pl .runnable .forward .sound) refl
 
 pub run-refused : (g : Graph) (factors messages marginals : List Float) (work : ℕ) (why : Refusal) → (valid g ≡ false) × (why ≡ NoSuchGraph) → verdict (refusal 0 why 1 0) messages marginals ≡ run g factors messages work marginals
 unfolding run

@@ -1,59 +1,77 @@
 -- Between the functions of a run: what each asks for, and what each comes to. Definitions only.
 use mathlib.Core.Path.{_≡_}
-use mathlib.Core.Bool.{true}
-use mathlib.Core.List.{List}
-use Prim.Native.Nat.{ℕ, _+_, _≤_}
-use lib.ListN.{length}
+use mathlib.Core.Bool.{not, cond}
+use mathlib.Core.List.{List, [], _∷_}
+use Prim.Native.Nat.{ℕ, _+_, _≤_, _<_}
+use lib.Dec.{leb}
+use lib.ListN.{length, getD}
 use lib.Ieee.{Float}
-use Rattle.factor.specs.Factor.{lay}
-use Rattle.graph.specs.Record.{offset, valid}
+use Rattle.factor.specs.Counting.{every}
+use Rattle.graph.specs.Record.{offset}
 use Rattle.graph.specs.declared.Graph.{Graph}
+use Rattle.graph.specs.declared.refusal.Refusal.the-variants.{FactorStoreShort, StoreShort}
+use Rattle.schedule.specs.Count.{count, from}
+use Rattle.schedule.specs.Pass.{at}
+use Rattle.schedule.specs.Gather.{Gathered}
 use Rattle.schedule.specs.Plan as lists
-use Rattle.plan.specs.Pass.{messagesOf}
+use Rattle.schedule.proofs.Messages.{Settled}
 use Rattle.plan.specs.Plan.{planOf, Bounded}
+use Rattle.plan.specs.declared.gather.Gathered as arrays
 use Rattle.plan.specs.declared.plan.Plan.{Plan}
 use Rattle.workspace.specs.Frames.{work-numbers}
 use Rattle.lists.specs.Lists.{backward-shift}
-use Rattle.messages.specs.Values.{values, stopFrom, finished}
 use Rattle.messages.specs.Figure.{need}
-use Rattle.messages.specs.Tables.{PlacedTo, Tables}
-use Rattle.marginals.specs.Marginals.{marginalNumbers, marginalsFrom, missingFrom}
-use Rattle.solver.specs.Plan.{graphPlan}
-use Rattle.solver.specs.Run.{Verdict, second, third}
+use Rattle.messages.specs.Tables.{keysOf, Carriable, PlacedTo, Tables}
+use Rattle.marginals.specs.Asked.{Gatherable, planned}
+use Rattle.marginals.specs.Marginals.{marginalNumbers, missingFrom}
+use Rattle.solver.specs.Run.{Verdict, third}
+use Rattle.solver.specs.declared.run.Places.{Places}
 use Rattle.solver.specs.declared.run.Ran.{Ran}
+use Rattle.solver.specs.declared.run.Stores.{Stores}
+use Rattle.solver.specs.declared.run.Stores.the-variants as stores
 
 abbrev pub verdict : Ran → List Float → List Float → Verdict
 verdict r messages marginals = record { answer = r; messages = messages; marginals = marginals }
 
--- the arrays hold the plan of the graph
-pub record Planned (g : Graph) (p : Plan) : Type 0 where
-  pub sound : valid g ≡ true
+-- What a run relies on in a plan. Any plan over originals of a valid graph, along any order of its keys, has it.
+pub record Runnable (g : Graph) (q : lists.Plan) : Type 0 where
+  pub forward : Carriable g (q .forward)
+  pub backward : Carriable g (q .backward)
+  pub forward-steps : (j : ℕ) → j < length (q .forward) → at (q .forward) j .step < g .variables
+  pub backward-steps : (j : ℕ) → j < length (q .backward) → at (q .backward) j .step < g .variables
+  pub for-each : length (q .at-key) ≡ g .variables
+  pub settled : (k : ℕ) → k < g .variables → (d : Gathered) → Settled (g .variables) (keysOf g) (from 0 (g .count)) (q .forward) (q .backward) k (getD (q .at-key) k d)
+  pub single : (k : ℕ) → k < g .variables → (d : Gathered) (f : ℕ) → count f (getD (q .at-key) k d .leaves) ≤ 1
+
+-- the arrays p hold the plan q, and it can be carried out
+pub record Planned (g : Graph) (p : Plan) (q : lists.Plan) : Type 0 where
   pub bounded : Bounded (g .variables) p
-  pub is : planOf (g .variables) p ≡ graphPlan g
+  pub is : planOf (g .variables) p ≡ q
+  pub runnable : Runnable g q
 
--- its messages have their places: the backward ones' numbers begin at half the figure's way
-pub record Ready (g : Graph) (p : Plan) (half figure : ℕ) (keys heads : List ℕ) : Type 0 where
-  pub plan : Planned g p
+-- Every message has its place. The forward ones take the first numbers of the message store, the backward ones follow from `half`
+-- on; `figure` is both together.
+pub record Ready (g : Graph) (q : lists.Plan) (places : Places) (keys heads : List ℕ) : Type 0 where
   pub tables : Tables g keys heads
-  pub placed : PlacedTo g (messagesOf (p .forward)) 0 0 keys heads (length (messagesOf (p .forward)))
-  pub placed′ : PlacedTo g (messagesOf (p .backward)) backward-shift half keys heads (length (messagesOf (p .backward)))
-  pub half-is : half ≡ need g (messagesOf (p .forward))
-  pub figure-is : figure ≡ half + need g (messagesOf (p .backward))
+  pub placed : PlacedTo g (q .forward) 0 0 keys heads (length (q .forward))
+  pub placed′ : PlacedTo g (q .backward) backward-shift (places .half) keys heads (length (q .backward))
+  pub half-is : places .half ≡ need g (q .forward)
+  pub figure-is : places .figure ≡ places .half + need g (q .backward)
 
--- the stores are long enough
-pub record Enough (g : Graph) (figure : ℕ) (factors messages : List Float) (work marginals : ℕ) : Type 0 where
-  pub of-factors : offset g (g .count) ≤ length factors
-  pub of-messages : figure ≤ length messages
+-- stores of these lengths are long enough
+pub record Enough (g : Graph) (figure factors messages work marginals : ℕ) : Type 0 where
+  pub of-factors : offset g (g .count) ≤ factors
+  pub of-messages : figure ≤ messages
   pub of-work : work-numbers ≤ work
   pub of-marginals : marginalNumbers g ≤ marginals
 
--- the stages, each over the stores as it finds them
-unfoldable pub thirdOf : Graph → lists.Plan → ℕ → List Float → List Float → List Float → Verdict
-thirdOf g p figure factors messages marginals =
-    let all = marginalsFrom g factors p (values g factors (p .forward)) (values g factors (p .backward)) 0 (p .at-key) in third figure messages marginals all (missingFrom 0 all)
+-- whether they are
+unfoldable pub storesOf : Graph → (figure factors messages work marginals : ℕ) → Stores
+storesOf g figure factors messages work marginals =
+    cond (not (leb (offset g (g .count)) factors)) (stores.Short FactorStoreShort)
+    (cond (not (every (leb figure messages ∷ leb work-numbers work ∷ leb (marginalNumbers g) marginals ∷ []))) (stores.Short StoreShort) stores.Enough)
 
-unfoldable pub secondOf : Graph → lists.Plan → ℕ → ℕ → List Float → List Float → List Float → Verdict
-secondOf g p half figure factors messages marginals =
-    let bw = values g factors (p .backward) in
-    let after = lay messages half (finished bw) in
-    second figure (g .variables) (p .backward) after marginals (stopFrom 0 bw) (thirdOf g p figure factors after marginals)
+-- what stage 3 comes to, for every plan whose messages stand in these tables and stores
+abbrev pub ThirdPlanned : Graph → List arrays.Gathered → ℕ → List Float → List Float → List ℕ → List ℕ → List Float → Ran → List Float → Type 0
+ThirdPlanned g at figure factors messages keys heads before r after =
+    (q : lists.Plan) → Gatherable g q at factors messages keys heads → verdict r messages after ≡ third figure messages before (planned g factors q) (missingFrom 0 (planned g factors q))

@@ -4,9 +4,12 @@ pub mod run;
 use factor::Factor;
 use factor::limits::FACTORS;
 use factor::limits::KEYS;
+use factor::limits::VARIABLES;
 use graph::Graph;
 use graph::refusal::Refusal;
 use plan::factors::FactorKeys;
+use plan::plan::plan_of;
+use plan::plan::rise;
 use plan_answer::Plan;
 ghost use mathlib.Core.Path.{_≡_};
 ghost use Prim.Native.Nat.{_≤_};
@@ -63,17 +66,21 @@ fn table_of(g: Graph) -> [FactorKeys; FACTORS]
     table
 }
 
-// The plan of a graph, in arrays. What stands past their counts is read by nobody.
+// The plan of a graph, in arrays: over all its factors, with keys rising. What stands past their counts is read by nobody.
 pub fn arrange(g: Graph) -> Arranged
     ensures { λ r. ⌜ spec.read r ≡ spec.planned g ⌝ }
     ensures { λ r. ⌜ (r .keys ≤ max-variables) × Bounded (r .keys) (r .plan) ⌝ }
 {
     let table = table_of(g);
+    let mut live = [0u8; FACTORS];
+    let mut order = [0u8; VARIABLES];
+    rise(&mut live);
+    rise(&mut order);
     if !g.valid() {
         return Arranged {
             outcome: Outcome::Refused(Refusal::NoSuchGraph),
             keys: 0,
-            plan: plan::plan::rising_plan(table, 0, 0),
+            plan: plan_of(table, 0, live, 0, order, 0),
         };
     }
     let n = g.variables;
@@ -81,7 +88,7 @@ pub fn arrange(g: Graph) -> Arranged
     Arranged {
         outcome: Outcome::Made,
         keys: n,
-        plan: plan::plan::rising_plan(table, count, n),
+        plan: plan_of(table, count, live, count, order, n),
     }
 }
 

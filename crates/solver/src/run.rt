@@ -12,6 +12,7 @@ use marginals::find_marginals;
 use messages::Carried;
 use messages::carry_pass;
 use messages::place_pass;
+use plan::gather::Gathered;
 use plan::pass::Pass;
 use plan::plan::Plan;
 use slots::limits::HEAD;
@@ -22,13 +23,14 @@ ghost use mathlib.Core.Path.{_≡_};
 ghost use mathlib.Core.Bool.{true};
 ghost use Prim.Native.Nat.{_+_, _*_, _<_, _≤_};
 ghost use lib.ListN.{length};
+ghost use Rattle.factor.specs.Limits.{max-variables};
 ghost use Rattle.graph.specs.Record.{valid};
 ghost use Rattle.plan.specs.Pass.{Ready, messagesOf};
 ghost use Rattle.schedule.specs.Pass.{at};
 ghost use Rattle.plan.specs.Plan.{planOf};
-ghost use Rattle.messages.specs.Tables.{AllStored};
+ghost use Rattle.messages.specs.Tables.{keys-length, heads-length};
+ghost use Rattle.marginals.specs.Asked.{Findable};
 ghost use Rattle.marginals.specs.Marginals.{marginalNumbers};
-ghost use Rattle.solver.specs.Plan.{graphPlan};
 ghost use Rattle.solver.specs.Run as spec;
 ghost use Rattle.solver.specs.Stages as stages;
 ghost use Rattle.solver.specs.Told.{ranTold};
@@ -43,6 +45,18 @@ pub enum Ended {
 pub struct Ran {
     pub figure: usize,
     pub ended: Ended,
+}
+
+// Where the messages stand in the message store: the forward ones take the first numbers, the backward ones follow from `half` on; `figure` is both together.
+struct Places {
+    half: usize,
+    figure: usize,
+}
+
+// Whether the stores are long enough for a run.
+enum Stores {
+    Enough,
+    Short(Refusal),
 }
 
 // The lengths of the tables: a head for each slot; the keys of an original and of a message.
@@ -78,17 +92,58 @@ fn marginal_numbers(g: Graph) -> usize
 
 // The step of a message of a pass.
 fn step_of(p: Pass, j: usize) -> usize
-    requires { ⌜ Ready 32 p × (j < p .count) ⌝ }
+    requires { ⌜ Ready max-variables p × (j < p .count) ⌝ }
     ensures { λ r. ⌜ r ≡ at (messagesOf p) j .step ⌝ }
 {
     p.steps[j] as usize
 }
 
+// The messages of a plan get their places in the tables and in the message store.
+fn place_plan(g: Graph, p: Plan, keys: &mut [usize], heads: &mut [usize]) -> Places
+    requires { ⌜ stages.Planned g p (planOf (g .variables) p) ⌝ }
+    requires { ⌜ (length (now keys) ≡ keys-length) × (length (now heads) ≡ heads-length) ⌝ }
+    ensures { λ r. ⌜ stages.Ready g (planOf (g .variables) p) r (now (keys .exit)) (now (heads .exit)) ⌝ }
+{
+    let fw = p.forward;
+    let bw = p.backward;
+    fill_originals(g, keys, heads);
+    let half = place_pass(g, fw, 0, 0, keys, heads);
+    let figure = place_pass(g, bw, BACKWARD, half, keys, heads);
+    Places { half, figure }
+}
+
+// The lengths of the stores are tested before any arithmetic, the factor store's first.
+fn check_stores(
+    g: Graph,
+    figure: usize,
+    factors: usize,
+    messages: usize,
+    work: usize,
+    marginals: usize,
+) -> Stores
+    requires { ⌜ valid g ≡ true ⌝ }
+    ensures { λ r. ⌜ r ≡ stages.storesOf g figure factors messages work marginals ⌝ }
+{
+    let n = g.count;
+    if factors < g.offset(n) {
+        return Stores::Short(Refusal::FactorStoreShort);
+    }
+    if messages < figure {
+        return Stores::Short(Refusal::StoreShort);
+    }
+    if work < WORK {
+        return Stores::Short(Refusal::StoreShort);
+    }
+    if marginals < marginal_numbers(g) {
+        return Stores::Short(Refusal::StoreShort);
+    }
+    Stores::Enough
+}
+
 // Stage 3: the marginals of all keys are found, and only then stored.
 fn third_stage<'a>(
     g: Graph,
-    p: Plan,
-    half: usize,
+    at: [Gathered; VARIABLES],
     figure: usize,
     factors: &'a [f64],
     messages: &'a [f64],
@@ -97,11 +152,9 @@ fn third_stage<'a>(
     heads: &[usize],
     marginals: &mut [f64],
 ) -> Ran
-    requires { ⌜ stages.Ready g p half figure (now keys) (now heads) × stages.Enough g figure (now factors) (now messages) (length (now work)) (length (now marginals)) ⌝ }
-    requires { ⌜ AllStored g (now factors) (messagesOf (p .forward)) 0 (now messages) × AllStored g (now factors) (messagesOf (p .backward)) half (now messages) ⌝ }
-    ensures { λ r. ⌜ stages.verdict r (now (messages .entry)) (now (marginals .exit)) ≡ stages.thirdOf g (planOf (g .variables) p) figure (now (factors .entry)) (now (messages .entry)) (now (marginals .entry)) ⌝ }
+    requires { ⌜ Findable g at (now factors) (now messages) (length (now work)) (now keys) (now heads) (length (now marginals)) ⌝ }
+    ensures { λ r. ⌜ stages.ThirdPlanned g at figure (now (factors .entry)) (now (messages .entry)) (now (keys .entry)) (now (heads .entry)) (now (marginals .entry)) r (now (marginals .exit)) ⌝ }
 {
-    let at = p.at;
     let mut results = [0.0; RESULTS];
     match find_marginals(g, at, factors, messages, work, keys, heads, &mut results) {
         Carried::Through => {}
@@ -115,12 +168,11 @@ fn third_stage<'a>(
     }
 }
 
-// Stage 2: the backward pass, then the marginals. A step's key is as far from the last key as the step from the first.
-fn second_stage(
+// The plan is carried out: the forward pass, the backward pass, the marginals. The backward pass visits keys from n - 1 down: its step t is key n - 1 - t.
+fn carry_out(
     g: Graph,
     p: Plan,
-    half: usize,
-    figure: usize,
+    places: Places,
     factors: &[f64],
     messages: &mut [f64],
     work: &mut [f64],
@@ -128,22 +180,27 @@ fn second_stage(
     heads: &[usize],
     marginals: &mut [f64],
 ) -> Ran
-    requires { ⌜ stages.Ready g p half figure (now keys) (now heads) × stages.Enough g figure (now factors) (now messages) (length (now work)) (length (now marginals)) ⌝ }
-    requires { ⌜ AllStored g (now factors) (messagesOf (p .forward)) 0 (now messages) ⌝ }
-    ensures { λ r. ⌜ stages.verdict r (now (messages .exit)) (now (marginals .exit)) ≡ stages.secondOf g (planOf (g .variables) p) half figure (now (factors .entry)) (now (messages .entry)) (now (marginals .entry)) ⌝ }
+    requires { ⌜ stages.Planned g p (planOf (g .variables) p) × stages.Ready g (planOf (g .variables) p) places (now keys) (now heads) ⌝ }
+    requires { ⌜ stages.Enough g (places .figure) (length (now factors)) (length (now messages)) (length (now work)) (length (now marginals)) ⌝ }
+    ensures { λ r. ⌜ stages.verdict r (now (messages .exit)) (now (marginals .exit)) ≡ spec.carried g (planOf (g .variables) p) (places .figure) (now (factors .entry)) (now (messages .entry)) (now (marginals .entry)) ⌝ }
 {
+    let n = g.variables;
+    let fw = p.forward;
     let bw = p.backward;
+    let at = p.at;
+    let half = places.half;
+    let figure = places.figure;
+    match carry_pass(g, fw, 0, 0, factors, messages, work, keys, heads) {
+        Carried::Through => {}
+        Carried::Halted(j, why) => return refused(figure, why, 1, step_of(fw, j)),
+    }
     match carry_pass(g, bw, BACKWARD, half, factors, messages, work, keys, heads) {
         Carried::Through => {}
-        Carried::Halted(j, why) => {
-            let n = g.variables;
-            return refused(figure, why, 2, n - 1 - step_of(bw, j));
-        }
+        Carried::Halted(j, why) => return refused(figure, why, 2, n - 1 - step_of(bw, j)),
     }
     third_stage(
         g,
-        p,
-        half,
+        at,
         figure,
         factors,
         &messages[..],
@@ -154,118 +211,7 @@ fn second_stage(
     )
 }
 
-// Stage 1: the forward pass, then the others.
-fn first_stage(
-    g: Graph,
-    p: Plan,
-    half: usize,
-    figure: usize,
-    factors: &[f64],
-    messages: &mut [f64],
-    work: &mut [f64],
-    keys: &[usize],
-    heads: &[usize],
-    marginals: &mut [f64],
-) -> Ran
-    requires { ⌜ stages.Ready g p half figure (now keys) (now heads) × stages.Enough g figure (now factors) (now messages) (length (now work)) (length (now marginals)) ⌝ }
-    ensures { λ r. ⌜ stages.verdict r (now (messages .exit)) (now (marginals .exit)) ≡ spec.carried g (planOf (g .variables) p) figure (now (factors .entry)) (now (messages .entry)) (now (marginals .entry)) ⌝ }
-{
-    let fw = p.forward;
-    match carry_pass(g, fw, 0, 0, factors, messages, work, keys, heads) {
-        Carried::Through => {}
-        Carried::Halted(j, why) => return refused(figure, why, 1, step_of(fw, j)),
-    }
-    second_stage(
-        g,
-        p,
-        half,
-        figure,
-        factors,
-        messages,
-        work,
-        keys,
-        heads,
-        marginals,
-    )
-}
-
-// The stores are tested before any arithmetic.
-fn check_stores(
-    g: Graph,
-    p: Plan,
-    half: usize,
-    figure: usize,
-    factors: &[f64],
-    messages: &mut [f64],
-    work: &mut [f64],
-    keys: &[usize],
-    heads: &[usize],
-    marginals: &mut [f64],
-) -> Ran
-    requires { ⌜ stages.Ready g p half figure (now keys) (now heads) ⌝ }
-    ensures { λ r. ⌜ stages.verdict r (now (messages .exit)) (now (marginals .exit)) ≡ spec.checked g (planOf (g .variables) p) figure (now (factors .entry)) (now (messages .entry)) (length (now (work .entry))) (now (marginals .entry)) ⌝ }
-{
-    let n = g.count;
-    if factors.len() < g.offset(n) {
-        return refused(figure, Refusal::FactorStoreShort, 1, 0);
-    }
-    if messages.len() < figure {
-        return refused(figure, Refusal::StoreShort, 1, 0);
-    }
-    if work.len() < WORK {
-        return refused(figure, Refusal::StoreShort, 1, 0);
-    }
-    if marginals.len() < marginal_numbers(g) {
-        return refused(figure, Refusal::StoreShort, 1, 0);
-    }
-    first_stage(
-        g,
-        p,
-        half,
-        figure,
-        factors,
-        messages,
-        work,
-        keys,
-        heads,
-        marginals,
-    )
-}
-
-// The messages of the plan get their places, which gives the figure.
-fn place_plan(
-    g: Graph,
-    p: Plan,
-    factors: &[f64],
-    messages: &mut [f64],
-    work: &mut [f64],
-    marginals: &mut [f64],
-) -> Ran
-    requires { ⌜ stages.Planned g p ⌝ }
-    ensures { λ r. ⌜ stages.verdict r (now (messages .exit)) (now (marginals .exit)) ≡ spec.checked g (graphPlan g) (spec.figureOf g (graphPlan g)) (now (factors .entry)) (now (messages .entry)) (length (now (work .entry))) (now (marginals .entry)) ⌝ }
-{
-    let mut keys = [0; LISTED];
-    let mut heads = [0; HEADS];
-    let fw = p.forward;
-    let bw = p.backward;
-    fill_originals(g, &mut keys, &mut heads);
-    let half = place_pass(g, fw, 0, 0, &mut keys, &mut heads);
-    let figure = place_pass(g, bw, BACKWARD, half, &mut keys, &mut heads);
-    check_stores(
-        g,
-        p,
-        half,
-        figure,
-        factors,
-        messages,
-        work,
-        &keys,
-        &heads,
-        marginals,
-    )
-}
-
-// The run of a graph: its plan is made, then the figure, then both passes and the marginals are carried out. Each refusal comes with the figure, the stage and the key.
+// The run of a graph: its plan is made and placed, which gives the figure; the stores are tested; then both passes and the marginals are carried out. Each refusal comes with the figure, the stage and the key.
 pub fn run(
     g: Graph,
     factors: &[f64],
@@ -279,10 +225,34 @@ pub fn run(
     let made = crate::arrange(g);
     let outcome = made.outcome;
     match outcome {
-        Outcome::Refused(why) => refused(0, why, 1, 0),
-        Outcome::Made => {
-            let p = made.plan;
-            place_plan(g, p, factors, messages, work, marginals)
-        }
+        Outcome::Refused(why) => return refused(0, why, 1, 0),
+        Outcome::Made => {}
     }
+    let p = made.plan;
+    let mut keys = [0; LISTED];
+    let mut heads = [0; HEADS];
+    let places = place_plan(g, p, &mut keys, &mut heads);
+    let figure = places.figure;
+    match check_stores(
+        g,
+        figure,
+        factors.len(),
+        messages.len(),
+        work.len(),
+        marginals.len(),
+    ) {
+        Stores::Enough => {}
+        Stores::Short(why) => return refused(figure, why, 1, 0),
+    }
+    carry_out(
+        g,
+        p,
+        places,
+        factors,
+        messages,
+        work,
+        &keys,
+        &heads,
+        marginals,
+    )
 }

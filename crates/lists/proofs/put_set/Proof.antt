@@ -1,6 +1,7 @@
 -- `lists::put_set` meets its contract. The loop's invariant: the members below j stand behind the first places. Assumes nothing.
 use native.Mathlib.Omega.{arith}
 use borrow.Author.Needs.{needs}
+use Rattle.factor.specs.Limits.{max-variables}
 use Rattle.lists.proofs.put_set.Statement.{statement}
 use Rattle.lists.proofs.put_set.Tie as tie
 use mathlib.Core.Path.{refl}
@@ -16,7 +17,7 @@ abbrev Inv-loop : tie.InvT-loop
 Inv-loop list₀ at set shift to₀ j₀ list to j = Put (λ i. shift + i) (λ i. has i set) list₀ at list to j
 
 abbrev μ-loop : tie.MeasureT-loop
-μ-loop list₀ at set shift to₀ j₀ list to j = 32 - j
+μ-loop list₀ at set shift to₀ j₀ list to j = max-variables - j
 
 loop-holds : tie.Need-loop-holds Inv-loop μ-loop
 loop-holds c =

@@ -1,6 +1,7 @@
 -- `lists::raised` meets its contract: by whether the slot is an original. Assumes nothing.
 use mathlib.Core.Path.{refl}
 use borrow.Author.Tests.{lt-ltb, le-ltb}
+use Rattle.factor.specs.Limits.{max-factors}
 use Rattle.lists.specs.Lists.{raised}
 use native.Mathlib.Omega.{arith}
 use borrow.Author.Needs.{needs}
@@ -12,11 +13,11 @@ add-result c = search needs
 
 returns : tie.Need-returns
 unfolding raised
-returns c = rw (lt-ltb (c .before .args .s) 64 (c .if1 .taken)) refl
+returns c = rw (lt-ltb (c .before .args .s) max-factors (c .if1 .taken)) refl
 
 returns-2 : tie.Need-returns-2
 unfolding raised
-returns-2 c = rw (le-ltb (c .before .args .s) 64 (omega arith)) refl
+returns-2 c = rw (le-ltb (c .before .args .s) max-factors (omega arith)) refl
 
 pub raised-spec : {M : Type 1} → statement M
 raised-spec = tie.close (tie.spec add-result returns returns-2)

@@ -1,6 +1,8 @@
 -- `messages::eliminate_listed` meets its contract: the front of an array is the list (`Listed`). Assumes nothing.
 use mathlib.Core.Path.{_≡_}
 use lib.ListN.{length}
+use Rattle.factor.specs.Limits.{max-variables}
+use Rattle.slots.specs.Limits.{max-slots}
 use Rattle.gaussian.specs.Asked.{Asked, Roomy}
 use Rattle.messages.proofs.Listed.{to-parts, from-parts, EliminatedBy}
 use native.Mathlib.Omega.{arith}
@@ -16,7 +18,7 @@ part-eliminate-slots-start c = search needs
 
 part-eliminate-slots-end : tie.Need-part-eliminate-slots-end
 part-eliminate-slots-end c =
-    let y : length (c .before .before .before .before .before .before .before .before .before .before .before .args .l .kept) ≡ 32 = search needs in
+    let y : length (c .before .before .before .before .before .before .before .before .before .before .before .args .l .kept) ≡ max-variables = search needs in
     omega (arith, c .before .before .before .before .before .before .before .before .before .before .before .pre .0 .kept)
 
 sub-eliminate-slots-2 : tie.Need-sub-eliminate-slots-2
@@ -27,7 +29,7 @@ part-eliminate-slots-start-2 c = search needs
 
 part-eliminate-slots-end-2 : tie.Need-part-eliminate-slots-end-2
 part-eliminate-slots-end-2 c =
-    let y : length (c .before .before .before .before .before .before .before .before .before .before .before .before .before .args .l .cleared) ≡ 32 = search needs in
+    let y : length (c .before .before .before .before .before .before .before .before .before .before .before .before .before .args .l .cleared) ≡ max-variables = search needs in
     omega (arith, c .before .before .before .before .before .before .before .before .before .before .before .before .before .pre .0 .cleared)
 
 sub-eliminate-slots-3 : tie.Need-sub-eliminate-slots-3
@@ -38,7 +40,7 @@ part-eliminate-slots-start-3 c = search needs
 
 part-eliminate-slots-end-3 : tie.Need-part-eliminate-slots-end-3
 part-eliminate-slots-end-3 c =
-    let y : length (c .before .before .before .before .before .before .before .before .before .before .before .before .before .before .before .args .l .slots) ≡ 128 = search needs in
+    let y : length (c .before .before .before .before .before .before .before .before .before .before .before .before .before .before .before .args .l .slots) ≡ max-slots = search needs in
     omega (arith, c .before .before .before .before .before .before .before .before .before .before .before .before .before .before .before .pre .0 .slots)
 
 eliminate-slots-requires : tie.Need-eliminate-slots-requires

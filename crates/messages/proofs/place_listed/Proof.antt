@@ -1,6 +1,8 @@
 -- `messages::place_listed` meets its contract: the front of an array is the list (`Listed`). Assumes nothing.
 use mathlib.Core.Path.{_≡_}
 use lib.ListN.{length}
+use Rattle.factor.specs.Limits.{max-variables}
+use Rattle.slots.specs.Limits.{max-slots}
 use Rattle.messages.specs.Asked.{Placeable}
 use Rattle.messages.proofs.Listed.{to-parts, from-parts, PlacedBy}
 use native.Mathlib.Omega.{arith}
@@ -16,7 +18,7 @@ part-place-message-start c = search needs
 
 part-place-message-end : tie.Need-part-place-message-end
 part-place-message-end c =
-    let y : length (c .before .before .before .before .before .before .args .l .kept) ≡ 32 = search needs in
+    let y : length (c .before .before .before .before .before .before .args .l .kept) ≡ max-variables = search needs in
     omega (arith, c .before .before .before .before .before .before .pre .0 .kept)
 
 sub-place-message-2 : tie.Need-sub-place-message-2
@@ -27,7 +29,7 @@ part-place-message-start-2 c = search needs
 
 part-place-message-end-2 : tie.Need-part-place-message-end-2
 part-place-message-end-2 c =
-    let y : length (c .before .before .before .before .before .before .before .before .args .l .cleared) ≡ 32 = search needs in
+    let y : length (c .before .before .before .before .before .before .before .before .args .l .cleared) ≡ max-variables = search needs in
     omega (arith, c .before .before .before .before .before .before .before .before .pre .0 .cleared)
 
 sub-place-message-3 : tie.Need-sub-place-message-3
@@ -38,7 +40,7 @@ part-place-message-start-3 c = search needs
 
 part-place-message-end-3 : tie.Need-part-place-message-end-3
 part-place-message-end-3 c =
-    let y : length (c .before .before .before .before .before .before .before .before .before .before .args .l .slots) ≡ 128 = search needs in
+    let y : length (c .before .before .before .before .before .before .before .before .before .before .args .l .slots) ≡ max-slots = search needs in
     omega (arith, c .before .before .before .before .before .before .before .before .before .before .pre .0 .slots)
 
 place-message-requires : tie.Need-place-message-requires

@@ -2,6 +2,7 @@
 use mathlib.Core.Path.{_≡_}
 use lib.ListN.{length}
 use Prim.Native.Nat.{_-_}
+use Rattle.factor.specs.Limits.{max-variables}
 use Rattle.plan.specs.Pass.{messagesOf}
 use Rattle.plan.proofs.Sending.{messages-length}
 use Rattle.messages.proofs.Listed.{within}
@@ -31,7 +32,7 @@ add-place-listed-2 c = search needs
 
 place-listed-requires : tie.Need-place-listed-requires Inv-loop μ-loop
 place-listed-requires c κs =
-    let sized : length (c .before .before .before .before .before .before .before .before .args .g .sizes) ≡ 32 = search needs in (
+    let sized : length (c .before .before .before .before .before .before .before .before .args .g .sizes) ≡ max-variables = search needs in (
       within _ _ _ (c .before .before .message-lists .ensures),
       placeable (c .before .before .before .before .before .before .before .before .args .g) (messagesOf (c .before .before .before .before .before .before .before .before .args .p)) (c .before .before .before .before .before .before .before .before .pre .0 .1) (c .before .before .before .before .before .before .before .before .args .shift) (c .before .before .before .before .before .before .before .before .args .start) (c .before .before .before .before .before .before .before .before .args .keys .now) (c .before .before .before .before .before .before .before .before .args .heads .now) (c .before .before .before .before .before .loop .keys) (c .before .before .before .before .before .loop .heads) (c .before .before .before .before .before .loop .next) (c .before .before .before .before .before .loop .j) (c .before .before .before .before .before .before .before .before .pre .0 .2) (omega (arith, messages-length (c .before .before .before .before .before .before .before .before .args .p), c .before .before .before .before .loop-test .taken)) sized (c .before .before .before .before .before .loop .inv) _ (c .before .before .message-lists .ensures) (c .before .before .before .before .before .before .before .before .pre .0 .3),
     )
@@ -45,7 +46,7 @@ loop-less c = search needs
 loop-again : tie.Need-loop-again Inv-loop μ-loop
 loop-again c =
     let good = c .before .before .before .before .before .before .before .before .before .before .before .before .before .good in
-    let sized : length (c .before .before .before .before .before .before .before .before .before .before .before .before .before .args .g .sizes) ≡ 32 = search needs in
+    let sized : length (c .before .before .before .before .before .before .before .before .before .before .before .before .before .args .g .sizes) ≡ max-variables = search needs in
     progress-more (c .before .before .before .before .before .before .before .before .before .before .before .before .before .args .g) (messagesOf (c .before .before .before .before .before .before .before .before .before .before .before .before .before .args .p)) (c .before .before .before .before .before .before .before .before .before .before .before .before .before .pre .0 .1) (c .before .before .before .before .before .before .before .before .before .before .before .before .before .args .shift) (c .before .before .before .before .before .before .before .before .before .before .before .before .before .args .start) (c .before .before .before .before .before .before .before .before .before .before .before .before .before .args .keys .now) (c .before .before .before .before .before .before .before .before .before .before .before .before .before .args .heads .now) (c .before .before .before .before .before .before .before .before .before .before .loop .keys) (c .before .before .before .before .before .before .before .before .before .before .loop .heads) (c .before .before .before .before .before .before .before .before .before .before .loop .next) (c .before .before .before .before .before .before .before .before .before .before .loop .j) (c .before .before .before .before .before .before .before .before .before .before .before .before .before .pre .0 .2) (omega (arith, messages-length (c .before .before .before .before .before .before .before .before .before .before .before .before .before .args .p), c .before .before .before .before .before .before .before .before .before .loop-test .taken)) sized (c .before .before .before .before .before .before .before .before .before .before .loop .inv) _ (c .before .before .before .before .before .before .before .message-lists .ensures) _ _ _ (c .before .before .before .before .place-listed .ensures)
 
 same-length : tie.Need-same-length Inv-loop μ-loop

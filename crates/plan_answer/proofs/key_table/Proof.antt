@@ -5,6 +5,7 @@ use Prim.Native.Nat.{_-_, _≤_}
 use native.Mathlib.Omega.{arith}
 use borrow.Author.Needs.{needs}
 use lib.ListN.{take, drop}
+use Rattle.factor.specs.Limits.{max-variables}
 use Rattle.plan.specs.Gather.{gatheredOf}
 use Rattle.plan.specs.Plan.{noGathered}
 use Rattle.plan_answer.specs.Answer.{keyPlanOf}
@@ -55,7 +56,7 @@ unfolding spec.keyTable
 returns c =
     let args = c .before .before .args in
     let loop = c .before .loop in
-    loop .inv .1 ∙ map-done keyPlanOf (map gatheredOf (take (args .n) (args .t1))) spec.noKeyPlan 32 (loop .k) (omega (arith, keys-length (args .t1) (args .n) (omega arith)))
+    loop .inv .1 ∙ map-done keyPlanOf (map gatheredOf (take (args .n) (args .t1))) spec.noKeyPlan max-variables (loop .k) (omega (arith, keys-length (args .t1) (args .n) (omega arith)))
 
 pub key-table-spec : {M : Type 1} → statement M
 key-table-spec =

@@ -5,6 +5,7 @@ use Prim.Native.Nat.{_-_, _≤_}
 use native.Mathlib.Omega.{arith}
 use borrow.Author.Needs.{needs}
 use lib.ListN.{take, drop}
+use Rattle.factor.specs.Limits.{max-variables}
 use Rattle.plan.specs.Pass.{messagesOf}
 use Rattle.plan.proofs.Sending.{messages-length}
 use Rattle.plan_answer.specs.Answer.{messageOf}
@@ -49,7 +50,7 @@ unfolding spec.messageTable
 returns c =
     let args = c .before .before .args in
     let loop = c .before .loop in
-    loop .inv .1 ∙ map-done messageOf (messagesOf (args .p)) spec.noMessage 32 (loop .j) (omega (arith, messages-length (args .p)))
+    loop .inv .1 ∙ map-done messageOf (messagesOf (args .p)) spec.noMessage max-variables (loop .j) (omega (arith, messages-length (args .p)))
 
 pub message-table-spec : {M : Type 1} → statement M
 message-table-spec =

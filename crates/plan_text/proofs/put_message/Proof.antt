@@ -5,6 +5,7 @@ use mathlib.Core.List.{List, [], _∷_, _++_, map}
 use native.Mathlib.Omega.{arith}
 use lib.ListN.{getD, take, drop}
 use lib.Seq.{getD-drop}
+use Rattle.factor.specs.Limits.{max-factors}
 use Rattle.text.specs.Decimals.{feed}
 use Rattle.plan.specs.Mask.{keysIn}
 use Rattle.plan.specs.Pass.{slotOf, msgAt}
@@ -18,10 +19,10 @@ use Rattle.plan_text.proofs.put_message.Tie as tie
 -- the parts of the line are those of the definition
 line : (name : List ℕ) (p : Pass) (j : ℕ) → namedText name j ++ namedText stepWord (getD (p .steps) j 0)
     ++ contentText (map slotOf (drop (getD (p .starts) j 0) (take (getD (p .ends) j 0) (p .board .content))))
-    ++ listText keptWord (keysIn (getD (p .masks) (64 + j) 0)) ++ listText clearedWord (keysIn (getD (p .cleared) j 0)) ++ (feed ∷ [])
+    ++ listText keptWord (keysIn (getD (p .masks) (max-factors + j) 0)) ++ listText clearedWord (keysIn (getD (p .cleared) j 0)) ++ (feed ∷ [])
     ≡ messageText name j (msgAt p j)
 unfolding messageText msgAt
-line name p j = rw (getD-drop 64 (p .masks) j 0)
+line name p j = rw (getD-drop max-factors (p .masks) j 0)
 
 element-copy-out-step : tie.Need-element-copy-out-step
 element-copy-out-step c = search needs

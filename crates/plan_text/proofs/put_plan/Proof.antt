@@ -1,4 +1,5 @@
 -- `plan_text::put_plan` meets its contract: the forward lines, the backward lines, and the lines of the keys. Assumes nothing.
+use Rattle.factor.specs.Limits.{max-variables}
 use Rattle.plan.specs.Plan.{planOf}
 use Rattle.plan.proofs.Stepping.{ready-later}
 use Rattle.plan_text.specs.Text.{planText}
@@ -14,7 +15,7 @@ put-pass-requires : tie.Need-put-pass-requires
 put-pass-requires c κs =
     let args = c .before .before .before .before .before .args in
     let pre = c .before .before .before .before .before .pre in
-    ready-later (args .n) 32 (args .plan .forward) (args .plan .forward .active) (pre .0) (pre .1 .forward)
+    ready-later (args .n) max-variables (args .plan .forward) (args .plan .forward .active) (pre .0) (pre .1 .forward)
 
 slice-aggregate-put-pass-2 : tie.Need-slice-aggregate-put-pass-2
 slice-aggregate-put-pass-2 c = search needs
@@ -23,7 +24,7 @@ put-pass-requires-2 : tie.Need-put-pass-requires-2
 put-pass-requires-2 c κs =
     let args = c .before .before .before .before .before .before .before .before .before .before .args in
     let pre = c .before .before .before .before .before .before .before .before .before .before .pre in
-    ready-later (args .n) 32 (args .plan .backward) (args .plan .backward .active) (pre .0) (pre .1 .backward)
+    ready-later (args .n) max-variables (args .plan .backward) (args .plan .backward .active) (pre .0) (pre .1 .backward)
 
 put-keys-requires : tie.Need-put-keys-requires
 put-keys-requires c κs = search needs

@@ -3,6 +3,7 @@
 use mathlib.Core.Path.{_≡_, refl, sym}
 use lib.ListN.{length, replicate}
 use native.Mathlib.Omega.{arith}
+use Rattle.factor.specs.Limits.{max-variables, max-factors}
 use Rattle.plan.specs.Gather.{Space}
 use Rattle.plan.specs.declared.gather.Listing.{Listing}
 use Rattle.plan.proofs.Gathering.{listable, listable', coverable, gathers}
@@ -10,7 +11,7 @@ use Rattle.plan.proofs.gather.gather.Statement.{statement}
 use Rattle.plan.proofs.gather.gather.Tie as tie
 
 abbrev none-yet : Listing
-none-yet = record { items = replicate 64 0; count = 0; stack = replicate 32 0; top = 0 }
+none-yet = record { items = replicate max-factors 0; count = 0; stack = replicate max-variables 0; top = 0 }
 
 none-space : Space none-yet
 none-space = record {
@@ -86,7 +87,7 @@ slice-aggregate-union-2 c = sym (c .before .before .before .before .before .unco
 
 union-requires : tie.Need-union-requires
 union-requires c κs =
-    let long : length (c .before .before .before .before .before .before .before .before .before .before .args .t3) ≡ 64 = c .before .before .before .before .before .before .before .before .before .before .good .1 .1 .0 .1 .0 .1 in
+    let long : length (c .before .before .before .before .before .before .before .before .before .before .args .t3) ≡ max-factors = c .before .before .before .before .before .before .before .before .before .before .good .1 .1 .0 .1 .0 .1 in
     let all = c .before .before .before .before .before .uncovered in (
       record {
         few = omega (arith, all .ensures .space .items .few, all .ensures .space .items .long);

@@ -4,13 +4,14 @@ use mathlib.Core.Path.{sym, subst}
 use mathlib.Core.Logic.{⊎-elim}
 use Prim.Native.Nat.{_+_, _≤_, _-_}
 use native.Mathlib.Omega.{arith}
+use Rattle.factor.specs.Limits.{max-variables}
 use Rattle.plan.specs.Gather.{Listable, Space}
 use Rattle.plan.proofs.Uncovered.{Leaving, begin, openable, leave-more, leave-same, end}
 use Rattle.plan.proofs.gather.leaves_of.Statement.{statement}
 use Rattle.plan.proofs.gather.leaves_of.Tie as tie
 
 abbrev Inv-loop : tie.InvT-loop
-Inv-loop self set n l₀ j₀ l j = (f : self .count ≤ 32) (v : Listable self set l₀) (s : Space l₀) → Leaving self set l₀ f v s l j
+Inv-loop self set n l₀ j₀ l j = (f : self .count ≤ max-variables) (v : Listable self set l₀) (s : Space l₀) → Leaving self set l₀ f v s l j
 
 abbrev μ-loop : tie.MeasureT-loop
 μ-loop self set n l₀ j₀ l j = n - j

@@ -1,6 +1,7 @@
 -- Before each turn the items listed, followed by the leaves under what stands on the stack, are all leaves (`Stack`). What lies under
 -- the stack falls by one message a turn.
 -- Assumes nothing.
+use Rattle.factor.specs.Limits.{max-variables}
 use Rattle.plan.proofs.Stack.{opened, Opening, start, done, here, top-low, visitable, falls, again}
 use borrow.Author.Needs.{needs}
 use Prim.Native.Nat.{_-_}
@@ -13,7 +14,7 @@ use Rattle.plan.proofs.gather.mark_leaves.Statement.{statement}
 use Rattle.plan.proofs.gather.mark_leaves.Tie as tie
 
 abbrev Inv-loop : tie.InvT-loop
-Inv-loop j self content l₀ l = (r : Ready 32 self) (f : Forest self) → Opening self r f l₀ l
+Inv-loop j self content l₀ l = (r : Ready max-variables self) (f : Forest self) → Opening self r f l₀ l
 
 abbrev μ-loop : tie.MeasureT-loop
 μ-loop j self content l₀ l = heavy (messagesOf self) (stackOf l)

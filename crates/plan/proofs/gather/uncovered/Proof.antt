@@ -5,6 +5,7 @@ use mathlib.Core.Path.{_≡_}
 use Prim.Native.Nat.{_-_}
 use lib.ListN.{length}
 use native.Mathlib.Omega.{arith}
+use Rattle.factor.specs.Limits.{max-factors}
 use Rattle.plan.specs.Pass.{Live}
 use Rattle.plan.specs.Gather.{Space, Coverable}
 use Rattle.plan.proofs.Uncovered.{Covering, start, free-room, list-more, list-same, done}
@@ -12,7 +13,7 @@ use Rattle.plan.proofs.gather.uncovered.Statement.{statement}
 use Rattle.plan.proofs.gather.uncovered.Tie as tie
 
 abbrev Inv-loop : tie.InvT-loop
-Inv-loop count live l₀ covered i₀ l i = (g : length live ≡ 64) (v : Live live count) (r : Coverable live count l₀) (s : Space l₀) → Covering live count l₀ g v r s l i
+Inv-loop count live l₀ covered i₀ l i = (g : length live ≡ max-factors) (v : Live live count) (r : Coverable live count l₀) (s : Space l₀) → Covering live count l₀ g v r s l i
 
 abbrev μ-loop : tie.MeasureT-loop
 μ-loop count live l₀ covered i₀ l i = count - i

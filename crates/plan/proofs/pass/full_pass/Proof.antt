@@ -6,13 +6,14 @@ use mathlib.Core.Path.{_≡_, subst}
 use Prim.Native.Nat.{ℕ, _≤_, _-_}
 use lib.ListN.{length}
 use native.Mathlib.Omega.{arith}
+use Rattle.factor.specs.Limits.{max-variables}
 use Rattle.plan.specs.Pass.{Ready}
 use Rattle.plan.proofs.Begins.{Along, along-more, along-done}
 use Rattle.plan.proofs.pass.full_pass.Statement.{statement}
 use Rattle.plan.proofs.pass.full_pass.Tie as tie
 
 abbrev Inv-loop : tie.InvT-loop
-Inv-loop count n order p₀ t₀ p t = (t ≤ n) × Ready t p × Along order n p₀ t p × (length order ≡ 32)
+Inv-loop count n order p₀ t₀ p t = (t ≤ n) × Ready t p × Along order n p₀ t p × (length order ≡ max-variables)
 
 abbrev μ-loop : tie.MeasureT-loop
 μ-loop count n order p₀ t₀ p t = n - t

@@ -8,27 +8,29 @@ use lib.ListN.{length, getD, set, take, replicate}
 use lib.Seq.{take-all, take-suc, set-at, append-snoc, length-take-le}
 use native.Mathlib.Numerals.{add-one}
 use native.Mathlib.Omega.{arith}
+use Rattle.factor.specs.Limits.{max-variables, max-factors}
+use Rattle.plan.specs.Limits.{pass-slots}
 use Rattle.plan.specs.Pass.{laid}
 use Rattle.plan.proofs.pass.laid_masks.Statement.{statement}
 use Rattle.plan.proofs.pass.laid_masks.Tie as tie
 
 -- the first i of the keys, and 0 in the other places
 abbrev part : List ℕ → ℕ → List ℕ
-part keys i = take i keys ++ replicate (96 - i) 0
+part keys i = take i keys ++ replicate (pass-slots - i) 0
 
-turn : (keys : List ℕ) (i : ℕ) → i < length keys → i < 96 → set (part keys i) i (getD keys i 0) ≡ part keys (i + 1)
+turn : (keys : List ℕ) (i : ℕ) → i < length keys → i < pass-slots → set (part keys i) i (getD keys i 0) ≡ part keys (i + 1)
 turn keys i h l =
-    let e : 96 - i ≡ suc (96 - (i + 1)) = omega arith in
+    let e : pass-slots - i ≡ suc (pass-slots - (i + 1)) = omega arith in
     ap (λ (m : ℕ). set (take i keys ++ replicate m 0) i (getD keys i 0)) e
-    ∙ set-at (take i keys) 0 (replicate (96 - (i + 1)) 0) (getD keys i 0) i (length-take-le i keys (omega arith))
-    ∙ sym (append-snoc (take i keys) (getD keys i 0) (replicate (96 - (i + 1)) 0))
-    ∙ ap (λ (t : List ℕ). t ++ replicate (96 - (i + 1)) 0) (sym (take-suc keys i 0 h) ∙ ap (λ (m : ℕ). take m keys) (sym (add-one i)))
+    ∙ set-at (take i keys) 0 (replicate (pass-slots - (i + 1)) 0) (getD keys i 0) i (length-take-le i keys (omega arith))
+    ∙ sym (append-snoc (take i keys) (getD keys i 0) (replicate (pass-slots - (i + 1)) 0))
+    ∙ ap (λ (t : List ℕ). t ++ replicate (pass-slots - (i + 1)) 0) (sym (take-suc keys i 0 h) ∙ ap (λ (m : ℕ). take m keys) (sym (add-one i)))
 
 abbrev Inv-loop : tie.InvT-loop
-Inv-loop keys r₀ i₀ r i = (i ≤ 64) × (r ≡ part keys i) × (length keys ≡ 64)
+Inv-loop keys r₀ i₀ r i = (i ≤ max-factors) × (r ≡ part keys i) × (length keys ≡ max-factors)
 
 abbrev μ-loop : tie.MeasureT-loop
-μ-loop keys r₀ i₀ r i = 64 - i
+μ-loop keys r₀ i₀ r i = max-factors - i
 
 loop-holds : tie.Need-loop-holds Inv-loop μ-loop
 loop-holds c = (search needs, refl, search needs)
@@ -62,8 +64,8 @@ unfolding laid
 returns c =
     let loop = c .before .loop in
     let args = c .before .before .args in
-    let e : loop .i ≡ 64 = omega arith in
-    loop .inv .1 ∙ ap (part (args .t1)) e ∙ ap (λ (l : List ℕ). l ++ replicate 32 0) (take-all 64 (args .t1) (omega arith))
+    let e : loop .i ≡ max-factors = omega arith in
+    loop .inv .1 ∙ ap (part (args .t1)) e ∙ ap (λ (l : List ℕ). l ++ replicate max-variables 0) (take-all max-factors (args .t1) (omega arith))
 
 pub laid-masks-spec : {M : Type 1} → statement M
 laid-masks-spec =

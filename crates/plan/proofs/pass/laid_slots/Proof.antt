@@ -8,6 +8,8 @@ use lib.ListN.{length, getD, set, take, length-set}
 use lib.Seq.{take-suc, take-suc-set}
 use native.Mathlib.Numerals.{add-one}
 use native.Mathlib.Omega.{arith}
+use Rattle.factor.specs.Limits.{max-factors}
+use Rattle.plan.specs.Limits.{pass-slots}
 use Rattle.plan.proofs.pass.laid_slots.Statement.{statement}
 use Rattle.plan.proofs.pass.laid_slots.Tie as tie
 
@@ -17,7 +19,7 @@ turn r live i h l e =
     ∙ sym (take-suc live i 0 l) ∙ ap (λ (m : ℕ). take m live) (sym (add-one i))
 
 abbrev Inv-loop : tie.InvT-loop
-Inv-loop count live r₀ i₀ r i = (i ≤ count) × (length r ≡ 96) × (take i r ≡ take i live) × (length live ≡ 64)
+Inv-loop count live r₀ i₀ r i = (i ≤ count) × (length r ≡ pass-slots) × (take i r ≡ take i live) × (length live ≡ max-factors)
 
 abbrev μ-loop : tie.MeasureT-loop
 μ-loop count live r₀ i₀ r i = count - i

@@ -7,6 +7,7 @@ use mathlib.Core.List.{List}
 use Prim.Native.Nat.{ℕ, _-_}
 use lib.ListN.{length, take}
 use native.Mathlib.Omega.{arith}
+use Rattle.factor.specs.Limits.{max-variables, max-factors}
 use Rattle.plan.specs.Pass.{Passes}
 use Rattle.plan.proofs.KeyByKey.{in-order, in-back, placed, Both, may-gather, Planning, start, more, done, bounded}
 use Rattle.plan.proofs.plan.make_plan.Statement.{statement}
@@ -21,7 +22,7 @@ abbrev μ-loop : tie.MeasureT-loop
 full-pass-requires : tie.Need-full-pass-requires Inv-loop μ-loop
 full-pass-requires c κs =
     let args = c .args in
-    (c .pre .originals, in-order (args .keys) (args .live) (args .order) (args .count) (args .n) (c .pre) (search needs) (search needs))
+    (c .pre .ordered .originals, in-order (args .keys) (args .live) (args .order) (args .count) (args .n) (c .pre) (search needs) (search needs))
 
 reversed-requires : tie.Need-reversed-requires Inv-loop μ-loop
 reversed-requires c κs = c .before .pre .few
@@ -30,7 +31,7 @@ full-pass-requires-2 : tie.Need-full-pass-requires-2 Inv-loop μ-loop
 full-pass-requires-2 c κs =
     let pre = c .before .before .pre in
     let args = c .before .before .args in
-    (pre .originals, in-back (args .keys) (args .live) (args .order) (args .count) (args .n) pre (search needs) (search needs) (c .reversed .result) (c .reversed .ensures))
+    (pre .ordered .originals, in-back (args .keys) (args .live) (args .order) (args .count) (args .n) pre (search needs) (search needs) (c .reversed .result) (c .reversed .ensures))
 
 loop-holds : tie.Need-loop-holds Inv-loop μ-loop
 loop-holds c =
@@ -45,8 +46,8 @@ sub-s c = omega arith
 
 sub-s-2 : tie.Need-sub-s-2 Inv-loop μ-loop
 sub-s-2 c =
-    let long : length (c .before .before .before .before .before .before .args .live) ≡ 64 = search needs in
-    let long' : length (c .before .before .before .before .before .before .args .order) ≡ 32 = search needs in
+    let long : length (c .before .before .before .before .before .before .args .live) ≡ max-factors = search needs in
+    let long' : length (c .before .before .before .before .before .before .args .order) ≡ max-variables = search needs in
     let args = c .before .before .before .before .before .before .args in
     let pre = c .before .before .before .before .before .before .pre in
     omega (
@@ -58,8 +59,8 @@ sub-s-2 c =
 
 gather-requires : tie.Need-gather-requires Inv-loop μ-loop
 gather-requires c κs =
-    let long : length (c .before .before .before .before .before .before .args .live) ≡ 64 = search needs in
-    let long' : length (c .before .before .before .before .before .before .args .order) ≡ 32 = search needs in
+    let long : length (c .before .before .before .before .before .before .args .live) ≡ max-factors = search needs in
+    let long' : length (c .before .before .before .before .before .before .args .order) ≡ max-variables = search needs in
     let args = c .before .before .before .before .before .before .args in
     let pre = c .before .before .before .before .before .before .pre in
     let fw = c .before .before .before .before .before .full-pass in
@@ -103,8 +104,8 @@ loop-again c =
 
 returns : tie.Need-returns Inv-loop μ-loop
 returns c =
-    let long : length (c .before .before .before .before .before .args .live) ≡ 64 = search needs in
-    let long' : length (c .before .before .before .before .before .args .order) ≡ 32 = search needs in
+    let long : length (c .before .before .before .before .before .args .live) ≡ max-factors = search needs in
+    let long' : length (c .before .before .before .before .before .args .order) ≡ max-variables = search needs in
     let args = c .before .before .before .before .before .args in
     let fw = c .before .before .before .before .full-pass in
     let back = c .before .before .before .reversed in

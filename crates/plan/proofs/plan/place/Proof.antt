@@ -6,12 +6,13 @@ use mathlib.Core.Path.{_≡_}
 use Prim.Native.Nat.{_≤_, _-_}
 use lib.ListN.{length}
 use native.Mathlib.Omega.{arith}
+use Rattle.factor.specs.Limits.{max-variables}
 use Rattle.plan.proofs.KeyByKey.{Sought, sought-here, sought-on, sought-none}
 use Rattle.plan.proofs.plan.place.Statement.{statement}
 use Rattle.plan.proofs.plan.place.Tie as tie
 
 abbrev Inv-loop : tie.InvT-loop
-Inv-loop n k order i₀ i = (i ≤ n) × (length order ≡ 32) × Sought k order n i
+Inv-loop n k order i₀ i = (i ≤ n) × (length order ≡ max-variables) × Sought k order n i
 
 abbrev μ-loop : tie.MeasureT-loop
 μ-loop n k order i₀ i = n - i

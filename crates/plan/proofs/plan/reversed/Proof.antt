@@ -5,18 +5,19 @@ use mathlib.Core.Path.{_≡_, refl, _∙_}
 use Prim.Native.Nat.{_≤_, _-_}
 use lib.ListN.{length, getD, length-set, replicate}
 use native.Mathlib.Omega.{arith}
+use Rattle.factor.specs.Limits.{max-variables}
 use Rattle.plan.proofs.KeyByKey.{Back, back-none, back-more, back-done}
 use Rattle.plan.proofs.plan.reversed.Statement.{statement}
 use Rattle.plan.proofs.plan.reversed.Tie as tie
 
 abbrev Inv-loop : tie.InvT-loop
-Inv-loop n order r₀ i₀ r i = (i ≤ n) × (length r ≡ 32) × (length order ≡ 32) × Back order n r i
+Inv-loop n order r₀ i₀ r i = (i ≤ n) × (length r ≡ max-variables) × (length order ≡ max-variables) × Back order n r i
 
 abbrev μ-loop : tie.MeasureT-loop
 μ-loop n order r₀ i₀ r i = n - i
 
 loop-holds : tie.Need-loop-holds Inv-loop μ-loop
-loop-holds c = (omega arith, refl, search needs, back-none (c .args .t1) (replicate 32 0) (c .args .n))
+loop-holds c = (omega arith, refl, search needs, back-none (c .args .t1) (replicate max-variables 0) (c .args .n))
 
 sub-r : tie.Need-sub-r Inv-loop μ-loop
 sub-r c = omega arith

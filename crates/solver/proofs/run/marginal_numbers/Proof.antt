@@ -1,6 +1,7 @@
 -- `solver::run::marginal_numbers` meets its contract. The loop's invariant: the numbers of the keys passed are added up. Assumes nothing.
 use mathlib.Core.Path.{_≡_}
 use Prim.Native.Nat.{_*_, _-_, _≤_}
+use Rattle.factor.specs.Limits.{max-variables}
 use Rattle.marginals.specs.Asked.{placeOf}
 use Rattle.solver.proofs.Stages.{square, no-place, place-next, numbers-told}
 use native.Mathlib.Omega.{arith}
@@ -9,10 +10,10 @@ use Rattle.solver.proofs.run.marginal_numbers.Statement.{statement}
 use Rattle.solver.proofs.run.marginal_numbers.Tie as tie
 
 abbrev Inv-loop : tie.InvT-loop
-Inv-loop sizes sum₀ key₀ sum key = (key ≤ 32) × (sum ≡ placeOf sizes key) × (sum ≤ 65280 * key)
+Inv-loop sizes sum₀ key₀ sum key = (key ≤ max-variables) × (sum ≡ placeOf sizes key) × (sum ≤ 65280 * key)
 
 abbrev μ-loop : tie.MeasureT-loop
-μ-loop sizes sum₀ key₀ sum key = 32 - key
+μ-loop sizes sum₀ key₀ sum key = max-variables - key
 
 loop-holds : tie.Need-loop-holds Inv-loop μ-loop
 loop-holds c = (omega arith, no-place _, omega arith)
@@ -45,7 +46,7 @@ loop-again c =
 
 returns : tie.Need-returns Inv-loop μ-loop
 returns c =
-    let e : c .before .loop .key ≡ 32 = omega arith in
+    let e : c .before .loop .key ≡ max-variables = omega arith in
     numbers-told (c .before .before .before .args .g) (c .before .before .before .pre) (c .before .loop .sum) (c .before .loop .key) (c .before .loop .inv .1) e
 
 pub marginal-numbers-spec : {M : Type 1} → statement M

@@ -1,7 +1,9 @@
--- `solver::run::run` meets its contract: by whether the plan is refused. Assumes nothing.
+-- `solver::run::run` meets its contract: the plan may be refused, a store may be short, else the plan is carried out. Assumes nothing.
+use mathlib.Core.Path.{_∙_, sym}
 use lib.ListN.{length}
-use Rattle.solver.proofs.Answers.{made-valid, refused-why}
-use Rattle.solver.proofs.Stages.{made-planned, run-refused, run-made}
+use Rattle.plan.specs.Plan.{planOf}
+use Rattle.solver.proofs.Answers.{refused-why}
+use Rattle.solver.proofs.Stages.{made-planned, as-held, enough-told, short-checked, enough-checked, run-refused, run-made}
 use Rattle.solver.proofs.Telling.{run-tells}
 use borrow.Author.Needs.{needs}
 use Rattle.solver.proofs.run.run.Statement.{statement}
@@ -16,17 +18,66 @@ enum-known-outcome c = search needs
 refused-requires : tie.Need-refused-requires
 refused-requires c κs = search needs
 
-enum-told : tie.Need-enum-told
-enum-told c = search needs
-
-place-plan-requires : tie.Need-place-plan-requires
-place-plan-requires c κs = made-planned _ (c .before .before .before .before .before .before .before .before .before .before .before .args .g) (c .before .before .before .before .before .before .arrange .ensures .0) (c .before .before .before .before .before .before .arrange .ensures .1 .1) (c .before .before .before .before .enum-told .given .1)
-
 returns : tie.Need-returns
 returns c =
     let args = c .before .before .before .before .before .before .before .before .before .args in
     run-tells _ _ _ _
-    (rw (c .refused .ensures) (run-refused (args .g) (args .factors .now) (args .messages .now) (args .marginals .now) (length (args .work .now)) _ (refused-why _ (args .g) _ (c .before .before .before .before .arrange .ensures .0) (c .before .before .outcome .given .1))))
+    (rw (c .refused .ensures)
+    (run-refused (args .g) (args .factors .now) (args .messages .now) (args .marginals .now) (length (args .work .now)) _ (refused-why _ (args .g) _ (c .before .before .before .before .arrange .ensures .0) (c .before .before .outcome .given .1))))
+
+enum-told : tie.Need-enum-told
+enum-told c = search needs
+
+slice-aggregate-place-plan : tie.Need-slice-aggregate-place-plan
+slice-aggregate-place-plan c = search needs
+
+slice-aggregate-place-plan-2 : tie.Need-slice-aggregate-place-plan-2
+slice-aggregate-place-plan-2 c = search needs
+
+place-plan-requires : tie.Need-place-plan-requires
+place-plan-requires c κs =
+    let g = c .before .before .before .before .before .before .before .before .before .before .args .g in
+    let made = c .before .before .before .before .before .arrange in
+    (as-held g _ _ (made-planned (made .result) g (made .ensures .0) (made .ensures .1 .1) (c .before .before .before .enum-told .given .1)), search needs)
+
+check-stores-requires : tie.Need-check-stores-requires
+check-stores-requires c κs =
+    let g = c .before .before .before .before .before .before .before .before .before .before .before .before .before .args .g in
+    let made = c .before .before .before .before .before .before .before .before .arrange in
+    made-planned (made .result) g (made .ensures .0) (made .ensures .1 .1) (c .before .before .before .before .before .before .enum-told .given .1) .runnable .forward .sound
+
+enum-told-2 : tie.Need-enum-told-2
+enum-told-2 c = search needs
+
+enum-known-why : tie.Need-enum-known-why
+enum-known-why c = search needs
+
+refused-requires-2 : tie.Need-refused-requires-2
+refused-requires-2 c κs = search needs
+
+returns-2 : tie.Need-returns-2
+returns-2 c =
+    let args = c .before .before .before .before .before .before .before .before .before .before .before .before .before .before .before .before .before .before .args in
+    let made = c .before .before .before .before .before .before .before .before .before .before .before .before .before .arrange in
+    let pl = made-planned (made .result) (args .g) (made .ensures .0) (made .ensures .1 .1) (c .before .before .before .before .before .before .before .before .before .before .before .enum-told .given .1) in
+    run-tells _ _ _ _
+    (rw (c .refused2 .ensures)
+    (run-made (args .g) (made .result .plan) _ _ _ (args .factors .now) (args .messages .now) (args .marginals .now) (length (args .work .now)) pl (c .before .before .before .before .before .before .before .place-plan .ensures) _
+    (short-checked (args .g) (planOf (args .g .variables) (made .result .plan)) _ (args .factors .now) (args .messages .now) (args .marginals .now) (length (args .work .now)) _ (sym (c .before .before .before .before .check-stores .ensures) ∙ c .before .before .why .given .1))))
+
+slice-aggregate-carry-out : tie.Need-slice-aggregate-carry-out
+slice-aggregate-carry-out c = search needs
+
+slice-aggregate-carry-out-2 : tie.Need-slice-aggregate-carry-out-2
+slice-aggregate-carry-out-2 c = search needs
+
+carry-out-requires : tie.Need-carry-out-requires
+carry-out-requires c κs =
+    let args = c .before .before .before .before .before .before .before .before .before .before .before .before .before .before .before .before .before .before .before .before .before .args in
+    let made = c .before .before .before .before .before .before .before .before .before .before .before .before .before .before .before .before .arrange in (
+      (as-held (args .g) _ _ (made-planned (made .result) (args .g) (made .ensures .0) (made .ensures .1 .1) (c .before .before .before .before .before .before .before .before .before .before .before .before .before .before .enum-told .given .1)), c .before .before .before .before .before .before .before .before .before .before .place-plan .ensures),
+      enough-told (args .g) _ _ _ _ _ (sym (c .before .before .before .before .before .before .before .check-stores .ensures) ∙ c .before .before .before .before .before .enum-told2 .given .1),
+    )
 
 same-length : tie.Need-same-length
 same-length c = search needs
@@ -37,11 +88,16 @@ same-length-2 c = search needs
 same-length-3 : tie.Need-same-length-3
 same-length-3 c = search needs
 
-returns-2 : tie.Need-returns-2
-returns-2 c =
-    let args = c .before .before .before .before .before .before .before .before .before .before .before .before .before .before .before .before .before .before .args in
+returns-3 : tie.Need-returns-3
+returns-3 c =
+    let args = c .before .before .before .before .before .before .before .before .before .before .before .before .before .before .before .before .before .before .before .before .before .before .before .before .before .before .before .before .args in
+    let made = c .before .before .before .before .before .before .before .before .before .before .before .before .before .before .before .before .before .before .before .before .before .before .before .arrange in
+    let pl = made-planned (made .result) (args .g) (made .ensures .0) (made .ensures .1 .1) (c .before .before .before .before .before .before .before .before .before .before .before .before .before .before .before .before .before .before .before .before .before .enum-told .given .1) in
     run-tells _ _ _ _
-    (run-made (args .g) (args .factors .now) (args .messages .now) (args .marginals .now) (length (args .work .now)) _ (made-valid _ (args .g) (c .before .before .before .before .before .before .before .before .before .before .before .before .before .arrange .ensures .0) (c .before .before .before .before .before .before .before .before .before .before .before .enum-told .given .1)) (c .before .before .before .before .before .before .place-plan .ensures))
+    (run-made (args .g) (made .result .plan) _ _ _ (args .factors .now) (args .messages .now) (args .marginals .now) (length (args .work .now)) pl (c .before .before .before .before .before .before .before .before .before .before .before .before .before .before .before .before .before .place-plan .ensures) _
+    (c .before .before .before .before .before .before .carry-out .ensures
+    ∙ enough-checked (args .g) (planOf (args .g .variables) (made .result .plan)) _ (args .factors .now) (args .messages .now) (args .marginals .now) (length (args .work .now))
+    (enough-told (args .g) _ _ _ _ _ (sym (c .before .before .before .before .before .before .before .before .before .before .before .before .before .before .check-stores .ensures) ∙ c .before .before .before .before .before .before .before .before .before .before .before .before .enum-told2 .given .1))))
 
 pub run-spec : {M : Type 1} → statement M
 run-spec =
@@ -50,10 +106,20 @@ run-spec =
     arrange-requires
     enum-known-outcome
     refused-requires
-    enum-told
-    place-plan-requires
     returns
+    enum-told
+    slice-aggregate-place-plan
+    slice-aggregate-place-plan-2
+    place-plan-requires
+    check-stores-requires
+    enum-told-2
+    enum-known-why
+    refused-requires-2
+    returns-2
+    slice-aggregate-carry-out
+    slice-aggregate-carry-out-2
+    carry-out-requires
     same-length
     same-length-2
     same-length-3
-    returns-2)
+    returns-3)

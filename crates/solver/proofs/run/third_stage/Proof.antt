@@ -1,7 +1,6 @@
 -- `solver::run::third_stage` meets its contract: the results are copied once all are found. Assumes nothing.
 use mathlib.Core.Path.{refl}
-use lib.ListN.{length}
-use Rattle.solver.proofs.Stages.{third-asks, third-refused, third-done}
+use Rattle.solver.proofs.Stages.{with-room, third-refused, third-done}
 use native.Mathlib.Omega.{arith}
 use borrow.Author.Needs.{needs}
 use Rattle.solver.proofs.run.third_stage.Statement.{statement}
@@ -11,10 +10,7 @@ slice-aggregate-find-marginals : tie.Need-slice-aggregate-find-marginals
 slice-aggregate-find-marginals c = search needs
 
 find-marginals-requires : tie.Need-find-marginals-requires
-find-marginals-requires c κs =
-    let args = c .before .before .before .before .before .before .before .before .before .args in
-    let pre = c .before .before .before .before .before .before .before .before .before .pre in
-    third-asks (args .g) (args .p) (args .half) (args .figure) (args .keys .now) (args .heads .now) (args .factors .now) (args .messages .now) (args .marginals .now) (length (args .work .now)) (pre .0 .0) (pre .0 .1) (pre .1 .0) (pre .1 .1) _ (omega arith)
+find-marginals-requires c κs = with-room (c .before .before .before .before .before .before .before .before .pre) _ (omega arith)
 
 enum-told : tie.Need-enum-told
 enum-told c = search needs
@@ -30,12 +26,11 @@ same-length c = search needs
 
 returns : tie.Need-returns
 returns c =
-    let args = c .before .before .before .before .before .before .before .before .before .before .before .before .before .before .before .before .before .args in
-    let pre = c .before .before .before .before .before .before .before .before .before .before .before .before .before .before .before .before .before .pre in
-    rw (c .refused .ensures) (third-refused (args .g) (args .p) (args .half) (args .figure) (args .keys .now) (args .heads .now) (args .factors .now) (args .messages .now) (args .marginals .now) (length (args .work .now)) (pre .0 .0) (pre .0 .1) (pre .1 .0) (pre .1 .1) _ _ _ (c .before .before .before .before .before .before .before .find-marginals .ensures) _ _ (c .before .before .k .given .1))
+    let args = c .before .before .before .before .before .before .before .before .before .before .before .before .before .before .before .before .args in
+    rw (c .refused .ensures) (third-refused (args .g) (args .at) (args .figure) (args .factors .now) (args .messages .now) (args .keys .now) (args .heads .now) (args .marginals .now) _ _ _ (c .before .before .before .before .before .before .before .find-marginals .ensures) _ _ (c .before .before .k .given .1))
 
 marginal-numbers-requires : tie.Need-marginal-numbers-requires
-marginal-numbers-requires c κs = c .before .before .before .before .before .before .before .before .before .before .before .before .before .before .before .pre .0 .0 .plan .sound
+marginal-numbers-requires c κs = c .before .before .before .before .before .before .before .before .before .before .before .before .before .before .pre .sound
 
 sub-copy : tie.Need-sub-copy
 sub-copy c = search needs
@@ -66,9 +61,8 @@ same-length-3 c = search needs
 
 returns-2 : tie.Need-returns-2
 returns-2 c =
-    let args = c .before .before .before .before .before .before .before .before .before .before .before .before .before .before .before .before .before .before .before .before .before .before .args in
-    let pre = c .before .before .before .before .before .before .before .before .before .before .before .before .before .before .before .before .before .before .before .before .before .before .pre in
-    third-done (args .g) (args .p) (args .half) (args .figure) (args .keys .now) (args .heads .now) (args .factors .now) (args .messages .now) (args .marginals .now) (length (args .work .now)) (pre .0 .0) (pre .0 .1) (pre .1 .0) (pre .1 .1) _ _ _ (c .before .before .before .before .before .before .before .before .before .before .before .before .find-marginals .ensures) _ _ _ (c .before .before .before .before .before .before .before .enum-told .given .1) (c .before .before .before .before .before .before .marginal-numbers .ensures .0) (c .before .before .copy .ensures) refl
+    let args = c .before .before .before .before .before .before .before .before .before .before .before .before .before .before .before .before .before .before .before .before .before .args in
+    third-done (args .g) (args .at) (args .figure) (args .factors .now) (args .messages .now) (args .keys .now) (args .heads .now) (args .marginals .now) _ _ _ (c .before .before .before .before .before .before .before .before .before .before .before .before .find-marginals .ensures) _ _ _ (c .before .before .before .before .before .before .before .enum-told .given .1) (c .before .before .before .before .before .before .marginal-numbers .ensures .0) (c .before .before .copy .ensures) refl
 
 pub third-stage-spec : {M : Type 1} → statement M
 third-stage-spec =
