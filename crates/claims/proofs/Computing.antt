@@ -2,6 +2,7 @@
 use Prim.Native.Nat.{ℕ}
 use mathlib.Core.List.{List}
 use lib.Ieee.{Float}
+use Rattle.graph.specs.Moments.{startOf}
 use Rattle.matrix.specs.Products.{quadformAt, quadformOf}
 use Rattle.factor.specs.Counting.{sum}
 use Rattle.graph.specs.Reached.{Call}
@@ -29,5 +30,5 @@ computedCalls n cs = made n cs
 
 -- the run
 unfoldable pub computedRun : Graph → List Float → List Float → ℕ → List Float → Verdict
-unfolding run runs.checked runs.carried runs.first runs.second runs.third runs.figureOf found.marginalNumbers found.twice found.gatheredViews found.foundBy found.foundIn found.marginal found.marginalsFrom found.missingFrom found.marginalsIn planned graphPlan lists.plan counts.sum keysOf need needTo rowsTo rowsIn slotRows values.messageView values.slotView values.made values.valuesTo values.values values.stopFrom values.finished originalView numbersIn momentsOf quadformOf quadformAt computed computedCalls
+unfolding run runs.checked runs.carried runs.first runs.second runs.third runs.figureOf startOf found.twice found.gatheredViews found.foundBy found.foundIn found.marginal found.marginalsFrom found.missingFrom found.marginalsIn planned graphPlan lists.plan counts.sum keysOf need needTo rowsTo rowsIn slotRows values.messageView values.slotView values.made values.valuesTo values.values values.stopFrom values.finished originalView numbersIn momentsOf quadformOf quadformAt computed computedCalls
 computedRun g factors messages work marginals = run g factors messages work marginals

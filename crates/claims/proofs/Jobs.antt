@@ -6,7 +6,8 @@ use native.Mathlib.Omega.{arith}
 use lib.Ieee.{toBits}
 use Rattle.factor.specs.Limits.{max-size}
 use Rattle.text.specs.Decimals.{decimalBy, decimal, fieldText}
-use Rattle.lines.specs.Lines.{hexBy, numberText, numbersText, startOf, lineText, linesText, refusedWord, refusalText}
+use Rattle.graph.specs.Moments.{startOf}
+use Rattle.lines.specs.Lines.{hexBy, numberText, numbersText, lineText, linesText, refusedWord, refusalText}
 use Rattle.records.proofs.Computing.{computedReading}
 use Rattle.job.specs.Job.{runText, jobText}
 use Rattle.claims.specs.Pairs.{sized-bytes, variable-bytes, prior-bytes, equal-bytes}

@@ -5,6 +5,7 @@ use mathlib.Core.List.{List, [], _∷_, _++_, map}
 use Prim.Native.Nat.{_-_}
 use lib.ListN.{length, getD, replicate}
 use lib.Ieee.{Float, nan, ofBits}
+use Rattle.graph.specs.Moments.{startOf}
 use Rattle.root.specs.Root.{rootOf}
 use Rattle.factor.specs.Limits.{max-factors}
 use Rattle.factor.specs.declared.Factor.{Factor}
@@ -30,7 +31,7 @@ use Rattle.tables.specs.Originals.{originalView}
 use Rattle.messages.specs.Values.{values, slotView, messageView, stopFrom, finished}
 use Rattle.solver.specs.Plan.{planned, graphPlan}
 use Rattle.solver.proofs.GraphOnce as once
-use Rattle.marginals.specs.Marginals.{marginalNumbers, gatheredViews, found, marginalsFrom, missingFrom, marginalsIn}
+use Rattle.marginals.specs.Marginals.{gatheredViews, found, marginalsFrom, missingFrom, marginalsIn}
 use Rattle.solver.specs.Run.{figureOf, Verdict, first, second, third, carried, checked, run}
 use Rattle.solver.specs.declared.run.Ended.the-variants.{Done, Refused}
 use Rattle.claims.specs.Pairs.{zer, one, minus-one, two, three, four, three-quarters, Lent, next, lentTo, made, named, observed, weak, between, float, bare, held, pair, keyless, planOf, runOf, gatheredAt, Pairs}
@@ -153,7 +154,7 @@ unfolding carried first second third stopFrom finished numbersIn missingFrom mar
 carried-is = rw (forward-is, backward-is, marginals-are)
 
 checked-is : checked graph plan 6 store (replicate 7 nan) work-numbers (replicate 5 nan) ≡ carried graph plan 6 store (replicate 7 nan) (replicate 5 nan)
-unfolding checked marginalNumbers computedCalls
+unfolding checked startOf computedCalls
 checked-is = refl
 
 run-is : run graph store (replicate 7 nan) work-numbers (replicate 5 nan) ≡ ended

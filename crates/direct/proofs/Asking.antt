@@ -1,15 +1,13 @@
 -- A call that its early checks admit has tables that an elimination can ask for; the listed factors are the views of the definition. Assumes nothing.
 use Prim.Native.Nat.{ℕ, zero, suc, _+_, _-_, _*_, _≤_, _<_}
-use mathlib.Core.Path.{_≡_, refl, ap, ap₂, _∙_, sym, subst}
+use mathlib.Core.Path.{_≡_, refl, ap, ap₂, _∙_, sym}
 use mathlib.Core.Bool.{true, not, _||_}
 use mathlib.Core.List.{List, [], _∷_, map}
 use native.Mathlib.Omega.{arith}
 use borrow.Author.Tests.{leb-true, not-true}
 use lib.Ieee.{Float}
-use lib.ListN.{length, getD, drop, length-map}
-use lib.Seq.{getD-take, getD-drop}
+use lib.ListN.{length, getD, length-map}
 use Rattle.workspace.specs.Frames.{work-numbers}
-use Rattle.factor.specs.Limits.{max-variables}
 use Rattle.factor.specs.Factor.{keyAt, known}
 use Rattle.factor.specs.declared.Factor.{Factor}
 use Rattle.factor.proofs.Counting.{every-at, all-at}
@@ -19,14 +17,15 @@ use Rattle.graph.proofs.Validity.{valid-count}
 use Rattle.slots.specs.Limits.{max-slots, head-numbers}
 use Rattle.slots.specs.Layouts.{member, dimOf, layoutOf, Listed}
 use Rattle.slots.specs.Views.{rowsOf, rowsOfAll}
-use Rattle.slots.specs.Tables.{headOf, keysAt, storeOf, numbersOf, readView, rowsBy, rowsByAll}
-use Rattle.slots.specs.Fitting.{CountedHead, Counted}
+use Rattle.slots.specs.Tables.{headOf, storeOf, numbersOf, readView, rowsByAll}
+use Rattle.slots.specs.Fitting.{Counted}
 use Rattle.slots.specs.declared.layout.Layout.{Layout}
 use Rattle.slots.specs.declared.Head.{Head}
-use Rattle.slots.proofs.Reading.{rows-of-view}
 use Rattle.gaussian.specs.Elimination.{nth}
 use Rattle.gaussian.specs.Answers.{viewsOf}
 use Rattle.gaussian.specs.Asked.{HeadFits, messageRows, Asked, Roomy}
+use Rattle.gaussian.proofs.Heads.{counted-head, rows-are}
+use Rattle.gaussian.proofs.Listing.{getD-map}
 use Rattle.tables.specs.Originals.{originalView, Originals}
 use Rattle.tables.proofs.OriginalsRead.{original-view, original-fits}
 use Rattle.tables.proofs.Dimensions.{Below, Once, total-within, cleared-listed, kept-listed, known-below, rising-once}
@@ -39,35 +38,9 @@ map-same : {A : Type 0} (f h : ℕ → A) (l : List ℕ) → ((i : ℕ) → i < 
 map-same f h [] e = refl
 map-same f h (x ∷ l) e = ap₂ (λ a b. a ∷ b) (e 0 (omega arith)) (map-same f h l (λ i k. e (suc i) (omega arith)))
 
-getD-map : {A : Type 0} (f : ℕ → A) (l : List ℕ) (i : ℕ) (d : A) → i < length l → getD (map f l) i d ≡ f (getD l i 0)
-getD-map f [] i d h = absurd (omega arith)
-getD-map f (x ∷ l) zero d h = refl
-getD-map f (x ∷ l) (suc i) d h = getD-map f l i d (omega arith)
-
 pub slots-known : (g : Graph) (slots kept cleared : List ℕ) → allKnown g slots kept cleared ≡ true → known (g .count) slots ≡ true
 unfolding allKnown
 slots-known g slots kept cleared h = every-at _ 2 h
-
--- ---- one head
-
-counted-head : (kept cleared sizes keys : List ℕ) (len : ℕ) (h : Head) → HeadFits kept cleared sizes keys len h → CountedHead keys h
-counted-head kept cleared sizes keys len h k =
-    record {
-      rows = k .rows;
-      of-prior = λ e. let c = k .of-prior e .0 in
-          (omega (arith, k .listed), subst (λ (n : ℕ). getD keys n 0 < max-variables) (omega arith) (k .known 0 c .listed));
-    }
-
-rows-read : (kept cleared sizes keys : List ℕ) (len : ℕ) (h : Head) → HeadFits kept cleared sizes keys len h → (factors messages : List Float)
-    → rowsBy (layoutOf kept cleared sizes) keys h ≡ rowsOf (layoutOf kept cleared sizes) (readView factors messages keys h)
-unfolding rowsBy layoutOf
-rows-read kept cleared sizes keys len h k factors messages =
-    rows-of-view (layoutOf kept cleared sizes) (h .prior) (keysAt keys h) (getD keys (h .first) 0) (h .rows) (h .width) _ (λ e. rw (first e) (k .of-prior e .1)) first
-  where
-    first : h .prior ≡ true → getD (keysAt keys h) 0 0 ≡ getD keys (h .first) 0
-    first e =
-        let c : 0 < h .count = k .of-prior e .0 in
-        getD-take (h .first + h .count - h .first) (drop (h .first) keys) 0 0 (omega arith) ∙ getD-drop (h .first) keys 0 0 ∙ ap (λ (n : ℕ). getD keys n 0) (omega arith)
 
 -- ---- the lists of a call
 
@@ -135,7 +108,7 @@ module _ (g : Graph) (slots kept cleared : List ℕ) (factors : List Float) (ok 
     rows-to (suc n) h =
         let number : ℕ = getD slots n 0 in
         ap₂ (λ (a b : ℕ). a + b) (rows-to n (omega arith))
-        (rows-read kept cleared (g .sizes) keys _ (headOf heads number) (fits-at n (omega arith)) factors []
+        (rows-are kept cleared (g .sizes) keys _ (headOf heads number) (fits-at n (omega arith)) _
         ∙ ap (rowsOf m) (original-view g (ok .reached) keys heads o number (slot-below n (omega arith)) factors [] ∙ sym (getD-map (originalView g factors) slots n _ (omega arith))))
 
     pub need-is : numbersOf (messageRows (rowsByAll m keys heads slots (length slots)) (dimOf (g .sizes) kept)) (dimOf (g .sizes) kept) ≡ need g kept cleared (views g slots factors)

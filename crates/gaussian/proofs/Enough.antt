@@ -1,25 +1,26 @@
 -- What is asked of the tables alone is enough for every function below: each slot then fits the frame of the branch that runs. Assumes nothing.
 use Prim.Native.Nat.{ℕ, zero, suc, _+_, _-_, _*_, _≤_, _<_}
-use mathlib.Core.Path.{_≡_, refl, ap, ap₂, _∙_, subst}
+use mathlib.Core.Path.{_≡_, refl, ap, ap₂, _∙_}
 use mathlib.Core.Bool.{Bool, true, false, cond, _||_}
 use mathlib.Core.List.{List, []}
 use native.Mathlib.Decide.{decLt}
 use native.Mathlib.Omega.{arith}
 use lib.Dec.{leb}
-use lib.ListN.{length, getD, drop, length-take, length-drop}
-use lib.Seq.{getD-take, getD-drop}
+use lib.ListN.{length, getD}
 use lib.Ieee.{Float}
 use Rattle.matrix.specs.Views.{part}
+use Rattle.factor.specs.Limits.{max-variables, max-total}
 use Rattle.workspace.specs.Frames.{frameOf}
 use Rattle.slots.specs.Limits.{scratch-numbers}
 use Rattle.slots.specs.Layouts.{member, dimOf, firstOf, layoutOf}
 use Rattle.slots.specs.Views.{FactorView, rowsOf, rowsOfAll}
-use Rattle.slots.specs.Tables.{headOf, keysAt, storeOf, numbersOf, viewOf, viewAt, rowsBy, rowsByAll}
-use Rattle.slots.specs.Fitting.{KnownKey, Fitted, Ready, CountedHead}
+use Rattle.slots.specs.Tables.{headOf, keysAt, storeOf, numbersOf, viewAt, rowsBy, rowsByAll}
+use Rattle.slots.specs.Fitting.{KnownKey, Fitted, Ready}
 use Rattle.slots.specs.declared.layout.Layout.{Layout}
 use Rattle.slots.specs.declared.Head.{Head}
 use Rattle.slots.proofs.LayoutTables.{first-fits, getD-table}
-use Rattle.slots.proofs.Reading.{rows-of-view, rows-bound}
+use Rattle.slots.proofs.Reading.{rows-bound}
+use Rattle.gaussian.proofs.Heads.{size-is, count-is, key-at, prior-size, counted-head, rows-are}
 use Rattle.gaussian.specs.Asked.{KeyFits, HeadFits, Asked, Whole, frameFor}
 
 -- ---- a key
@@ -29,29 +30,25 @@ sits-by : (f₁ f₂ s u d : ℕ) (c k : Bool) → (c ≡ true → f₁ + s ≤ 
 sits-by f₁ f₂ s u d true k hc hk h = hc refl
 sits-by f₁ f₂ s u d false k hc hk h = hk h
 
-module _ (kept cleared sizes : List ℕ) (len : length sizes ≡ 32) where
-  pub cleared-at : (key : ℕ) → key < 32 → getD (layoutOf kept cleared sizes .cleared) key false ≡ member key cleared
+module _ (kept cleared sizes : List ℕ) (len : length sizes ≡ max-variables) where
+  pub cleared-at : (key : ℕ) → key < max-variables → getD (layoutOf kept cleared sizes .cleared) key false ≡ member key cleared
   unfolding layoutOf
   cleared-at key h = getD-table (λ k. member k cleared) 0 (length sizes) key false (rw len h) ∙ ap (λ (k : ℕ). member k cleared) (omega arith)
 
-  first-at : (key : ℕ) → key < 32 → getD (layoutOf kept cleared sizes .first) key 0 ≡ cond (member key cleared) (firstOf sizes cleared key) (firstOf sizes kept key)
+  first-at : (key : ℕ) → key < max-variables → getD (layoutOf kept cleared sizes .first) key 0 ≡ cond (member key cleared) (firstOf sizes cleared key) (firstOf sizes kept key)
   unfolding layoutOf
   first-at key h =
       getD-table (λ k. cond (member k cleared) (firstOf sizes cleared k) (firstOf sizes kept k)) 0 (length sizes) key 0 (rw len h)
       ∙ ap (λ (k : ℕ). cond (member k cleared) (firstOf sizes cleared k) (firstOf sizes kept k)) (omega arith)
-
-  size-is : layoutOf kept cleared sizes .size ≡ sizes
-  unfolding layoutOf
-  size-is = refl
 
   known-key : (r key : ℕ) → KeyFits kept cleared sizes key → KnownKey (frameOf (dimOf sizes cleared) r (dimOf sizes kept)) (layoutOf kept cleared sizes) key
   unfolding frameOf
   known-key r key k =
       record {
         listed = k .listed;
-        small = rw size-is (k .small);
+        small = rw (size-is kept cleared sizes) (k .small);
         sits =
-            rw (cleared-at key (k .listed), first-at key (k .listed), size-is)
+            rw (cleared-at key (k .listed), first-at key (k .listed), size-is kept cleared sizes)
             (sits-by (firstOf sizes cleared key) (firstOf sizes kept key) (getD sizes key 0) (dimOf sizes cleared) (dimOf sizes kept) (member key cleared) (member key kept)
             (first-fits sizes cleared key) (first-fits sizes kept key) (k .placed));
       }
@@ -59,44 +56,20 @@ module _ (kept cleared sizes : List ℕ) (len : length sizes ≡ 32) where
   -- ---- a slot's head
 
   module _ (keys : List ℕ) (store : ℕ) (h : Head) (k : HeadFits kept cleared sizes keys store h) where
-    count-is : length (keysAt keys h) ≡ h .count
-    count-is = simp (length-take, length-drop) (omega (arith, k .listed))
-
-    key-at : (j : ℕ) → j < h .count → getD (keysAt keys h) j 0 ≡ getD keys (h .first + j) 0
-    key-at j l = getD-take (h .first + h .count - h .first) (drop (h .first) keys) j 0 (omega arith) ∙ getD-drop (h .first) keys j 0
-
-    first-key : h .prior ≡ true → getD (keysAt keys h) 0 0 ≡ getD keys (h .first) 0
-    first-key e = key-at 0 (k .of-prior e .0) ∙ ap (λ (n : ℕ). getD keys n 0) (omega arith)
-
-    prior-size : h .prior ≡ true → getD (layoutOf kept cleared sizes .size) (getD (keysAt keys h) 0 0) 0 ≡ h .rows
-    prior-size e = rw (size-is, first-key e) (k .of-prior e .1)
-
-    pub counted-head : CountedHead keys h
-    counted-head =
-        record {
-          rows = k .rows;
-          of-prior = λ e. let c = k .of-prior e .0 in
-              (omega (arith, k .listed), subst (λ (n : ℕ). getD keys n 0 < 32) (omega arith) (k .known 0 c .listed));
-        }
-
-    rows-are : (t : List Float) → rowsBy (layoutOf kept cleared sizes) keys h ≡ rowsOf (layoutOf kept cleared sizes) (viewOf (h .prior) (keysAt keys h) (h .rows) (h .width) t)
-    unfolding rowsBy
-    rows-are t = rows-of-view (layoutOf kept cleared sizes) (h .prior) (keysAt keys h) (getD keys (h .first) 0) (h .rows) (h .width) t prior-size first-key
-
     fitted : (z : Bool) (r row : ℕ) → (z ≡ false → r ≡ dimOf sizes kept) → (z ≡ true → row + rowsBy (layoutOf kept cleared sizes) keys h ≤ r)
         → Fitted (frameOf (dimOf sizes cleared) r (dimOf sizes kept)) (layoutOf kept cleared sizes) z row (h .prior) (keysAt keys h) (h .rows) (h .width) scratch-numbers (numbersOf (h .rows) (h .width))
     unfolding frameOf
     fitted z r row hx hz =
         record {
-          some = λ e. rw count-is (k .of-prior e .0);
-          known = λ j l. rw (key-at j (rw count-is at l)) (known-key r _ (k .known j (rw count-is at l)));
-          count = rw count-is (k .count);
+          some = λ e. rw (count-is kept cleared sizes keys store h k) (k .of-prior e .0);
+          known = λ j l. rw (key-at kept cleared sizes keys store h k j (rw (count-is kept cleared sizes keys store h k) at l)) (known-key r _ (k .known j (rw (count-is kept cleared sizes keys store h k) at l)));
+          count = rw (count-is kept cleared sizes keys store h k) (k .count);
           narrow = k .width;
           rows = k .rows;
           square = hx;
-          inside = λ e. rw (← rows-are []) (hz e);
-          of-prior = prior-size;
-          of-other = λ e. rw (size-is, count-is) (k .of-likelihood e);
+          inside = λ e. rw (← rows-are kept cleared sizes keys store h k []) (hz e);
+          of-prior = prior-size kept cleared sizes keys store h k;
+          of-other = λ e. rw (size-is kept cleared sizes, (count-is kept cleared sizes keys store h k)) (k .of-likelihood e);
           scratch = omega (arith, k .rows);
           whole = omega arith;
         }
@@ -112,16 +85,16 @@ rows-rise m view (suc n) i h = go (decLt i n) (rows-rise m view n i)
     go (yes p) ih = omega (arith, ih p)
     go (no p) ih = let e : i ≡ n = omega arith in rw e (omega arith)
 
-module _ {kept cleared sizes : List ℕ} {factors messages : List Float} {work : ℕ} {keys heads slots : List ℕ} (len : length sizes ≡ 32)
+module _ {kept cleared sizes : List ℕ} {factors messages : List Float} {work : ℕ} {keys heads slots : List ℕ} (len : length sizes ≡ max-variables)
     (q : Asked kept cleared sizes factors messages work keys heads slots) where
   rows-all : (n : ℕ) → n ≤ length slots → (rowsByAll (layoutOf kept cleared sizes) keys heads slots n ≡ rowsOfAll (layoutOf kept cleared sizes) (viewAt factors messages keys heads slots) n)
-      × (rowsByAll (layoutOf kept cleared sizes) keys heads slots n ≤ 32 * n)
+      × (rowsByAll (layoutOf kept cleared sizes) keys heads slots n ≤ max-total * n)
   unfolding rowsByAll rowsOfAll viewAt
   rows-all zero h = (refl, omega arith)
   rows-all (suc n) h =
       let ih = rows-all n (omega arith) in
       let k = q .fits n (omega arith) in (
-        ap₂ (λ (a b : ℕ). a + b) (ih .0) (rows-are kept cleared sizes len keys _ (headOf heads (getD slots n 0)) k _),
+        ap₂ (λ (a b : ℕ). a + b) (ih .0) (rows-are kept cleared sizes keys _ (headOf heads (getD slots n 0)) k _),
         omega (arith, ih .1, rows-bound (layoutOf kept cleared sizes) keys (headOf heads (getD slots n 0)) (k .rows)),
       )
 
@@ -132,7 +105,7 @@ module _ {kept cleared sizes : List ℕ} {factors messages : List Float} {work :
   unfolding viewAt
   rows-inside i h =
       let k : Head = headOf heads (getD slots i 0) in
-      rw (rows-are kept cleared sizes len keys _ k (q .fits i h) (part (storeOf (k .slot) factors messages) (k .at) (k .at + numbersOf (k .rows) (k .width))), rows-all (length slots) (omega arith) .0)
+      rw (rows-are kept cleared sizes keys _ k (q .fits i h) (part (storeOf (k .slot) factors messages) (k .at) (k .at + numbersOf (k .rows) (k .width))), rows-all (length slots) (omega arith) .0)
       (rows-rise (layoutOf kept cleared sizes) (viewAt factors messages keys heads slots) (length slots) i h)
 
   pub enough : Whole (dimOf sizes cleared) (dimOf sizes kept) (layoutOf kept cleared sizes) factors messages work keys heads slots
@@ -143,7 +116,7 @@ module _ {kept cleared sizes : List ℕ} {factors messages : List Float} {work :
             record {
               few = q .few;
               headed = q .headed;
-              counted = λ i h. counted-head kept cleared sizes len keys _ (headOf heads (getD slots i 0)) (q .fits i h);
+              counted = λ i h. counted-head kept cleared sizes keys _ (headOf heads (getD slots i 0)) (q .fits i h);
             };
         rows = rows-all (length slots) (omega arith) .0;
         ready = ready;

@@ -3,6 +3,7 @@ pub mod Beginning
 pub mod Ending
 pub mod Sending
 pub mod Branches
+pub mod Heads
 pub mod Enough
 pub mod Listing
 pub mod Lengths

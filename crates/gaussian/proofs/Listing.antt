@@ -19,7 +19,7 @@ use Rattle.gaussian.specs.Answers.{answer, numbersIn, leftIn, viewsOf, b
 use Rattle.gaussian.specs.declared.Eliminated.{Eliminated}
 use Rattle.gaussian.proofs.Branches.{left-same}
 
-getD-map : (g : ℕ → FactorView) (l : List ℕ) (i : ℕ) (d : FactorView) → i < length l → getD (map g l) i d ≡ g (getD l i 0)
+pub getD-map : {A : Type 0} (g : ℕ → A) (l : List ℕ) (i : ℕ) (d : A) → i < length l → getD (map g l) i d ≡ g (getD l i 0)
 getD-map g [] i d h = absurd (omega arith)
 getD-map g (x ∷ l) zero d h = refl
 getD-map g (x ∷ l) (suc i) d h = getD-map g l i d (omega arith)

@@ -10,5 +10,6 @@ pub mod Passing
 pub mod Exactness
 pub mod Telling
 pub mod Numbers
+pub mod Moments
 pub mod Computing
 pub mod Examples

@@ -4,3 +4,4 @@ pub mod Record
 pub mod Registration
 pub mod Reached
 pub mod Told
+pub mod Moments

@@ -19,13 +19,13 @@ use Rattle.records.specs.Records.{readAll}
 use Rattle.records.specs.declared.answer.Read.{Read}
 use Rattle.records.specs.declared.answer.Ended.the-variants as reading
 use Rattle.workspace.specs.Frames.{work-numbers}
-use Rattle.marginals.specs.Marginals.{marginalNumbers}
 use Rattle.marginals.proofs.Rooms.{numbers-most}
 use Rattle.solver.specs.Run.{run}
 use Rattle.solver.specs.Stages.{verdict}
 use Rattle.solver.specs.declared.run.Ran.{Ran}
 use Rattle.solver.specs.declared.run.Ended.the-variants as ending
-use Rattle.lines.specs.Lines.{numbersOf, startOf, linesText, refusalText, written, laidIn}
+use Rattle.graph.specs.Moments.{startOf}
+use Rattle.lines.specs.Lines.{numbersOf, linesText, refusalText, written, laidIn}
 use Rattle.lines.specs.declared.Written.{Written}
 use Rattle.lines.specs.declared.Written.the-variants.{Length, Short}
 use Rattle.job.specs.Job.{factor-room, message-room, marginal-room, zeros, reading-stage, endedText, verdictText, runText, readText, jobText}
@@ -57,8 +57,8 @@ short-of out text r e s = by (leb (length text) (length out)) refl (sym e ∙ s)
     by false t h = leb-false (length text) (length out) t
 
 -- the marginal store has room for the numbers of every graph
-pub marginals-fit : (g : Graph) → valid g ≡ true → startOf g (g .variables) ≤ marginal-room
-unfolding startOf marginalNumbers
+pub marginals-fit : (g : Graph) → valid g ≡ true → startOf (g .sizes) (g .variables) ≤ marginal-room
+unfolding startOf
 marginals-fit g v = omega (arith, sum-le (λ k. numbersOf g k) (g .variables) max-variables (valid-variables g v), numbers-most g v)
 
 -- ---- how the run ended

@@ -10,7 +10,8 @@ use Rattle.graph.specs.Registration.{withVariable}
 use Rattle.graph.specs.declared.Graph.{Graph}
 use Rattle.graph.specs.declared.refusal.Refusal.the-variants.{MarginalPivot}
 use Rattle.text.specs.Decimals.{decimalBy, decimal, fieldText}
-use Rattle.lines.specs.Lines.{hexBy, numberText, numbersText, startOf, lineText, linesText, refusalText, written, laidIn}
+use Rattle.graph.specs.Moments.{startOf}
+use Rattle.lines.specs.Lines.{hexBy, numberText, numbersText, lineText, linesText, refusalText, written, laidIn}
 use Rattle.lines.specs.declared.Written.the-variants.{Short}
 
 -- one key of size 1

@@ -10,6 +10,7 @@ use Rattle.factor.specs.Counting.{sum}
 use Rattle.factor.specs.Factor.{lay}
 use Rattle.text.specs.Decimals.{space, feed, decimal, fieldText}
 use Rattle.graph.specs.Record.{sizeAt}
+use Rattle.graph.specs.Moments.{momentNumbers, startOf}
 use Rattle.graph.specs.declared.Graph.{Graph}
 use Rattle.lines.specs.declared.Written.{Written}
 use Rattle.lines.specs.declared.Written.the-variants.{Length, Short}
@@ -40,12 +41,9 @@ numbersText values from (suc n) = numbersText values from n ++ numberText (getD 
 
 -- ---- a line a key
 
--- mean and covariance of key k, and where they begin in the marginal store
+-- the numbers of key k in the marginal store
 abbrev pub numbersOf : Graph → ℕ → ℕ
-numbersOf g k = sizeAt g k + sizeAt g k * sizeAt g k
-
-unfoldable pub startOf : Graph → ℕ → ℕ
-startOf g k = sum (λ i. numbersOf g i) k
+numbersOf g k = momentNumbers (sizeAt g k)
 
 unfoldable pub lineText : ℕ → List Float → ℕ → ℕ → List ℕ
 lineText key values from n = decimal key ++ numbersText values from n ++ (feed ∷ [])
@@ -53,7 +51,7 @@ lineText key values from n = decimal key ++ numbersText values from n ++ (feed �
 -- the lines of the first n keys
 unfoldable pub linesText : Graph → List Float → ℕ → List ℕ
 linesText g values zero = []
-linesText g values (suc n) = linesText g values n ++ lineText n values (startOf g n) (numbersOf g n)
+linesText g values (suc n) = linesText g values n ++ lineText n values (startOf (g .sizes) n) (numbersOf g n)
 
 -- as many bytes: a line has its key, the bytes of each number, and its end
 unfoldable pub linesLength : Graph → ℕ → ℕ

@@ -14,6 +14,7 @@ ghost use lib.Ieee.{binary64, toBits};
 ghost use lib.ListN.{length};
 ghost use Rattle.factor.specs.Factor.{lay};
 ghost use Rattle.graph.specs.Record.{valid};
+ghost use Rattle.graph.specs.Moments.{startOf};
 ghost use Rattle.graph.specs.Refusals.{numberOf};
 ghost use Rattle.text.specs.Decimals.{decimal};
 ghost use Rattle.text.specs.Putting as text;
@@ -112,7 +113,7 @@ fn lines_length(g: Graph) -> usize
 }
 
 fn put_lines(out: &mut [u8], g: Graph, values: &[f64])
-    requires { ⌜ (valid g ≡ true) × (spec.startOf g (g .variables) ≤ length (now values)) × (spec.linesLength g (g .variables) ≤ length (now out)) ⌝ }
+    requires { ⌜ (valid g ≡ true) × (startOf (g .sizes) (g .variables) ≤ length (now values)) × (spec.linesLength g (g .variables) ≤ length (now out)) ⌝ }
     ensures { λ _. ⌜ now (out .exit) ≡ lay (now (out .entry)) 0 (spec.linesText g (now (values .entry)) (g .variables)) ⌝ }
 {
     let mut next = 0;
@@ -126,7 +127,7 @@ fn put_lines(out: &mut [u8], g: Graph, values: &[f64])
 
 // A line for each key, rising: its mean and covariance, which stand in the marginal store one key after the other. A short buffer is left as it was.
 pub fn lay_lines(g: Graph, marginals: &[f64], out: &mut [u8]) -> Written
-    requires { ⌜ (valid g ≡ true) × (spec.startOf g (g .variables) ≤ length (now marginals)) ⌝ }
+    requires { ⌜ (valid g ≡ true) × (startOf (g .sizes) (g .variables) ≤ length (now marginals)) ⌝ }
     ensures { λ r. ⌜ r ≡ spec.written (now (out .entry)) (spec.linesText g (now (marginals .entry)) (g .variables)) ⌝ }
     ensures { λ _. ⌜ now (out .exit) ≡ spec.laidIn (now (out .entry)) (spec.linesText g (now (marginals .entry)) (g .variables)) ⌝ }
 {

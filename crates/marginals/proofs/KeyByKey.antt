@@ -2,14 +2,13 @@
 use mathlib.Core.Path.{_≡_, refl, sym, ap, _∙_}
 use mathlib.Core.Bool.{Bool, true, false, cond}
 use mathlib.Core.List.{List, [], _∷_, _++_, append-nil, append-assoc}
-use Prim.Native.Nat.{ℕ, suc, _+_, _*_, _≤_, _<_}
+use Prim.Native.Nat.{ℕ, suc, _+_, _≤_, _<_}
 use native.Mathlib.Omega.{arith}
 use native.Mathlib.Numerals.{add-one}
 use lib.Ieee.{Float}
 use lib.ListN.{length, getD, take, drop, length-append, take-append-drop, drop-of-length-le}
 use lib.Seq.{length-take-le, drop-cons, drop-drop}
 use Rattle.factor.specs.Factor.{lay}
-use Rattle.factor.specs.Counting as counting
 use Rattle.graph.specs.declared.refusal.Refusal.{Refusal}
 use Rattle.graph.specs.declared.refusal.Refusal.the-variants.{CountedTwice}
 use Rattle.schedule.specs.Gather.{Gathered}
@@ -22,7 +21,9 @@ use Rattle.messages.proofs.Telling.{carried-tells}
 use Rattle.messages.specs.declared.Carried.{Carried}
 use Rattle.messages.specs.declared.Carried.the-variants.{Through, Halted}
 use Rattle.marginals.specs.Marginals.{twice, Found, found, missing, foundBy, foundIn, missingFrom, marginalsIn}
-use Rattle.marginals.specs.Asked.{foundAt, foundFrom, lastBy, placeOf, Finds}
+use Rattle.graph.specs.Moments.{momentNumbers, startOf}
+use Rattle.graph.proofs.Moments.{start-none, start-more}
+use Rattle.marginals.specs.Asked.{foundAt, foundFrom, lastBy, Finds}
 use Rattle.marginals.proofs.Lengths.{moments-long}
 use Rattle.factor.proofs.Laying.{lay-take, lay-drop, lay-length}
 
@@ -45,10 +46,7 @@ never-through k why e = let z : _≡_ {A = ℕ} 0 1 = cc in omega arith
 
 -- ---- how many numbers a key has
 
-abbrev numbersIn : ℕ → ℕ
-numbersIn s = s + s * s
-
-moments-count : (s r : ℕ) (a xi w : List Float) (m : Form) (k : ℕ) → momentsOf r s a xi w ≡ m → missingFrom k (foundBy m ∷ []) ≡ none → length (marginalsIn (foundBy m ∷ [])) ≡ numbersIn s
+moments-count : (s r : ℕ) (a xi w : List Float) (m : Form) (k : ℕ) → momentsOf r s a xi w ≡ m → missingFrom k (foundBy m ∷ []) ≡ none → length (marginalsIn (foundBy m ∷ [])) ≡ momentNumbers s
 unfolding foundBy missingFrom marginalsIn
 moments-count s r a xi w (form mean covariance) k e h =
     let long = moments-long s mean covariance r a xi w e in
@@ -56,25 +54,21 @@ moments-count s r a xi w (form mean covariance) k e h =
 moments-count s r a xi w noPivot k e h = absurd (let z : _≡_ {A = ℕ} 0 1 = cc in omega arith)
 moments-count s r a xi w noNumber k e h = absurd (let z : _≡_ {A = ℕ} 0 1 = cc in omega arith)
 
-outcome-count : (s : ℕ) (o : Outcome) (k : ℕ) → missingFrom k (foundIn s o ∷ []) ≡ none → length (marginalsIn (foundIn s o ∷ [])) ≡ numbersIn s
+outcome-count : (s : ℕ) (o : Outcome) (k : ℕ) → missingFrom k (foundIn s o ∷ []) ≡ none → length (marginalsIn (foundIn s o ∷ [])) ≡ momentNumbers s
 unfolding foundIn missingFrom marginalsIn
 outcome-count s pivot k h = absurd (let z : _≡_ {A = ℕ} 0 1 = cc in omega arith)
 outcome-count s unbounded k h = absurd (let z : _≡_ {A = ℕ} 0 1 = cc in omega arith)
 outcome-count s (message r a xi w) k h = moments-count s r a xi w (momentsOf r s a xi w) k refl h
 
-pub place-more : (sizes : List ℕ) (k : ℕ) → placeOf sizes (k + 1) ≡ placeOf sizes k + numbersIn (getD sizes k 0)
-unfolding placeOf counting.sum
-place-more sizes k = rw (add-one k) refl
-
 module _ (sizes : List ℕ) (factors messages : List Float) (keys heads : List ℕ) where
-  found-count : (k : ℕ) (q : Gathered) → missingFrom k (foundAt sizes factors messages keys heads k q ∷ []) ≡ none → length (marginalsIn (foundAt sizes factors messages keys heads k q ∷ [])) ≡ numbersIn (getD sizes k 0)
+  found-count : (k : ℕ) (q : Gathered) → missingFrom k (foundAt sizes factors messages keys heads k q ∷ []) ≡ none → length (marginalsIn (foundAt sizes factors messages keys heads k q ∷ [])) ≡ momentNumbers (getD sizes k 0)
   unfolding foundAt
   found-count k q h = go (twice (q .leaves)) h
     where
       o : Outcome
       o = lastBy sizes factors messages keys heads k q
 
-      go : (b : Bool) → missingFrom k (cond b (missing CountedTwice) (foundIn (getD sizes k 0) o) ∷ []) ≡ none → length (marginalsIn (cond b (missing CountedTwice) (foundIn (getD sizes k 0) o) ∷ [])) ≡ numbersIn (getD sizes k 0)
+      go : (b : Bool) → missingFrom k (cond b (missing CountedTwice) (foundIn (getD sizes k 0) o) ∷ []) ≡ none → length (marginalsIn (cond b (missing CountedTwice) (foundIn (getD sizes k 0) o) ∷ [])) ≡ momentNumbers (getD sizes k 0)
       go true e = absurd (never-through k CountedTwice e)
       go false e = outcome-count (getD sizes k 0) o k e
 
@@ -88,7 +82,7 @@ module _ (sizes : List ℕ) (factors messages : List Float) (keys heads : List �
     -- before the turn of key k
     pub record Walked (results₀ results : List Float) (to k : ℕ) : Type 0 where
       pub low : k ≤ length qs
-      pub place : to ≡ placeOf sizes k
+      pub place : to ≡ startOf sizes k
       pub long : length results ≡ length results₀
       pub within : to ≤ length results
       pub stop : missingFrom 0 all ≡ missingFrom k (rest k)
@@ -96,8 +90,7 @@ module _ (sizes : List ℕ) (factors messages : List Float) (keys heads : List �
       pub after : drop to results ≡ drop to results₀
 
     pub walk-start : (results : List Float) → Walked results results 0 0
-    unfolding placeOf counting.sum
-    walk-start results = record { low = omega arith; place = refl; long = refl; within = omega arith; stop = refl; done = refl; after = refl }
+    walk-start results = record { low = omega arith; place = sym (start-none sizes); long = refl; within = omega arith; stop = refl; done = refl; after = refl }
 
     module _ (results₀ results : List Float) (to k : ℕ) (q : Gathered) (w : Walked results₀ results to k) (h : k < length qs) (eq : getD qs k q ≡ q) where
       abbrev f : Found
@@ -107,10 +100,10 @@ module _ (sizes : List ℕ) (factors messages : List Float) (keys heads : List �
       unfolding foundFrom
       opened = ap (foundFrom sizes factors messages keys heads k) (drop-cons qs k q h ∙ ap (λ (x : Gathered). x ∷ drop (suc k) qs) eq ∙ ap (λ (n : ℕ). q ∷ drop n qs) (sym (add-one k)))
 
-      pub walk-on : (results′ : List Float) (to′ : ℕ) → missingFrom k (f ∷ []) ≡ none → results′ ≡ lay results to (marginalsIn (f ∷ [])) → to′ ≡ to + numbersIn (getD sizes k 0)
-          → to + numbersIn (getD sizes k 0) ≤ length results → Walked results₀ results′ to′ (k + 1)
+      pub walk-on : (results′ : List Float) (to′ : ℕ) → missingFrom k (f ∷ []) ≡ none → results′ ≡ lay results to (marginalsIn (f ∷ [])) → to′ ≡ to + momentNumbers (getD sizes k 0)
+          → to + momentNumbers (getD sizes k 0) ≤ length results → Walked results₀ results′ to′ (k + 1)
       walk-on results′ to′ e el et room =
-          let n : length (marginalsIn (f ∷ [])) ≡ numbersIn (getD sizes k 0) = found-count k q e in
+          let n : length (marginalsIn (f ∷ [])) ≡ momentNumbers (getD sizes k 0) = found-count k q e in
           let t : to′ ≡ to + length (marginalsIn (f ∷ [])) = omega arith in
           let fits : to + length (marginalsIn (f ∷ [])) ≤ length results = omega arith in
           let one = through-first f (rest (k + 1)) k e in
@@ -118,7 +111,7 @@ module _ (sizes : List ℕ) (factors messages : List Float) (keys heads : List �
           let l : length results′ ≡ length results = ap length el ∙ lay-length results (marginalsIn (f ∷ [])) to fits in
           record {
             low = omega arith;
-            place = et ∙ ap (λ (x : ℕ). x + numbersIn (getD sizes k 0)) (w .place) ∙ sym (place-more sizes k);
+            place = et ∙ ap (λ (x : ℕ). x + momentNumbers (getD sizes k 0)) (w .place) ∙ sym (start-more sizes k);
             long = l ∙ w .long;
             within = omega arith;
             stop = w .stop ∙ ap (missingFrom k) opened ∙ one .0;
@@ -145,7 +138,7 @@ module _ (sizes : List ℕ) (factors messages : List Float) (keys heads : List �
           apart : r ≡ Through → ⊥
           apart t = let z : _≡_ {A = ℕ} 0 1 = cc in omega arith
 
-    pub walk-done : (results₀ results : List Float) (to k : ℕ) → Walked results₀ results to k → length qs ≤ k → Finds all (placeOf sizes (length qs)) Through results₀ results
+    pub walk-done : (results₀ results : List Float) (to k : ℕ) → Walked results₀ results to k → length qs ≤ k → Finds all (startOf sizes (length qs)) Through results₀ results
     unfolding foundFrom missingFrom marginalsIn
     walk-done results₀ results to k w h =
         let e : drop k qs ≡ [] = drop-of-length-le qs {i = k} h in
@@ -156,6 +149,6 @@ module _ (sizes : List ℕ) (factors messages : List Float) (keys heads : List �
         record {
           tells = s;
           told = carried-tells Through (missingFrom 0 all) s;
-          count = λ t. n ∙ w .place ∙ ap (placeOf sizes) i;
+          count = λ t. n ∙ w .place ∙ ap (startOf sizes) i;
           stand = λ t. rw (n, d) (sym (take-append-drop to results) ∙ ap (λ (l : List Float). take to results ++ l) (w .after));
         }

@@ -7,3 +7,4 @@ pub mod Rooms
 pub mod Gathering
 pub mod Searching
 pub mod Telling
+pub mod Components

@@ -13,8 +13,8 @@ use Rattle.graph.specs.Record.{sizeAt, clear, total, valid}
 use Rattle.graph.specs.declared.Graph.{Graph}
 use Rattle.graph.proofs.Validity.{size-most, valid-variables, valid-total, valid-clear, valid-size}
 use Rattle.marginals.specs.Marginals.{marginalNumbers}
-use Rattle.marginals.specs.Asked.{placeOf}
-use Rattle.marginals.proofs.KeyByKey.{place-more}
+use Rattle.graph.specs.Moments.{startOf}
+use Rattle.graph.proofs.Moments.{start-more}
 
 sum-times : (f h : ℕ → ℕ) (k n : ℕ) → ((i : ℕ) → i < n → f i ≤ k * h i) → sum f n ≤ k * sum h n
 unfolding sum
@@ -22,9 +22,9 @@ sum-times f h k zero e = omega arith
 sum-times f h k (suc n) e = omega (arith, sum-times f h k n (λ i l. e i (omega arith)), e n (omega arith))
 
 module _ (g : Graph) (v : valid g ≡ true) where
-  pub key-room : (k : ℕ) → k < g .variables → placeOf (g .sizes) k + (sizeAt g k + sizeAt g k * sizeAt g k) ≤ marginalNumbers g
-  unfolding placeOf marginalNumbers
-  key-room k h = omega (arith, place-more (g .sizes) k, sum-le (λ i. sizeAt g i + sizeAt g i * sizeAt g i) (k + 1) max-variables (omega (arith, valid-variables g v)))
+  pub key-room : (k : ℕ) → k < g .variables → startOf (g .sizes) k + (sizeAt g k + sizeAt g k * sizeAt g k) ≤ marginalNumbers g
+  unfolding startOf
+  key-room k h = omega (arith, start-more (g .sizes) k, sum-le (λ i. sizeAt g i + sizeAt g i * sizeAt g i) (k + 1) max-variables (omega (arith, valid-variables g v)))
 
   -- the places after the registered variables have size 0
   no-size : (k : ℕ) → g .variables ≤ k → k < max-variables → sizeAt g k ≡ 0
@@ -40,7 +40,7 @@ module _ (g : Graph) (v : valid g ≡ true) where
 
   -- no key has more than 7 numbers for each of its columns
   pub numbers-most : marginalNumbers g ≤ 7 * max-total
-  unfolding marginalNumbers total
+  unfolding startOf total
   numbers-most =
       omega (
         arith,
@@ -48,6 +48,6 @@ module _ (g : Graph) (v : valid g ≡ true) where
         valid-total g v,
       )
 
-  pub all-numbers : placeOf (g .sizes) (g .variables) ≡ marginalNumbers g
-  unfolding placeOf marginalNumbers
+  pub all-numbers : startOf (g .sizes) (g .variables) ≡ marginalNumbers g
+  unfolding startOf
   all-numbers = sym (sum-stop (λ i. sizeAt g i + sizeAt g i * sizeAt g i) (g .variables) max-variables (valid-variables g v) (λ i h l. rw (no-size i h l) refl))

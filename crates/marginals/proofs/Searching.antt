@@ -21,7 +21,8 @@ use Rattle.messages.specs.declared.Carried.{Carried}
 use Rattle.messages.specs.declared.Carried.the-variants.{Through, Halted}
 use Rattle.messages.proofs.Members.{at-map}
 use Rattle.marginals.specs.Marginals.{marginalNumbers, Found, missingFrom, marginalsIn}
-use Rattle.marginals.specs.Asked.{foundAt, foundFrom, AskedAt, Findable, placeOf, Finds, FindsPlanned}
+use Rattle.graph.specs.Moments.{startOf}
+use Rattle.marginals.specs.Asked.{foundAt, foundFrom, AskedAt, Findable, Finds, FindsPlanned}
 use Rattle.marginals.proofs.KeyByKey.{Walked, walk-on, walk-halted, walk-done}
 use Rattle.marginals.proofs.Rooms.{key-room, numbers-most, all-numbers}
 use Rattle.marginals.proofs.Gathering.{found-planned}
@@ -44,7 +45,7 @@ module _ (g : Graph) (at : List arrays.Gathered) (factors messages : List Float)
 
   pub search-done : (results : List Float) (to k : ℕ) → At results to k → g .variables ≤ k → FindsPlanned g at factors messages keys heads Through results₀ results
   search-done results to k w h =
-      planned-finds (placeOf (g .sizes) (length (entries at (g .variables)))) Through results (ap (placeOf (g .sizes)) many ∙ all-numbers g (f .sound))
+      planned-finds (startOf (g .sizes) (length (entries at (g .variables)))) Through results (ap (startOf (g .sizes)) many ∙ all-numbers g (f .sound))
       (walk-done (g .sizes) factors messages keys heads (entries at (g .variables)) results₀ results to k w (omega (arith, many)))
 
   module _ (results : List Float) (to k : ℕ) (w : At results to k) (l : k < g .variables) where

@@ -2,10 +2,9 @@
 use mathlib.Core.Path.{_≡_}
 use mathlib.Core.Bool.{true, cond}
 use mathlib.Core.List.{List, [], _∷_, map}
-use Prim.Native.Nat.{ℕ, _+_, _*_, _≤_, _<_}
+use Prim.Native.Nat.{ℕ, _+_, _≤_, _<_}
 use lib.Ieee.{Float}
 use lib.ListN.{length, getD, take}
-use Rattle.factor.specs.Counting as counting
 use Rattle.graph.specs.Record.{offset, valid}
 use Rattle.graph.specs.declared.Graph.{Graph}
 use Rattle.graph.specs.declared.refusal.Refusal.the-variants.{CountedTwice}
@@ -48,10 +47,6 @@ foundFrom sizes factors messages keys heads k (q ∷ qs) = foundAt sizes factors
 -- the last elimination of a key
 abbrev pub AskedAt : List ℕ → List Float → List Float → ℕ → List ℕ → List ℕ → ℕ → Gathered → Type 0
 AskedAt sizes factors messages work keys heads k q = Asked (k ∷ []) (q .last) sizes factors messages work keys heads (gatheredNumbers q)
-
--- where the numbers of a key begin
-unfoldable pub placeOf : List ℕ → ℕ → ℕ
-placeOf sizes k = counting.sum (λ i. getD sizes i 0 + getD sizes i 0 * getD sizes i 0) k
 
 pub record Findable (g : Graph) (at : List arrays.Gathered) (factors messages : List Float) (work : ℕ) (keys heads : List ℕ) (results : ℕ) : Type 0 where
   pub sound : valid g ≡ true

@@ -31,7 +31,8 @@ use Rattle.slots.specs.Fitting.{Counted}
 use Rattle.slots.specs.declared.layout.Layout.{Layout}
 use Rattle.slots.specs.declared.Slot.the-variants.{Closed}
 use Rattle.gaussian.specs.Asked.{HeadFits}
-use Rattle.gaussian.proofs.Enough.{cleared-at, counted-head}
+use Rattle.gaussian.proofs.Heads.{counted-head}
+use Rattle.gaussian.proofs.Enough.{cleared-at}
 use Rattle.tables.specs.Originals.{withHead}
 use Rattle.tables.proofs.Heads.{head-length, head-put, head-else}
 use Rattle.factor.proofs.Laying.{lay-length, lay-in, lay-before}
@@ -116,7 +117,7 @@ module _ (g : Graph) (ms : List ClosedFactor) (c : Carriable g ms) (shift start 
       record {
         few = omega (arith, content-length);
         headed = headed;
-        counted = λ i h. counted-head (m .kept) (m .cleared) (g .sizes) sized keys _ (headOf heads (getD slots i 0)) (fits stand-in room (omega (arith, length-replicate (offset g (g .count)) plus-zero)) (omega (arith, length-replicate (start + needTo g ms j) plus-zero)) i h);
+        counted = λ i h. counted-head (m .kept) (m .cleared) (g .sizes) keys _ (headOf heads (getD slots i 0)) (fits stand-in room (omega (arith, length-replicate (offset g (g .count)) plus-zero)) (omega (arith, length-replicate (start + needTo g ms j) plus-zero)) i h);
       }
     where
       stand-in : List Float

@@ -1,17 +1,24 @@
 -- Two runs of a graph over one factor store, with message and marginal stores of equal lengths, answer alike and leave the same numbers at
 -- the start of the marginal store: a run never reads what these stores held. Assumes nothing.
 use Prim.Native.Nat.{ℕ}
-use mathlib.Core.Path.{_≡_, refl}
-use mathlib.Core.Bool.{Bool, true, false, cond}
-use mathlib.Core.List.{List, []}
+use mathlib.Core.Path.{_≡_, refl, subst₂}
+use mathlib.Core.Bool.{Bool, true, false, not, cond}
+use mathlib.Core.List.{List, [], _∷_}
+use lib.Dec.{leb}
 use lib.Ieee.{Float}
 use lib.ListN.{length}
+use Rattle.factor.specs.Counting.{every}
+use Rattle.graph.specs.Record.{offset, valid}
 use Rattle.graph.specs.declared.Graph.{Graph}
+use Rattle.graph.specs.declared.refusal.Refusal.{Refusal}
+use Rattle.graph.specs.declared.refusal.Refusal.the-variants.{FactorStoreShort, StoreShort, NoSuchGraph}
 use Rattle.schedule.specs.Pass.{ClosedFactor}
 use Rattle.schedule.specs.Plan as lists
+use Rattle.workspace.specs.Frames.{work-numbers}
 use Rattle.messages.specs.Values.{Stop, none, stopped, overlaid}
-use Rattle.marginals.specs.Marginals.{Found, marginalsIn}
-use Rattle.solver.specs.Run.{Verdict, third, second, first, carried, checked, run}
+use Rattle.marginals.specs.Marginals.{Found, marginalNumbers, marginalsIn}
+use Rattle.solver.specs.Run.{Verdict, refuse, third, second, first, carried, checked, figureOf, run}
+use Rattle.solver.specs.Plan.{graphPlan}
 
 -- equal answers, and one list laid over both marginal stores; it is empty where the run was refused
 pub record Alike (r r′ : List Float) (v v′ : Verdict) : Type 0 where
@@ -25,33 +32,42 @@ module _ (m m′ r r′ : List Float) where
   either true v w v′ w′ a c = a
   either false v w v′ w′ a c = c
 
+  refusals : (figure : ℕ) (why : Refusal) (stage key : ℕ) (n n′ : List Float) → Alike r r′ (refuse figure why stage key n r) (refuse figure why stage key n′ r′)
+  refusals figure why stage key n n′ = record { answers = refl; found = []; laid = refl; laid′ = refl }
+
   thirds : (figure : ℕ) (n n′ : List Float) (all : List Found) (s : Stop) → Alike r r′ (third figure n r all s) (third figure n′ r′ all s)
   unfolding third
   thirds figure n n′ all none = record { answers = refl; found = marginalsIn all; laid = refl; laid′ = refl }
-  thirds figure n n′ all (stopped k why) = record { answers = refl; found = []; laid = refl; laid′ = refl }
+  thirds figure n n′ all (stopped k why) = refusals figure why 3 k n n′
 
   seconds : (figure k : ℕ) (bw : List ClosedFactor) (n n′ : List Float) (s : Stop) (v v′ : Verdict) → Alike r r′ v v′ → Alike r r′ (second figure k bw n r s v) (second figure k bw n′ r′ s v′)
   unfolding second
   seconds figure k bw n n′ none v v′ a = a
-  seconds figure k bw n n′ (stopped j why) v v′ a = record { answers = refl; found = []; laid = refl; laid′ = refl }
+  seconds figure k bw n n′ (stopped j why) v v′ a = refusals figure why 2 _ n n′
 
   firsts : (figure : ℕ) (fw : List ClosedFactor) (n n′ : List Float) (s : Stop) (v v′ : Verdict) → Alike r r′ v v′ → Alike r r′ (first figure fw n r s v) (first figure fw n′ r′ s v′)
   unfolding first
   firsts figure fw n n′ none v v′ a = a
-  firsts figure fw n n′ (stopped j why) v v′ a = record { answers = refl; found = []; laid = refl; laid′ = refl }
+  firsts figure fw n n′ (stopped j why) v v′ a = refusals figure why 1 _ n n′
 
   carries : (g : Graph) (p : lists.Plan) (figure : ℕ) (factors : List Float) → Alike r r′ (carried g p figure factors m r) (carried g p figure factors m′ r′)
   unfolding carried
   carries g p figure factors = firsts figure (p .forward) _ _ _ _ _ (seconds figure (g .variables) (p .backward) _ _ _ _ _ (thirds figure _ _ _ _))
 
-  checks : (g : Graph) (p : lists.Plan) (figure : ℕ) (factors : List Float) (work : ℕ) → length m ≡ length m′ → length r ≡ length r′
-      → Alike r r′ (checked g p figure factors m work r) (checked g p figure factors m′ work r′)
-  unfolding checked
-  checks g p figure factors work e f =
-      rw (e, f)
-      (either _ _ _ _ _ (record { answers = refl; found = []; laid = refl; laid′ = refl })
-      (either _ _ _ _ _ (record { answers = refl; found = []; laid = refl; laid′ = refl }) (carries g p figure factors)))
+  module _ (g : Graph) (p : lists.Plan) (figure : ℕ) (factors : List Float) (work : ℕ) where
+    -- `checked`, with the lengths of the two stores apart
+    abbrev by : (lm lr : ℕ) (n s : List Float) → Verdict
+    by lm lr n s =
+        cond (not (leb (offset g (g .count)) (length factors))) (refuse figure FactorStoreShort 1 0 n s)
+        (cond (not (every (leb figure lm ∷ leb work-numbers work ∷ leb (marginalNumbers g) lr ∷ []))) (refuse figure StoreShort 1 0 n s) (carried g p figure factors n s))
+
+    checks : length m ≡ length m′ → length r ≡ length r′ → Alike r r′ (checked g p figure factors m work r) (checked g p figure factors m′ work r′)
+    unfolding checked
+    checks e f =
+        subst₂ (λ (lm lr : ℕ). Alike r r′ (by (length m) (length r) m r) (by lm lr m′ r′)) e f
+        (either (not (leb (offset g (g .count)) (length factors))) _ _ _ _ (refusals figure FactorStoreShort 1 0 m m′)
+        (either (not (every (leb figure (length m) ∷ leb work-numbers work ∷ leb (marginalNumbers g) (length r) ∷ []))) _ _ _ _ (refusals figure StoreShort 1 0 m m′) (carries g p figure factors)))
 
   pub run-lengths : (g : Graph) (factors : List Float) (work : ℕ) → length m ≡ length m′ → length r ≡ length r′ → Alike r r′ (run g factors m work r) (run g factors m′ work r′)
   unfolding run
-  run-lengths g factors work e f = either _ _ _ _ _ (record { answers = refl; found = []; laid = refl; laid′ = refl }) (checks g _ _ factors work e f)
+  run-lengths g factors work e f = either (not (valid g)) _ _ _ _ (refusals 0 NoSuchGraph 1 0 m m′) (checks g (graphPlan g) (figureOf g (graphPlan g)) factors work e f)

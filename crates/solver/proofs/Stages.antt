@@ -9,12 +9,11 @@ use lib.Ieee.{Float}
 use lib.ListN.{length, getD, take, drop, length-take}
 use lib.Seq.{take-at, drop-drop, getD-take}
 use lib.Dec.{leb}
-use borrow.Author.Tests.{leb-true, le-leb, lt-leb}
+use borrow.Author.Tests.{leb-true, le-leb}
 use Rattle.matrix.specs.Views.{part, splice}
 use Rattle.factor.specs.Limits.{max-variables}
 use Rattle.workspace.specs.Frames.{work-numbers}
 use Rattle.workspace.proofs.Parts.{part-below}
-use Rattle.factor.specs.Counting as counting
 use Rattle.factor.specs.Counting.{every}
 use Rattle.factor.specs.Factor.{sizeOf, lay}
 use Rattle.factor.proofs.Counting.{every-at}
@@ -30,7 +29,6 @@ use Rattle.plan.specs.declared.pass.Pass.{Pass}
 use Rattle.plan.proofs.Unions.{at-msg}
 use Rattle.plan.specs.Gather.{gatheredOf}
 use Rattle.plan.specs.Plan.{planOf, noGathered, Bounded}
-use Rattle.slots.specs.Tables.{numbersOf}
 use Rattle.tables.specs.Originals.{Originals}
 use Rattle.lists.specs.Lists.{messageNumber, backward-shift}
 use Rattle.plan.specs.declared.gather.Gathered as arrays
@@ -43,16 +41,17 @@ use Rattle.messages.specs.Values.{values, none, stopped, stopFrom, finished, ov
 use Rattle.messages.specs.Figure.{rowsAt, widthAt, needTo, need}
 use Rattle.messages.proofs.Members.{at-map}
 use Rattle.messages.proofs.Rows.{products}
-use Rattle.messages.proofs.Slots.{message-rows-most, message-kept, message-few, need-rises}
+use Rattle.messages.proofs.Slots.{message-rows-most, message-kept, message-few}
 use Rattle.messages.proofs.Reading.{values-length}
 use Rattle.messages.proofs.Carrying.{stored-stays}
 use Rattle.messages.specs.Tables.{Carriable, AllStored, Tables, PlacedTo, Before, keys-length, heads-length, firstKey}
 use Rattle.messages.specs.Asked.{most-start, stopOf}
 use Rattle.messages.specs.declared.Carried.{Carried}
 use Rattle.messages.specs.declared.Carried.the-variants.{Through, Halted}
-use Rattle.marginals.specs.Asked.{placeOf, Findable, Gatherable, planned, Finds, FindsPlanned}
+use Rattle.graph.specs.Moments.{startOf}
+use Rattle.graph.proofs.Moments.{start-none, start-more}
+use Rattle.marginals.specs.Asked.{Findable, Gatherable, planned, Finds, FindsPlanned}
 use Rattle.marginals.specs.Marginals.{marginalNumbers, missingFrom, marginalsIn}
-use Rattle.marginals.proofs.KeyByKey.{place-more}
 use Rattle.marginals.proofs.Rooms.{numbers-most}
 use Rattle.marginals.proofs.Gathering.{findable}
 use Rattle.factor.proofs.Laying.{lay-lay}
@@ -74,17 +73,15 @@ use Rattle.solver.proofs.Carriable.{graph-runnable}
 pub square : (s : ℕ) → s < 256 → s * s ≤ 65025
 square s h = let k : s ≤ 255 = omega arith in mul-le-mul k k
 
-pub no-place : (sizes : List ℕ) → 0 ≡ placeOf sizes 0
-unfolding placeOf counting.sum
-no-place sizes = refl
+pub no-place : (sizes : List ℕ) → 0 ≡ startOf sizes 0
+no-place sizes = sym (start-none sizes)
 
-pub place-next : (sizes : List ℕ) (k sum s : ℕ) → sum ≡ placeOf sizes k → s ≡ sizeOf sizes k → sum + (s + s * s) ≡ placeOf sizes (k + 1)
-place-next sizes k sum s e es = rw (e, es) (sym (place-more sizes k))
+pub place-next : (sizes : List ℕ) (k sum s : ℕ) → sum ≡ startOf sizes k → s ≡ sizeOf sizes k → sum + (s + s * s) ≡ startOf sizes (k + 1)
+place-next sizes k sum s e es = rw (e, es) (sym (start-more sizes k))
 
-pub numbers-told : (g : Graph) → valid g ≡ true → (sum k : ℕ) → sum ≡ placeOf (g .sizes) k → k ≡ max-variables → (sum ≡ marginalNumbers g) × (sum ≤ 224)
-unfolding placeOf marginalNumbers
+pub numbers-told : (g : Graph) → valid g ≡ true → (sum k : ℕ) → sum ≡ startOf (g .sizes) k → k ≡ max-variables → (sum ≡ marginalNumbers g) × (sum ≤ 224)
 numbers-told g v sum k e ek =
-    let t : sum ≡ marginalNumbers g = e ∙ ap (placeOf (g .sizes)) ek in
+    let t : sum ≡ marginalNumbers g = e ∙ ap (startOf (g .sizes)) ek in
     (t, omega (arith, numbers-most g v))
 
 pub step-told : (p : Pass) (j : ℕ) → j < p .count → getD (p .steps) j 0 ≡ at (messagesOf p) j .step

@@ -10,28 +10,30 @@ use Rattle.factor.specs.Factor.{lay}
 use Rattle.factor.proofs.Counting.{sum-le}
 use Rattle.graph.specs.declared.Graph.{Graph}
 use Rattle.text.specs.Decimals.{decimal}
-use Rattle.lines.specs.Lines.{Puts, numbersOf, startOf, linesText, linesLength, lineText}
+use Rattle.graph.specs.Moments.{startOf}
+use Rattle.lines.specs.Lines.{Puts, numbersOf, linesText, linesLength, lineText}
 use Rattle.lines.proofs.Laying.{puts-none, puts-both, puts-same}
-use Rattle.lines.proofs.Texts.{start-more, length-more, lines-more, lines-long}
+use Rattle.graph.proofs.Moments.{start-more}
+use Rattle.lines.proofs.Texts.{length-more, lines-more, lines-long}
 use borrow.Author.Needs.{needs}
 use Rattle.lines.proofs.put_lines.Statement.{statement}
 use Rattle.lines.proofs.put_lines.Tie as tie
 
 abbrev Inv-loop : tie.InvT-loop
-Inv-loop out₀ g values next₀ from₀ key₀ key-end out next from key = (key-end ≡ g .variables) × (key ≤ key-end) × (length out ≡ length out₀) × (from ≡ startOf g key) × Puts out₀ out 0 next (linesText g values key)
+Inv-loop out₀ g values next₀ from₀ key₀ key-end out next from key = (key-end ≡ g .variables) × (key ≤ key-end) × (length out ≡ length out₀) × (from ≡ startOf (g .sizes) key) × Puts out₀ out 0 next (linesText g values key)
 
 abbrev μ-loop : tie.MeasureT-loop
 μ-loop out₀ g values next₀ from₀ key₀ key-end out next from key = key-end - key
 
 -- a key's numbers and line end within those of all keys
-within : (g : Graph) (key n : ℕ) → key < n → (startOf g (key + 1) ≤ startOf g n) × (linesLength g (key + 1) ≤ linesLength g n)
+within : (g : Graph) (key n : ℕ) → key < n → (startOf (g .sizes) (key + 1) ≤ startOf (g .sizes) n) × (linesLength g (key + 1) ≤ linesLength g n)
 unfolding startOf linesLength
 within g key n l = (sum-le (λ i. numbersOf g i) (key + 1) n (omega arith), sum-le (λ i. length (decimal i) + 17 * numbersOf g i + 1) (key + 1) n (omega arith))
 
-begins : (g : Graph) (key from n : ℕ) → from ≡ startOf g key → n ≡ numbersOf g key → from + n ≡ startOf g (key + 1)
-begins g key from n ef en = rw (ef, en) (sym (start-more g key))
+begins : (g : Graph) (key from n : ℕ) → from ≡ startOf (g .sizes) key → n ≡ numbersOf g key → from + n ≡ startOf (g .sizes) (key + 1)
+begins g key from n ef en = rw (ef, en) (sym (start-more (g .sizes) key))
 
-grown : (g : Graph) (values : List Float) (key from n : ℕ) → from ≡ startOf g key → n ≡ numbersOf g key → linesText g values key ++ lineText key values from n ≡ linesText g values (key + 1)
+grown : (g : Graph) (values : List Float) (key from n : ℕ) → from ≡ startOf (g .sizes) key → n ≡ numbersOf g key → linesText g values key ++ lineText key values from n ≡ linesText g values (key + 1)
 grown g values key from n ef en = rw (ef, en) (sym (lines-more g values key))
 
 done : (g : Graph) (values : List Float) (out₀ out : List ℕ) (next key n : ℕ) → key ≡ n → Puts out₀ out 0 next (linesText g values key) → out ≡ lay out₀ 0 (linesText g values n)
@@ -49,13 +51,13 @@ put-line-requires c κs =
     let args = c .before .before .before .before .before .before .args in
     let loop = c .before .before .before .loop in (
       omega (arith, within (args .g) (loop .key) (args .g .variables) (omega arith) .1, length-more (args .g) (loop .key), c .before .numbers-of .ensures .0, loop .inv .4 .1, lines-long (args .g) (args .values .now) (loop .key), c .before .before .before .before .before .before .pre .2),
-      omega (arith, within (args .g) (loop .key) (args .g .variables) (omega arith) .0, start-more (args .g) (loop .key), c .before .numbers-of .ensures .0, c .before .before .before .before .before .before .pre .1),
+      omega (arith, within (args .g) (loop .key) (args .g .variables) (omega arith) .0, start-more (args .g .sizes) (loop .key), c .before .numbers-of .ensures .0, c .before .before .before .before .before .before .pre .1),
     )
 
 add-from : tie.Need-add-from Inv-loop μ-loop
 add-from c =
     let args = c .before .before .before .before .before .before .before .before .before .args in
-    omega (arith, within (args .g) (c .before .before .before .before .before .before .loop .key) (args .g .variables) (omega arith) .0, start-more (args .g) (c .before .before .before .before .before .before .loop .key), c .before .before .before .before .numbers-of .ensures .0, c .before .before .before .before .before .before .before .before .before .pre .1)
+    omega (arith, within (args .g) (c .before .before .before .before .before .before .loop .key) (args .g .variables) (omega arith) .0, start-more (args .g .sizes) (c .before .before .before .before .before .before .loop .key), c .before .before .before .before .numbers-of .ensures .0, c .before .before .before .before .before .before .before .before .before .pre .1)
 
 add-key : tie.Need-add-key Inv-loop μ-loop
 add-key c = search needs

@@ -2,7 +2,7 @@
 use mathlib.Core.Path.{_≡_}
 use Prim.Native.Nat.{_*_, _-_, _≤_}
 use Rattle.factor.specs.Limits.{max-variables}
-use Rattle.marginals.specs.Asked.{placeOf}
+use Rattle.graph.specs.Moments.{startOf}
 use Rattle.solver.proofs.Stages.{square, no-place, place-next, numbers-told}
 use native.Mathlib.Omega.{arith}
 use borrow.Author.Needs.{needs}
@@ -10,7 +10,7 @@ use Rattle.solver.proofs.run.marginal_numbers.Statement.{statement}
 use Rattle.solver.proofs.run.marginal_numbers.Tie as tie
 
 abbrev Inv-loop : tie.InvT-loop
-Inv-loop sizes sum₀ key₀ sum key = (key ≤ max-variables) × (sum ≡ placeOf sizes key) × (sum ≤ 65280 * key)
+Inv-loop sizes sum₀ key₀ sum key = (key ≤ max-variables) × (sum ≡ startOf sizes key) × (sum ≤ 65280 * key)
 
 abbrev μ-loop : tie.MeasureT-loop
 μ-loop sizes sum₀ key₀ sum key = max-variables - key
