@@ -9,7 +9,7 @@ use lib.Ieee.{Float}
 use lib.ListN.{length, getD, take, drop, length-take}
 use lib.Seq.{take-at, drop-drop, getD-take}
 use lib.Dec.{leb}
-use borrow.Author.Tests.{leb-true, le-leb, lt-leb}
+use borrow.Author.Tests.{leb-true, le-leb}
 use Rattle.matrix.specs.Views.{part, splice}
 use Rattle.factor.specs.Limits.{max-variables}
 use Rattle.workspace.specs.Frames.{work-numbers}
@@ -30,7 +30,6 @@ use Rattle.plan.specs.declared.pass.Pass.{Pass}
 use Rattle.plan.proofs.Unions.{at-msg}
 use Rattle.plan.specs.Gather.{gatheredOf}
 use Rattle.plan.specs.Plan.{planOf, noGathered, Bounded}
-use Rattle.slots.specs.Tables.{numbersOf}
 use Rattle.tables.specs.Originals.{Originals}
 use Rattle.lists.specs.Lists.{messageNumber, backward-shift}
 use Rattle.plan.specs.declared.gather.Gathered as arrays
@@ -43,7 +42,7 @@ use Rattle.messages.specs.Values.{values, none, stopped, stopFrom, finished, ov
 use Rattle.messages.specs.Figure.{rowsAt, widthAt, needTo, need}
 use Rattle.messages.proofs.Members.{at-map}
 use Rattle.messages.proofs.Rows.{products}
-use Rattle.messages.proofs.Slots.{message-rows-most, message-kept, message-few, need-rises}
+use Rattle.messages.proofs.Slots.{message-rows-most, message-kept, message-few}
 use Rattle.messages.proofs.Reading.{values-length}
 use Rattle.messages.proofs.Carrying.{stored-stays}
 use Rattle.messages.specs.Tables.{Carriable, AllStored, Tables, PlacedTo, Before, keys-length, heads-length, firstKey}
