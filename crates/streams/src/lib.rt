@@ -92,7 +92,8 @@ fn fill(room: &mut [u8], n: usize) -> usize
 
 // The next text on standard input that stands behind the count of its bytes, which takes two bytes, the lower one first. The answer is
 // that count, or COUNTED where no whole text follows.
-pub fn read_counted(room: &mut [u8; COUNTED]) -> usize
+pub fn read_counted(room: &mut [u8]) -> usize
+    requires { ⌜ 65536 ≤ length (now room) ⌝ }
     ensures { λ r. ⌜ r ≤ 65536 ⌝ }
 {
     let mut head = [0u8; 2];
