@@ -7,4 +7,4 @@ pub mod Stages
 pub mod Refused
 pub mod Figures
 pub mod Telling
-pub mod Lengths
+pub mod StoreLengths

@@ -207,8 +207,8 @@ module _ (g : Graph) (p : Plan) (pl : Planned g p (planOf (g .variables) p)) whe
     module _ (factors messages : List Float) (work marginals : ℕ) (enough : Enough g (places .figure) (length factors) (length messages) work marginals) where
       -- the forward messages end at half
       pub forward-ends : (after : List Float) → AllStored g factors (messagesOf (p .forward)) 0 after
-          → (places .half ≡ 0 + length (finished (values g factors (messagesOf (p .forward))))) × (0 + length (finished (values g factors (messagesOf (p .forward)))) ≤ length messages)
-      forward-ends after fw = (omega (arith, half-is, fw .long), omega (arith, half-is, figure-is, fw .long, enough .of-messages))
+          → places .half ≡ 0 + length (finished (values g factors (messagesOf (p .forward))))
+      forward-ends after fw = omega (arith, half-is, fw .long)
 
       -- the forward messages stand where they stood
       pub forward-stays : (after : List Float) → after ≡ lay messages (places .half) (finished (values g factors (messagesOf (p .backward)))) → AllStored g factors (messagesOf (p .forward)) 0 messages
@@ -271,7 +271,7 @@ module _ (g : Graph) (q : lists.Plan) (figure : ℕ) (factors messages marginals
 
   -- the forward pass is through
   module _ (half : ℕ) (r₁ r₂ : Carried) (after₁ after₂ : List Float) (et₁ : stopOf r₁ ≡ stopFrom 0 fw) (et₂ : stopOf r₂ ≡ stopFrom 0 bw) (er₁ : r₁ ≡ Through)
-      (ea₁ : after₁ ≡ lay messages 0 (finished fw)) (ea₂ : after₂ ≡ lay after₁ half (finished bw)) (eh : half ≡ 0 + length (finished fw)) (room : 0 + length (finished fw) ≤ length messages) where
+      (ea₁ : after₁ ≡ lay messages 0 (finished fw)) (ea₂ : after₂ ≡ lay after₁ half (finished bw)) (eh : half ≡ 0 + length (finished fw)) where
     through : stopFrom 0 fw ≡ none
     through = sym et₁ ∙ ap stopOf er₁
 

@@ -89,7 +89,7 @@ returns-2 c =
     let ends = forward-ends (args .g) (args .p) (pre .0 .0) (args .places) (args .keys .now) (args .heads .now) (pre .0 .1) (args .factors .now) (args .messages .now) _ _ (pre .1) _ (carried .ensures .1 .1 .0 through) in
     rw (c .refused2 .ensures)
     (second-refused (args .g) (planOf (args .g .variables) (args .p)) (args .places .figure) (args .factors .now) (args .messages .now) (args .marginals .now) (args .places .half) _ _ _ _ (carried .ensures .0) (carried2 .ensures .0) through
-    (carried .ensures .1 .0) (carried2 .ensures .1 .0) (ends .0) (ends .1) _ _ _ (c .before .before .before .j2 .given .1) (c .before .step-of2 .ensures))
+    (carried .ensures .1 .0) (carried2 .ensures .1 .0) ends _ _ _ (c .before .before .before .j2 .given .1) (c .before .step-of2 .ensures))
 
 third-stage-requires : tie.Need-third-stage-requires
 third-stage-requires c κs =
@@ -130,7 +130,7 @@ returns-3 c =
     let bw = carried2 .ensures .1 .1 .0 through2 in
     let ends = forward-ends (args .g) (args .p) (pre .0 .0) (args .places) (args .keys .now) (args .heads .now) (pre .0 .1) (args .factors .now) (args .messages .now) _ _ (pre .1) _ fw in
     third-told (args .g) (planOf (args .g .variables) (args .p)) (args .places .figure) (args .factors .now) (args .messages .now) (args .marginals .now) (args .places .half) _ _ _ _ (carried .ensures .0) (carried2 .ensures .0) through
-    (carried .ensures .1 .0) (carried2 .ensures .1 .0) (ends .0) (ends .1) _ _ through2
+    (carried .ensures .1 .0) (carried2 .ensures .1 .0) ends _ _ through2
     (c .before .before .before .before .third-stage .ensures _
     (gatherable (args .g) (args .p) (pre .0 .0) (args .places) (args .keys .now) (args .heads .now) (pre .0 .1) (args .factors .now) _ _ (length (args .marginals .now)) (enough-later enough (kept2 .0) (kept2 .1 .0))
     (forward-stays (args .g) (args .p) (pre .0 .0) (args .places) (args .keys .now) (args .heads .now) (pre .0 .1) (args .factors .now) _ _ (length (args .marginals .now)) enough _ (carried2 .ensures .1 .0) fw bw) bw))
