@@ -1,5 +1,5 @@
--- What four definitions of the schedule mean, in a law or two each. The other files cite these laws, and look at the text of the
--- definitions nowhere else.
+-- What four definitions of the schedule mean, in a few laws each. The other proofs of this crate cite these laws, and look at the text of
+-- the definitions nowhere else.
 -- Assumes nothing.
 use mathlib.Core.Path.{_≡_, refl}
 use mathlib.Core.Logic.{_≢_}
