@@ -29,7 +29,8 @@ pub record Holds (v : View) (n : ℕ) (s t : List Float) (j : ℕ) : Type 0 wher
   pub given : (i c : ℕ) → i < n → c < n → (j ≤ c) ⊎ (i < c) → entry t v i c ≡ entry s v i c
 
 -- the rest at (i, j) reads rows i and j left of column j alone
-rest-same : (s t u : List Float) (v : View) (i j : ℕ) → ((k : ℕ) → k < j → entry u v i k ≡ entry t v i k) → ((k : ℕ) → k < j → entry u v j k ≡ entry t v j k) → rest s u v i j ≡ rest s t v i j
+rest-same : (s t u : List Float) (v : View) (i j : ℕ) → ((k : ℕ) → k < j → entry u v i k ≡ entry t v i k)
+    → ((k : ℕ) → k < j → entry u v j k ≡ entry t v j k) → rest s u v i j ≡ rest s t v i j
 unfolding rest deductOf
 rest-same s t u v i j hi hj =
     deduct-same (entry s v i j) (λ k. terms u v i u (flip v) j (0 + k)) (λ k. terms t v i t (flip v) j (0 + k)) j
@@ -43,26 +44,32 @@ never t u e = let z : _≡_ {A = ℕ} 0 1 = cc in omega arith
 
 module _ (v : View) (n : ℕ) (s : List Float) (ap′ : Apart v n n) (inside : Inside v n n (length s)) where
   -- a column's stores touch no entry outside it, nor one above its pivot, nor one past the rows that are done
-  kept : (t : List Float) (r : Float) (j d : ℕ) → j + d < n → (a b : ℕ) → a < n → b < n → (b ≡ j → (a < j) ⊎ (j + d < a)) → entry (below v j (set t (place v j j) r) d) v a b ≡ entry t v a b
+  kept : (t : List Float) (r : Float) (j d : ℕ) → j + d < n → (a b : ℕ) → a < n → b < n → (b ≡ j → (a < j) ⊎ (j + d < a))
+      → entry (below v j (set t (place v j j) r) d) v a b ≡ entry t v a b
   unfolding below
   kept t r j d h a b ha hb out =
       steps-other _ _ (set t (place v j j) r) (place v a b) d
-      (λ k p e. let q : (j + suc k ≡ a) × (j ≡ b) = ap′ (j + suc k) j a b (omega arith) (omega arith) ha hb e in ⊎-elim (λ z. omega arith) (λ z. omega arith) (out (sym (q .1))))
+      (λ k p e. let q : (j + suc k ≡ a) × (j ≡ b) = ap′ (j + suc k) j a b (omega arith) (omega arith) ha hb e in ⊎-elim (λ z. omega arith)
+      (λ z. omega arith) (out (sym (q .1))))
       ∙ getD-set-other t (place v j j) (place v a b) r nan
       (λ e. let q : (a ≡ j) × (b ≡ j) = ap′ a b j j ha hb (omega arith) (omega arith) e in ⊎-elim (λ z. omega arith) (λ z. omega arith) (out (q .1)))
 
   pivot-at : (t : List Float) (r : Float) (j d : ℕ) → length t ≡ length s → j + d < n → entry (below v j (set t (place v j j) r) d) v j j ≡ r
   unfolding below
   pivot-at t r j d e h =
-      steps-other _ _ (set t (place v j j) r) (place v j j) d (λ k p q. let z : (j + suc k ≡ j) × (j ≡ j) = ap′ (j + suc k) j j j (omega arith) (omega arith) (omega arith) (omega arith) q in omega arith)
+      steps-other _ _ (set t (place v j j) r) (place v j j) d (λ k p q. let z : (j + suc k ≡ j) × (j ≡ j) = ap′ (j + suc k) j j j (omega arith)
+      (omega arith) (omega arith) (omega arith) q in omega arith)
       ∙ getD-set-same t (place v j j) r nan (rw e (inside j j (omega arith) (omega arith)))
 
   -- what is taken the root of, and what is divided, is the rest
-  reduced-is : (t u : List Float) (j d i : ℕ) (r : Float) → Holds v n s t j → j + d < n → i < n → u ≡ below v j (set t (place v j j) r) d → j + d < i → reduced u v i j ≡ rest s t v i j
+  reduced-is : (t u : List Float) (j d i : ℕ) (r : Float) → Holds v n s t j → j + d < n → i < n → u ≡ below v j (set t (place v j j) r) d → j + d < i
+      → reduced u v i j ≡ rest s t v i j
   unfolding rest reduced
   reduced-is t u j d i r H h hi eu ji =
-      let k : (a b : ℕ) → a < n → b < j → entry u v a b ≡ entry t v a b = λ a b ha hb. rw eu (kept t r j d h a b ha (omega arith) (λ e. absurd (omega arith))) in
-      let g : entry u v i j ≡ entry s v i j = rw eu (kept t r j d h i j hi (omega arith) (λ e. inr (omega arith))) ∙ H .given i j hi (omega arith) (inl (omega arith)) in
+      let k : (a b : ℕ) → a < n → b < j → entry u v a b ≡ entry t v a b = λ a b ha hb. rw eu
+      (kept t r j d h a b ha (omega arith) (λ e. absurd (omega arith))) in
+      let g : entry u v i j ≡ entry s v i j = rw eu (kept t r j d h i j hi (omega arith) (λ e. inr (omega arith)))
+      ∙ H .given i j hi (omega arith) (inl (omega arith)) in
       ap (λ (x : Float). deductOf x u v i u (flip v) j 0 j) g ∙ rest-same s t u v i j (λ a p. k i a hi p) (λ a p. k j a (omega arith) p)
 
   stored : (t : List Float) (r : Float) (j d : ℕ) → Holds v n s t j → j + suc d < n
@@ -78,13 +85,15 @@ module _ (v : View) (n : ℕ) (s : List Float) (ap′ : Apart v n n) (inside : I
       → entry (below v j (set t (place v j j) r) (n - suc j)) v (j + suc d) j ≡ div binary64 (rest s t v (j + suc d) j) r
   under-row t r j d H h =
       stored t r j d H h
-      ∙ ap₂ (div binary64) (reduced-is t (below v j (set t (place v j j) r) d) j d (j + suc d) r H (omega arith) h refl (omega arith)) (pivot-at t r j d (H .long) (omega arith))
+      ∙ ap₂ (div binary64) (reduced-is t (below v j (set t (place v j j) r) d) j d (j + suc d) r H (omega arith) h refl (omega arith))
+      (pivot-at t r j d (H .long) (omega arith))
 
   under-at : (t : List Float) (r : Float) (j i : ℕ) → Holds v n s t j → j < i → i < n
       → entry (below v j (set t (place v j j) r) (n - suc j)) v i j ≡ div binary64 (rest s t v i j) r
   under-at t r j i H ji hi =
       let e : j + suc (i - suc j) ≡ i = omega arith in
-      subst (λ (k : ℕ). entry (below v j (set t (place v j j) r) (n - suc j)) v k j ≡ div binary64 (rest s t v k j) r) e (under-row t r j (i - suc j) H (omega arith))
+      subst (λ (k : ℕ). entry (below v j (set t (place v j j) r) (n - suc j)) v k j ≡ div binary64 (rest s t v k j) r) e
+      (under-row t r j (i - suc j) H (omega arith))
 
   module _ (t : List Float) (r : Float) (j : ℕ) (hj : j < n) (H : Holds v n s t j) (er : pivotOf (reduced t v j j) (entry t v j j) ≡ Root r) where
     next : List Float
@@ -137,7 +146,8 @@ module _ (v : View) (n : ℕ) (s : List Float) (ap′ : Apart v n n) (inside : I
         }
 
   -- the theorem: where no pivot is refused, the end holds Golub and Van Loan's equations
-  rooted-holds : (t u : List Float) (j : ℕ) → j < n → Holds v n s t j → (x : Pivot) → pivotOf (reduced t v j j) (entry t v j j) ≡ x → rooted v j t (n - suc j) x ≡ whole u → Holds v n s u (suc j)
+  rooted-holds : (t u : List Float) (j : ℕ) → j < n → Holds v n s t j → (x : Pivot) → pivotOf (reduced t v j j) (entry t v j j) ≡ x
+      → rooted v j t (n - suc j) x ≡ whole u → Holds v n s u (suc j)
   unfolding rooted next
   rooted-holds t u j hj H (Root r) e g =
       let w : below v j (set t (place v j j) r) (n - suc j) ≡ u = cc in
@@ -148,9 +158,16 @@ module _ (v : View) (n : ℕ) (s : List Float) (ap′ : Apart v n n) (inside : I
   unfolding factor column
   factor-holds zero h u e =
       let w : s ≡ u = cc in
-      subst (λ (y : List Float). Holds v n s y 0) w (record { long = refl; pivot = λ c p q. absurd (omega arith); under = λ i c p q l. absurd (omega arith); given = λ i c p q o. refl })
+      subst (λ (y : List Float). Holds v n s y 0) w (record {
+        long = refl;
+        pivot = λ c p q. absurd (omega arith);
+        under = λ i c p q l. absurd
+            (omega arith);
+        given = λ i c p q o. refl;
+      })
   factor-holds (suc j) h u e = go (factor v n s j) refl e (factor-holds j (omega arith))
     where
-      go : (F : Left) → factor v n s j ≡ F → column v j (n - suc j) F ≡ whole u → ((w : List Float) → factor v n s j ≡ whole w → Holds v n s w j) → Holds v n s u (suc j)
+      go : (F : Left) → factor v n s j ≡ F → column v j (n - suc j) F ≡ whole u → ((w : List Float) → factor v n s j ≡ whole w → Holds v n s w j)
+          → Holds v n s u (suc j)
       go (whole t) f g ih = rooted-holds t u j (omega arith) (ih t f) (pivotOf (reduced t v j j) (entry t v j j)) refl g
       go (stuck t) f g ih = absurd (never t u g)

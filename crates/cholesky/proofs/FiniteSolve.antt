@@ -82,18 +82,31 @@ unfolding fits
 grid t zero e h = record { j = 0; few = pow-pos 53; fine = pow-pos (1074 + 1024); same = nothing (up e) (2 ^ 1074) (down e) }
 grid t (suc m) (pos k) h =
     let p = parts (eqb (suc m % 2) 1) (ltb (suc m) (2 ^ 53)) (leb 1 (2 ^ 1074)) (ltb (suc m * 2 ^ k) (2 ^ 1024 * 1)) h in
-    record { j = k + 1074; few = ltb→lt (suc m) (2 ^ 53) (p .0); fine = up-fine (suc m) k 1074 1024 (ltb→lt (suc m * 2 ^ k) (2 ^ 1024 * 1) (p .2)); same = up-same (suc m) k 1074 }
+    record {
+      j = k + 1074;
+      few = ltb→lt (suc m) (2 ^ 53) (p .0);
+      fine = up-fine (suc m) k 1074 1024 (ltb→lt (suc m * 2 ^ k) (2 ^ 1024 * 1) (p .2));
+      same = up-same (suc m) k 1074;
+    }
 grid t (suc m) (negsuc k) h =
     let p = parts (eqb (suc m % 2) 1) (ltb (suc m) (2 ^ 53)) (leb (2 ^ suc k) (2 ^ 1074)) (ltb (suc m * 1) (2 ^ 1024 * 2 ^ suc k)) h in
     let few : suc m < 2 ^ 53 = ltb→lt (suc m) (2 ^ 53) (p .0) in
-    record { j = 1074 - suc k; few = few; fine = down-fine (suc m) (suc k) 1074 1024 few (omega arith); same = down-same (suc m) (suc k) 1074 (exponents (suc k) 1074 (leb→le (2 ^ suc k) (2 ^ 1074) (p .1))) }
+    record {
+      j = 1074 - suc k;
+      few = few;
+      fine = down-fine (suc m) (suc k) 1074 1024 few (omega arith);
+      same = down-same (suc m) (suc k) 1074
+          (exponents (suc k) 1074 (leb→le (2 ^ suc k) (2 ^ 1074) (p .1)));
+    }
 
 -- so a fraction that is such a number, over any denominator, is not rounded to an infinity
-rounds : (s t : Bool) (m : ℕ) (e : ℤ) → T (fits binary64 (fin t m e)) → (num den d : ℕ) → 0 < d → num ≡ m * up e * d → den ≡ down e * d → isFinite (round binary64 s num den) ≡ true
+rounds : (s t : Bool) (m : ℕ) (e : ℤ) → T (fits binary64 (fin t m e)) → (num den d : ℕ) → 0 < d → num ≡ m * up e * d → den ≡ down e * d
+    → isFinite (round binary64 s num den) ≡ true
 rounds s t m e h num den d p en ed =
     let g = grid t m e h in
     valued (round binary64 s num den) s num den
-    (round-exact binary64 s num den m (g .j) (subst (λ (z : ℕ). 0 < z) (sym ed) (mul-pos (down-pos e) p)) (g .few) (g .fine) (go (m * up e) (m * 2 ^ g .j) (down e) (2 ^ 1074) (g .same) en ed))
+    (round-exact binary64 s num den m (g .j) (subst (λ (z : ℕ). 0 < z) (sym ed) (mul-pos (down-pos e) p)) (g .few) (g .fine)
+    (go (m * up e) (m * 2 ^ g .j) (down e) (2 ^ 1074) (g .same) en ed))
   where
     go : (a b c w : ℕ) → a * w ≡ b * c → num ≡ a * d → den ≡ c * d → num * w ≡ b * den
     go a b c w e₁ e₂ e₃ = rw (e₂, e₃) (omega (arith, ap (λ (z : ℕ). z * d) e₁))
@@ -136,7 +149,8 @@ cond-finite : (b : Bool) (x y : Float) → isFinite x ≡ true → isFinite y �
 cond-finite true x y p q = p
 cond-finite false x y p q = q
 
-sums : (s t : Bool) (m : ℕ) (e : ℤ) → T (fits binary64 (fin s m e)) → (a b c d : ℕ) → 0 < d → a ≡ m * up e * d → b ≡ 0 → c ≡ down e * d → isFinite (sum binary64 s a t b c) ≡ true
+sums : (s t : Bool) (m : ℕ) (e : ℤ) → T (fits binary64 (fin s m e)) → (a b c d : ℕ) → 0 < d → a ≡ m * up e * d → b ≡ 0 → c ≡ down e * d
+    → isFinite (sum binary64 s a t b c) ≡ true
 unfolding sum fits
 sums s t m e h a b c d p ea eb ec =
     cond-finite (Bool·beq s t) (round binary64 s (a + b) c) (cond (ltb a b) (round binary64 t (b - a) c) (round binary64 (s && ltb b a) (a - b) c))
@@ -151,7 +165,8 @@ less-null nan z h n = h .1
 less-null (inf s) z h n = absurd (never (h .1))
 less-null (fin s m e) nan h n = absurd n
 less-null (fin s m e) (inf t) h n = absurd n
-less-null (fin s m e) (fin t z d) h n = sums s (not t) m e (h .0) (m * up e * down d) (z * up d * down e) (down e * down d) (down d) (down-pos d) refl (go (up d) (down e)) refl
+less-null (fin s m e) (fin t z d) h n = sums s (not t) m e (h .0) (m * up e * down d) (z * up d * down e) (down e * down d) (down d) (down-pos d) refl
+    (go (up d) (down e)) refl
   where
     go : (u w : ℕ) → z * u * w ≡ 0
     go u w = rw n (omega arith)
@@ -183,7 +198,8 @@ plain-set s p x A h k l = go (ℕ-discrete k p)
     go (yes e) = rw (e, getD-set-same s p x nan (rw (length-set, e) at l)) h
     go (no e) = rw (getD-set-other s p k x nan e) (A k (rw length-set at l))
 
-plain-steps : (at : ℕ → ℕ) (f : ℕ → List Float → Float) (s : List Float) (n : ℕ) → ((i : ℕ) → i < n → (t : List Float) → length t ≡ length s → AllPlain t → Plain (f i t)) → AllPlain s → AllPlain (steps at f s n)
+plain-steps : (at : ℕ → ℕ) (f : ℕ → List Float → Float) (s : List Float) (n : ℕ)
+    → ((i : ℕ) → i < n → (t : List Float) → length t ≡ length s → AllPlain t → Plain (f i t)) → AllPlain s → AllPlain (steps at f s n)
 unfolding steps
 plain-steps at f s zero h A = A
 plain-steps at f s (suc n) h A =
@@ -191,17 +207,20 @@ plain-steps at f s (suc n) h A =
     plain-set (steps at f s n) (at n) (f n (steps at f s n)) B (h n (omega arith) (steps at f s n) (steps-length at f s n) B)
 
 module _ (l : List Float) (lv : View) (n : ℕ) (I : Identity lv n l) (xv : View) (c : ℕ) where
-  row-plain : (x : List Float) → ((i : ℕ) → i < n → place xv i c < length x) → AllPlain x → (i lo m : ℕ) → i < n → lo + m ≤ n → ((k : ℕ) → k < m → i ≡ lo + k → ⊥) → Plain (solvedRow l lv i x xv c lo m)
+  row-plain : (x : List Float) → ((i : ℕ) → i < n → place xv i c < length x) → AllPlain x → (i lo m : ℕ) → i < n → lo + m ≤ n
+      → ((k : ℕ) → k < m → i ≡ lo + k → ⊥) → Plain (solvedRow l lv i x xv c lo m)
   unfolding solvedRow deductOf Identity AllPlain Plain
   row-plain x inside A i lo m hi hm off =
       let y = takes-off (entry x xv i c) (λ k. terms l lv i x xv c (lo + k)) m (A (place xv i c) (inside i hi))
-      (λ k h. rw (I i (lo + k) hi (omega arith) ∙ unit-other i (lo + k) (off k h)) (zero-times (entry x xv (lo + k) c) (A (place xv (lo + k) c) (inside (lo + k) (omega arith))))) in
+      (λ k h. rw (I i (lo + k) hi (omega arith) ∙ unit-other i (lo + k) (off k h))
+      (zero-times (entry x xv (lo + k) c) (A (place xv (lo + k) c) (inside (lo + k) (omega arith))))) in
       (div-fits binary64 _ _, rw (I i i hi hi ∙ unit-same i) (by-one _ y))
 
   lower-plain : (x : List Float) → ((i : ℕ) → i < n → place xv i c < length x) → AllPlain x → AllPlain (solveLower l lv xv c x n)
   unfolding solveLower
   lower-plain x inside A =
-      plain-steps (λ i. place xv i c) (λ i t. solvedRow l lv i t xv c 0 i) x n (λ i h t e B. row-plain t (λ k p. rw e (inside k p)) B i 0 i h (omega arith) (λ k p q. omega arith)) A
+      plain-steps (λ i. place xv i c) (λ i t. solvedRow l lv i t xv c 0 i) x n
+      (λ i h t e B. row-plain t (λ k p. rw e (inside k p)) B i 0 i h (omega arith) (λ k p q. omega arith)) A
 
   upper-plain : (x : List Float) → ((i : ℕ) → i < n → place xv i c < length x) → AllPlain x → AllPlain (solveUpper l lv n xv c x n)
   unfolding solveUpper
@@ -210,7 +229,8 @@ module _ (l : List Float) (lv : View) (n : ℕ) (I : Identity lv n l) (xv : View
       (λ d h t e B. row-plain t (λ k p. rw e (inside k p)) B (n - (d + 1)) (n - (d + 1) + 1) d (omega arith) (omega arith) (λ k p q. omega arith)) A
 
 -- the law: with an identity for its factor, a solve of finite numbers has finite numbers
-pub solve-plain : (l : List Float) (lv : View) (n : ℕ) → Identity lv n l → (xv : View) (c : ℕ) (x : List Float) → ((i : ℕ) → i < n → place xv i c < length x) → AllPlain x → AllPlain (solved l lv n xv c x)
+pub solve-plain : (l : List Float) (lv : View) (n : ℕ) → Identity lv n l → (xv : View) (c : ℕ) (x : List Float)
+    → ((i : ℕ) → i < n → place xv i c < length x) → AllPlain x → AllPlain (solved l lv n xv c x)
 unfolding solved solveLower
 solve-plain l lv n I xv c x inside A =
     upper-plain l (flip lv) n (turned lv n l I) xv c (solveLower l lv xv c x n)

@@ -24,7 +24,8 @@ use Rattle.cholesky.proofs.Identity.{identity-factor, identity-solve, i
 
 module _ (n : ℕ) (x : List Float) where
   whole-by : (F : Left) → answerOf F ≡ factored.Done
-      → exchangedBy n x F ≡ bounded (solved (listOf F) (columns n) n (columns n) 0 x) (inverted (listOf F) (columns n) n (columns n) (replicate (n * n) plus-zero) n)
+      → exchangedBy n x F ≡ bounded (solved (listOf F) (columns n) n (columns n) 0 x)
+      (inverted (listOf F) (columns n) n (columns n) (replicate (n * n) plus-zero) n)
   unfolding exchangedBy
   whole-by (whole l) e = refl
   whole-by (stuck l) e = cc
@@ -81,7 +82,8 @@ module _ (n : ℕ) (x y z : List Float) where
 
   by-long : (F : Left) → exchangedBy n x F ≡ form y z → (length y ≡ length x) × (length z ≡ n * n)
   unfolding exchangedBy
-  by-long (whole l) e = bounded-long _ _ (solved-length l (columns n) n (columns n) 0 x) (inverted-length l (columns n) n (columns n) (replicate (n * n) plus-zero) n ∙ length-replicate (n * n) plus-zero) e
+  by-long (whole l) e = bounded-long _ _ (solved-length l (columns n) n (columns n) 0 x)
+      (inverted-length l (columns n) n (columns n) (replicate (n * n) plus-zero) n ∙ length-replicate (n * n) plus-zero) e
   by-long (stuck l) e = absurd (let z : _≡_ {A = ℕ} 0 1 = cc in omega arith)
 
 pub exchanged-long : (n : ℕ) (x m y z : List Float) → exchanged n x m ≡ form y z → (length y ≡ length x) × (length z ≡ n * n)
@@ -93,4 +95,10 @@ exchanged-long n x m y z e = by-long n x y z (factor (columns n) n m n) e
 pub identity-exchanged : (n : ℕ) → exchanged n (replicate n plus-zero) (identityOf n) ≡ form (replicate n plus-zero) (identityOf n)
 unfolding exchanged exchangedBy bounded
 identity-exchanged n =
-    simp (identity-factor n, identity-solve n, identity-inverse n (replicate (n * n) plus-zero) (length-replicate (n * n) plus-zero), zeros-finite n, identity-finite n)
+    simp (
+      identity-factor n,
+      identity-solve n,
+      identity-inverse n (replicate (n * n) plus-zero) (length-replicate (n * n) plus-zero),
+      zeros-finite n,
+      identity-finite n,
+    )

@@ -100,7 +100,8 @@ module _ (v : View) (n : ℕ) (s : List Float) (I : Identity v n s) where
   reduced-is i j p q =
       rw (I i j q (omega arith))
       (nothing-off (unit i j) (λ k. terms s v i s (flip v) j (0 + k)) j (unit-bit i j)
-      (λ k h. ap₂ (mul binary64) (I i (0 + k) q (omega arith) ∙ unit-other i (0 + k) (λ e. omega arith)) (flipped (0 + k) j (omega arith) (omega arith) ∙ unit-other j (0 + k) (λ e. omega arith)) ∙ zero-times plus-zero zero-bit))
+      (λ k h. ap₂ (mul binary64) (I i (0 + k) q (omega arith) ∙ unit-other i (0 + k) (λ e. omega arith))
+      (flipped (0 + k) j (omega arith) (omega arith) ∙ unit-other j (0 + k) (λ e. omega arith)) ∙ zero-times plus-zero zero-bit))
 
   below-is : (j d : ℕ) → j + d < n → below v j s d ≡ s
   unfolding below Identity
@@ -144,7 +145,8 @@ module _ (l : List Float) (lv : View) (n : ℕ) (I : Identity lv n l) (x : List 
   row-is i lo m hi hm off =
       ap₂ (div binary64)
       (nothing-off (entry x xv i c) (λ k. terms l lv i x xv c (lo + k)) m (bits i hi)
-      (λ k h. ap (λ (y : Float). mul binary64 y (entry x xv (lo + k) c)) (I i (lo + k) hi (omega arith) ∙ unit-other i (lo + k) (off k h)) ∙ zero-times (entry x xv (lo + k) c) (bits (lo + k) (omega arith))))
+      (λ k h. ap (λ (y : Float). mul binary64 y (entry x xv (lo + k) c)) (I i (lo + k) hi (omega arith) ∙ unit-other i (lo + k) (off k h))
+      ∙ zero-times (entry x xv (lo + k) c) (bits (lo + k) (omega arith))))
       (I i i hi hi ∙ unit-same i)
       ∙ by-one (entry x xv i c) (bits i hi)
 
@@ -158,7 +160,8 @@ module _ (l : List Float) (lv : View) (n : ℕ) (I : Identity lv n l) (x : List 
       idle (λ d. place xv (n - (d + 1)) c) (λ d t. solvedRow l lv (n - (d + 1)) t xv c (n - (d + 1) + 1) d) x n
       (λ d h. row-is (n - (d + 1)) (n - (d + 1) + 1) d (omega arith) (omega arith) (λ k p e. omega arith))
 
-pub solved-is : (l : List Float) (lv : View) (n : ℕ) → Identity lv n l → (x : List Float) (xv : View) (c : ℕ) → ((i : ℕ) → i < n → Bit (entry x xv i c)) → solved l lv n xv c x ≡ x
+pub solved-is : (l : List Float) (lv : View) (n : ℕ) → Identity lv n l → (x : List Float) (xv : View) (c : ℕ)
+    → ((i : ℕ) → i < n → Bit (entry x xv i c)) → solved l lv n xv c x ≡ x
 unfolding solved
 solved-is l lv n I x xv c bits = rw (lower-is l lv n I x xv c bits) (upper-is l (flip lv) n (turned lv n l I) x xv c bits)
 
@@ -196,7 +199,8 @@ unit-column-bit : (n m : ℕ) (t : List Float) (i : ℕ) → m < n → i < n →
 unfolding unitColumn unit
 unit-column-bit n m t i hm hi e =
     rw
-    (steps-at (λ i. place (columns n) i m) (λ i u. cond (eqb i m) one plus-zero) t i n (λ j p q z. omega arith) hi (dense n n (length t) (omega arith) i m hi hm))
+    (steps-at (λ i. place (columns n) i m) (λ i u. cond (eqb i m) one plus-zero) t i n (λ j p q z. omega arith) hi
+    (dense n n (length t) (omega arith) i m hi hm))
     (unit-bit i m)
 
 module _ (n : ℕ) (x : List Float) (long : length x ≡ n * n) where
@@ -204,14 +208,18 @@ module _ (n : ℕ) (x : List Float) (long : length x ≡ n * n) where
   columns-are : (m : ℕ) → m ≤ n → inverted (identityOf n) (columns n) n (columns n) x m ≡ block (columns n) n (λ i j old. cond (eqb i j) one plus-zero) x m
   unfolding inverted sweep block
   columns-are zero h = refl
-  columns-are (suc m) h = rw (columns-are m (omega arith)) (last (block (columns n) n (λ i j old. cond (eqb i j) one plus-zero) x m) (block-length (columns n) n (λ i j old. cond (eqb i j) one plus-zero) x m ∙ long))
+  columns-are (suc m) h = rw (columns-are m (omega arith)) (last (block (columns n) n (λ i j old. cond (eqb i j) one plus-zero) x m)
+      (block-length (columns n) n (λ i j old. cond (eqb i j) one plus-zero) x m ∙ long))
     where
-      last : (t : List Float) → length t ≡ n * n → solved (identityOf n) (columns n) n (columns n) m (unitColumn (columns n) m t n) ≡ blockColumn (columns n) (λ i j old. cond (eqb i j) one plus-zero) m t n
-      last t e = solved-is (identityOf n) (columns n) n (identity-is n) (unitColumn (columns n) m t n) (columns n) m (λ i p. unit-column-bit n m t i h p e) ∙ unit-column-is n m t
+      last : (t : List Float) → length t ≡ n * n → solved (identityOf n) (columns n) n (columns n) m (unitColumn (columns n) m t n)
+          ≡ blockColumn (columns n) (λ i j old. cond (eqb i j) one plus-zero) m t n
+      last t e = solved-is (identityOf n) (columns n) n (identity-is n) (unitColumn (columns n) m t n) (columns n) m
+          (λ i p. unit-column-bit n m t i h p e) ∙ unit-column-is n m t
 
   pub identity-inverse : inverted (identityOf n) (columns n) n (columns n) x n ≡ identityOf n
   unfolding identityOf
-  identity-inverse = columns-are n (omega arith) ∙ fills n n (λ i j. cond (eqb i j) one plus-zero) x (replicate (n * n) plus-zero) long (length-replicate (n * n) plus-zero)
+  identity-inverse = columns-are n (omega arith) ∙ fills n n (λ i j. cond (eqb i j) one plus-zero) x (replicate (n * n) plus-zero) long
+      (length-replicate (n * n) plus-zero)
 
 -- ---- all of these numbers are finite
 
@@ -229,4 +237,5 @@ pub zeros-finite : (n : ℕ) → allFinite (replicate n plus-zero) ≡ true
 zeros-finite n = all-finite (replicate n plus-zero) (λ k h. ap isFinite (getD-replicate n k plus-zero nan (omega (arith, length-replicate n plus-zero))))
 
 pub identity-finite : (n : ℕ) → allFinite (identityOf n) ≡ true
-identity-finite n = all-finite (identityOf n) (λ k h. bit-finite (getD (identityOf n) k nan) (rw (← identity-at n k (omega (arith, identity-length n))) at (unit-bit (k % n) (k / n))))
+identity-finite n = all-finite (identityOf n) (λ k h. bit-finite (getD (identityOf n) k nan)
+    (rw (← identity-at n k (omega (arith, identity-length n))) at (unit-bit (k % n) (k / n))))

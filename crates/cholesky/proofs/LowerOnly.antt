@@ -33,7 +33,8 @@ module _ (v : View) (n : ℕ) where
       }
     where
       at : (i j : ℕ) → j ≤ i → i < n → Dec (place v i j ≡ place v a b) → entry (set s (place v a b) x) v i j ≡ entry (set t (place v a b) y) v i j
-      at i j p q (yes h) = rw h (getD-set-same s (place v a b) x nan (A .left-inside a b ha hb) ∙ e ∙ sym (getD-set-same t (place v a b) y nan (A .right-inside a b ha hb)))
+      at i j p q (yes h) = rw h (getD-set-same s (place v a b) x nan (A .left-inside a b ha hb) ∙ e
+          ∙ sym (getD-set-same t (place v a b) y nan (A .right-inside a b ha hb)))
       at i j p q (no h) = getD-set-other s (place v a b) (place v i j) x nan h ∙ A .same i j p q ∙ sym (getD-set-other t (place v a b) (place v i j) y nan h)
 
   alike-reduced : (s t : List Float) (i j : ℕ) → j ≤ i → i < n → Alike v n s t → reduced s v i j ≡ reduced t v i j
@@ -52,8 +53,10 @@ module _ (v : View) (n : ℕ) where
   alike-below s t j (suc d) h A = more (below v j s d) (below v j t d) (alike-below s t j d (omega arith) A)
     where
       more : (a b : List Float) → Alike v n a b
-          → Alike v n (set a (place v (j + suc d) j) (div binary64 (reduced a v (j + suc d) j) (entry a v j j))) (set b (place v (j + suc d) j) (div binary64 (reduced b v (j + suc d) j) (entry b v j j)))
-      more a b B = alike-set a b (j + suc d) j _ _ h (omega arith) (ap₂ (div binary64) (alike-reduced a b (j + suc d) j (omega arith) h B) (B .same j j (omega arith) (omega arith))) B
+          → Alike v n (set a (place v (j + suc d) j) (div binary64 (reduced a v (j + suc d) j) (entry a v j j)))
+          (set b (place v (j + suc d) j) (div binary64 (reduced b v (j + suc d) j) (entry b v j j)))
+      more a b B = alike-set a b (j + suc d) j _ _ h (omega arith) (ap₂ (div binary64) (alike-reduced a b (j + suc d) j (omega arith) h B)
+          (B .same j j (omega arith) (omega arith))) B
 
   -- both are whole, or both are stuck, and the lists are alike
   data Both : Left → Left → Type 0 where
@@ -81,5 +84,6 @@ module _ (v : View) (n : ℕ) where
   both-answer (wholes s t A) = (refl, A)
   both-answer (stucks s t A) = (refl, A)
 
-  pub lower-only : (s t : List Float) → Alike v n s t → (answerOf (factor v n s n) ≡ answerOf (factor v n t n)) × Alike v n (listOf (factor v n s n)) (listOf (factor v n t n))
+  pub lower-only : (s t : List Float) → Alike v n s t → (answerOf (factor v n s n) ≡ answerOf (factor v n t n)) × Alike v n (listOf (factor v n s n))
+      (listOf (factor v n t n))
   lower-only s t A = both-answer (both-factor s t n (omega arith) A)

@@ -13,7 +13,8 @@ use Rattle.matrix.proofs.Agreement.{deduct-same}
 use Rattle.matrix.proofs.Entries.{steps-other}
 
 -- two ways to make the stores agree where they agree on the lists that are met
-pub steps-frame : (at : ℕ → ℕ) (f g : ℕ → List Float → Float) (s : List Float) (n : ℕ) → ((i : ℕ) → i < n → f i (steps at g s i) ≡ g i (steps at g s i)) → steps at f s n ≡ steps at g s n
+pub steps-frame : (at : ℕ → ℕ) (f g : ℕ → List Float → Float) (s : List Float) (n : ℕ)
+    → ((i : ℕ) → i < n → f i (steps at g s i) ≡ g i (steps at g s i)) → steps at f s n ≡ steps at g s n
 unfolding steps
 steps-frame at f g s zero h = refl
 steps-frame at f g s (suc n) h = rw (steps-frame at f g s n (λ i l. h i (omega arith)), h n (omega arith))

@@ -20,7 +20,8 @@ use Rattle.cholesky.specs.declared.Factored.the-variants.{Done, Stopped}
 row : List Float → View → ℕ → ℕ → List Float
 row t v j i = set t (place v i j) (div binary64 (reduced t v i j) (entry t v j j))
 
-row-is : (s t : List Float) (v : View) (j i : ℕ) (x p : Float) → x ≡ reduced s v i j → p ≡ entry s v j j → t ≡ set s (place v i j) (div binary64 x p) → row s v j i ≡ t
+row-is : (s t : List Float) (v : View) (j i : ℕ) (x p : Float) → x ≡ reduced s v i j → p ≡ entry s v j j → t ≡ set s (place v i j) (div binary64 x p)
+    → row s v j i ≡ t
 unfolding row
 row-is s t v j i x p ex ep et = rw (et, ex, ep)
 
@@ -40,7 +41,8 @@ stays v n s t j zero e = rw add-zero e
 stays v n s t j (suc d) e = rw (add-suc, stays v n s t j d e)
 
 -- the first turn of column j: the pivot's root is stored
-pub first-turn : (v : View) (i j : ℕ) (s₀ s t : List Float) (x d r : Float) (q : Pivot) → i ≡ j → s ≡ s₀ → x ≡ reduced s v i j → d ≡ entry s v j j → q ≡ pivotOf x d → q ≡ Root r
+pub first-turn : (v : View) (i j : ℕ) (s₀ s t : List Float) (x d r : Float) (q : Pivot) → i ≡ j → s ≡ s₀ → x ≡ reduced s v i j → d ≡ entry s v j j → q
+    ≡ pivotOf x d → q ≡ Root r
     → t ≡ set s (place v j j) r → column v j (i + 1 - suc j) (whole s₀) ≡ whole t
 unfolding column rooted below steps
 first-turn v i j s₀ s t x d r q ij ss ex ed eq en et =
@@ -49,7 +51,8 @@ first-turn v i j s₀ s t x d r q ij ss ex ed eq en et =
     rw (z, e, et, ss)
 
 -- another turn: entry (i, j) is divided by the pivot
-pub next-turn : (v : View) (i j : ℕ) (s₀ s t : List Float) (x p : Float) → j < i → column v j (i - suc j) (whole s₀) ≡ whole s → x ≡ reduced s v i j → p ≡ entry s v j j
+pub next-turn : (v : View) (i j : ℕ) (s₀ s t : List Float) (x p : Float) → j < i → column v j (i - suc j) (whole s₀) ≡ whole s → x ≡ reduced s v i j
+    → p ≡ entry s v j j
     → t ≡ set s (place v i j) (div binary64 x p) → column v j (i + 1 - suc j) (whole s₀) ≡ whole t
 next-turn v i j s₀ s t x p ji f ex ep et =
     let d : i + 1 - suc j ≡ suc (i - suc j) = omega arith in
@@ -58,7 +61,8 @@ next-turn v i j s₀ s t x p ji f ex ep et =
     rw d (m ∙ ap whole (rw k (row-is s t v j i x p ex ep et)))
 
 -- a refused pivot: what is held then is the end
-pub no-turn : (v : View) (n : ℕ) (e₀ s₀ s : List Float) (i j : ℕ) (x d : Float) (q : Pivot) → j < n → factor v n e₀ j ≡ whole s₀ → i ≡ j → s ≡ s₀ → x ≡ reduced s v i j → d ≡ entry s v j j
+pub no-turn : (v : View) (n : ℕ) (e₀ s₀ s : List Float) (i j : ℕ) (x d : Float) (q : Pivot) → j < n → factor v n e₀ j ≡ whole s₀ → i ≡ j → s ≡ s₀ → x
+    ≡ reduced s v i j → d ≡ entry s v j j
     → q ≡ pivotOf x d → q ≡ Refused → (Stopped ≡ answerOf (factor v n e₀ n)) × (s ≡ listOf (factor v n e₀ n))
 unfolding factor column rooted
 no-turn v n e₀ s₀ s i j x d q jn f ij ss ex ed eq en =
@@ -68,7 +72,8 @@ no-turn v n e₀ s₀ s i j x d q jn f ij ss ex ed eq en =
     rw g (refl, refl)
 
 -- a column is done
-pub column-done : (v : View) (n : ℕ) (e₀ s₀ s : List Float) (i j : ℕ) → i ≡ n → factor v n e₀ j ≡ whole s₀ → column v j (i - suc j) (whole s₀) ≡ whole s → factor v n e₀ (j + 1) ≡ whole s
+pub column-done : (v : View) (n : ℕ) (e₀ s₀ s : List Float) (i j : ℕ) → i ≡ n → factor v n e₀ j ≡ whole s₀ → column v j (i - suc j) (whole s₀)
+    ≡ whole s → factor v n e₀ (j + 1) ≡ whole s
 unfolding factor
 column-done v n e₀ s₀ s i j i-n f g = rw (add-one, f, ← i-n) g
 

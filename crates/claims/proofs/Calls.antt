@@ -1,4 +1,5 @@
--- What the calls answered is what the graph holds: the keys answered are those below the count of variables, each once, the numbers those below the count of factors, and a factor has the keys that its call gave. Assumes nothing.
+-- What the calls answered is what the graph holds: the keys answered are those below the count of variables, each once, the numbers those below the
+-- count of factors, and a factor has the keys that its call gave. Assumes nothing.
 use mathlib.Core.Path.{_≡_, refl, sym, ap, _∙_}
 use mathlib.Core.List.{List, [], _∷_, _++_, List·Memᴰ, List·Memᴰ·head, List·Memᴰ·tail, List·Memᴰ·not-nil}
 use Prim.Native.Nat.{ℕ, suc, _+_, _≤_, _<_}
@@ -44,11 +45,13 @@ keys-of g i l = rw (lt-ltb i (g .count) l)
 
 module _ (g : Graph) (f : Factor) where
   new-keys : g .count < length (g .factors) → keysOf (withFactor g f) (g .count) ≡ take (f .touched) (f .keys)
-  new-keys l = keys-of (withFactor g f) (g .count) (omega arith) ∙ ap (λ (x : Factor). take (x .touched) (x .keys)) (getD-set-same (g .factors) (g .count) f past l)
+  new-keys l = keys-of (withFactor g f) (g .count) (omega arith)
+      ∙ ap (λ (x : Factor). take (x .touched) (x .keys)) (getD-set-same (g .factors) (g .count) f past l)
 
   old-keys : (i : ℕ) → i < g .count → keysOf (withFactor g f) i ≡ keysOf g i
   old-keys i l =
-      keys-of (withFactor g f) i (omega arith) ∙ ap (λ (x : Factor). take (x .touched) (x .keys)) (getD-set-other (g .factors) (g .count) i f past (λ e. omega arith))
+      keys-of (withFactor g f) i (omega arith) ∙ ap (λ (x : Factor). take (x .touched) (x .keys))
+      (getD-set-other (g .factors) (g .count) i f past (λ e. omega arith))
       ∙ sym (keys-of g i l)
 
 same-keys : (g : Graph) (name : Symbol) (size i : ℕ) → keysOf (withVariable g name size) i ≡ keysOf g i
@@ -60,7 +63,8 @@ unfolding from
 from-more a n = ap (λ (b : ℕ). a ∷ from b n) (add-one a)
 
 -- a call before the others
-one-more : (g h : Graph) (keys : List ℕ) (store s : List Float) (x : Added) (ks : List ℕ) (fs : List Accepted) → x .graph .count ≤ length (g .factors) → Comes g keys store x s → Read (x .graph) h ks fs
+one-more : (g h : Graph) (keys : List ℕ) (store s : List Float) (x : Added) (ks : List ℕ) (fs : List Accepted) → x .graph .count ≤ length (g .factors)
+    → Comes g keys store x s → Read (x .graph) h ks fs
     → Read g h (keyIn (x .outcome) ++ ks) (factorIn (x .outcome) keys ++ fs)
 unfolding keyIn factorIn
 one-more g h keys store s x ks fs room (turned why) r = r

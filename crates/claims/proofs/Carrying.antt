@@ -1,4 +1,5 @@
--- What a run comes to, where no gathering lists a leaf twice: it never answers the double count, an unrefused one has stored what the plan's eliminations give, and without keys there is no marginal. Assumes nothing.
+-- What a run comes to, where no gathering lists a leaf twice: it never answers the double count, an unrefused one has stored what the plan's
+-- eliminations give, and without keys there is no marginal. Assumes nothing.
 use mathlib.Core.Path.{_≡_, refl, sym, ap, subst, _∙_}
 use mathlib.Core.Logic.{_≢_}
 use mathlib.Core.Bool.{Bool, true, false, not, cond, true≢false, false≢true}
@@ -42,7 +43,8 @@ not-twice (i ∷ l) h =
     rw z (not-twice l (λ j. omega (arith, h j)))
 
 -- so the marginals are what the last eliminations come to
-solved-from : (g : Graph) (factors : List Float) (p : lists.Plan) (k : ℕ) (qs : List Gathered) → ((i : ℕ) → i < length qs → (d : Gathered) → twice (getD qs i d .leaves) ≡ false)
+solved-from : (g : Graph) (factors : List Float) (p : lists.Plan) (k : ℕ) (qs : List Gathered)
+    → ((i : ℕ) → i < length qs → (d : Gathered) → twice (getD qs i d .leaves) ≡ false)
     → marginalsFrom g factors p (values g factors (p .forward)) (values g factors (p .backward)) k qs ≡ solvedFrom g factors p k qs
 unfolding marginalsFrom solvedFrom marginal solvedAt
 solved-from g factors p k [] h = refl
@@ -99,7 +101,8 @@ unfolding missingFrom solvedFrom OtherStop OtherFound
 from-other g factors p k i [] = tt
 from-other g factors p k i (q ∷ qs) = go (solvedAt g factors p k q) (at-other g factors p k q) (from-other g factors p (k + 1) (i + 1) qs)
   where
-    go : (f : Found) → OtherFound f → OtherStop (missingFrom (i + 1) (solvedFrom g factors p (k + 1) qs)) → OtherStop (missingFrom i (f ∷ solvedFrom g factors p (k + 1) qs))
+    go : (f : Found) → OtherFound f → OtherStop (missingFrom (i + 1) (solvedFrom g factors p (k + 1) qs))
+        → OtherStop (missingFrom i (f ∷ solvedFrom g factors p (k + 1) qs))
     go (found mean covariance) o r = r
     go (missing why) o r = o
 
@@ -164,14 +167,17 @@ module _ (g : Graph) (p : lists.Plan) (factors messages marginals : List Float) 
             };
         bare = no-marginals;
       }
-  third-carries figure (stopped k why) ef eb ek = refused figure why 3 k laid (subst OtherStop (ap (missingFrom 0) (sym same) ∙ ek) (from-other g factors p 0 0 (p .at-key)))
+  third-carries figure (stopped k why) ef eb ek = refused figure why 3 k laid
+      (subst OtherStop (ap (missingFrom 0) (sym same) ∙ ek) (from-other g factors p 0 0 (p .at-key)))
 
-  second-carries : (figure : ℕ) (s : Stop) (next : Verdict) → stopFrom 0 bw ≡ s → (stopFrom 0 bw ≡ none → Right next) → Right (second figure (g .variables) (p .backward) laid marginals s next)
+  second-carries : (figure : ℕ) (s : Stop) (next : Verdict) → stopFrom 0 bw ≡ s → (stopFrom 0 bw ≡ none → Right next)
+      → Right (second figure (g .variables) (p .backward) laid marginals s next)
   unfolding second OtherStop
   second-carries figure none next e c = c e
   second-carries figure (stopped j why) next e c = refused figure why 2 _ laid (subst OtherStop e (stop-other 0 bw))
 
-  first-carries : (figure : ℕ) (s : Stop) (next : Verdict) → stopFrom 0 fw ≡ s → (stopFrom 0 fw ≡ none → Right next) → Right (first figure (p .forward) (overlaid messages (finished fw)) marginals s next)
+  first-carries : (figure : ℕ) (s : Stop) (next : Verdict) → stopFrom 0 fw ≡ s → (stopFrom 0 fw ≡ none → Right next)
+      → Right (first figure (p .forward) (overlaid messages (finished fw)) marginals s next)
   unfolding first OtherStop
   first-carries figure none next e c = c e
   first-carries figure (stopped j why) next e c = refused figure why 1 _ (overlaid messages (finished fw)) (subst OtherStop e (stop-other 0 fw))
@@ -191,10 +197,12 @@ module _ (g : Graph) (p : lists.Plan) (factors messages marginals : List Float) 
   unfolding checked
   checked-carries figure work =
       either (leb (offset g (g .count)) (length factors)) _ _ (refused figure FactorStoreShort 1 0 messages (λ e. omega arith))
-      (either (every (leb figure (length messages) ∷ leb work-numbers work ∷ leb (marginalNumbers g) (length marginals) ∷ [])) _ _ (refused figure StoreShort 1 0 messages (λ e. omega arith))
+      (either (every (leb figure (length messages) ∷ leb work-numbers work ∷ leb (marginalNumbers g) (length marginals) ∷ [])) _ _
+      (refused figure StoreShort 1 0 messages (λ e. omega arith))
       (carried-carries figure))
 
-pub run-carries : (g : Graph) → Runnable g (graphPlan g) → (factors messages : List Float) (work : ℕ) (marginals : List Float) → Carries g (graphPlan g) factors messages marginals (run g factors messages work marginals)
+pub run-carries : (g : Graph) → Runnable g (graphPlan g) → (factors messages : List Float) (work : ℕ) (marginals : List Float)
+    → Carries g (graphPlan g) factors messages marginals (run g factors messages work marginals)
 unfolding run
 run-carries g run factors messages work marginals =
     let p : lists.Plan = graphPlan g in

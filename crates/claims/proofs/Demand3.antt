@@ -1,4 +1,5 @@
--- Demand 3, whole: for every list of registering calls. What the calls answered is what the graph holds (`Calls`), over the graph's plan the claim is `once`, and its counts give what a run needs (`Carrying`). Assumes nothing.
+-- Demand 3, whole: for every list of registering calls. What the calls answered is what the graph holds (`Calls`), over the graph's plan the claim is
+-- `once`, and its counts give what a run needs (`Carrying`). Assumes nothing.
 use mathlib.Core.Path.{_≡_, refl, sym, ap, subst, _∙_}
 use mathlib.Core.Bool.{true}
 use mathlib.Core.List.{List, [], _∷_, List·Memᴰ, List·Memᴰ·head, List·Memᴰ·tail}
@@ -43,8 +44,10 @@ among fs f (List·Memᴰ·head {x = a} {xs = rest} e) = omega (arith, hit-same (
 among fs f (List·Memᴰ·tail {x = a} {xs = rest} m) = omega (arith, among rest f m)
 
 -- the claim over keys and numbers is the claim over what the calls answered
-rests : (g : Graph) (ks : List ℕ) (fs : List Accepted) → ks ≡ from 0 (g .variables) → numbers fs ≡ from 0 (g .count) → ((f : Accepted) → List·Memᴰ f fs → f .keys ≡ keysOf g (f .number))
-    → (p : lists.Plan) (k : ℕ) (q : Gathered) → k < g .variables → Once (g .variables) (keysOf g) (from 0 (g .count)) k (p .forward) (p .backward) q → Rests ks fs p k q
+rests : (g : Graph) (ks : List ℕ) (fs : List Accepted) → ks ≡ from 0 (g .variables) → numbers fs ≡ from 0 (g .count)
+    → ((f : Accepted) → List·Memᴰ f fs → f .keys ≡ keysOf g (f .number))
+    → (p : lists.Plan) (k : ℕ) (q : Gathered) → k < g .variables → Once (g .variables) (keysOf g) (from 0 (g .count)) k (p .forward) (p .backward) q
+    → Rests ks fs p k q
 rests g ks fs ek en eg p k q l o =
     record {
       leaves-of = o .leaves-of;
@@ -98,14 +101,17 @@ module _ (cs : List Call) where
         keys-apart = λ k. omega (arith, ap (count k) (keys-are cs), from-once (g .variables) k);
         numbers-apart = λ i. omega (arith, ap (count i) (numbers-are cs), from-once (g .count) i);
         made = by-answer (λ (a : Answer). a .outcome ≡ Made) refl;
-        for-each = by-answer (λ (a : Answer). length (a .plan .at-key) ≡ length (registered fresh cs)) (can-run .for-each ∙ sym (length-from 0 (g .variables)) ∙ ap length (sym (keys-are cs)));
+        for-each = by-answer (λ (a : Answer). length (a .plan .at-key) ≡ length (registered fresh cs))
+            (can-run .for-each ∙ sym (length-from 0 (g .variables)) ∙ ap length (sym (keys-are cs)));
         rests =
             λ k h d. let l : k < g .variables = from-lt k (g .variables) (subst (λ (l : List ℕ). In k l) (keys-are cs) h) in
             by-answer (λ (a : Answer). Rests (registered fresh cs) (accepted fresh cs) (a .plan) k (getD (a .plan .at-key) k d))
-            (rests g (registered fresh cs) (accepted fresh cs) (keys-are cs) (numbers-are cs) (given-are cs) (graphPlan g) k (getD (graphPlan g .at-key) k d) l (once g sound k l d));
+            (rests g (registered fresh cs) (accepted fresh cs) (keys-are cs) (numbers-are cs) (given-are cs) (graphPlan g) k
+            (getD (graphPlan g .at-key) k d) l (once g sound k l d));
         never-twice = λ factors messages work marginals. run-carries g can-run factors messages work marginals .never-twice;
         exact =
-            λ factors messages work marginals e. by-answer (λ (a : Answer). Exact g (a .plan) factors messages marginals (run g factors messages work marginals))
+            λ factors messages work marginals e. by-answer (λ (a : Answer). Exact g (a .plan) factors messages marginals
+            (run g factors messages work marginals))
             (run-carries g can-run factors messages work marginals .exact e);
         none-without-keys = λ e factors messages work marginals. run-carries g can-run factors messages work marginals .bare (empty e);
       }

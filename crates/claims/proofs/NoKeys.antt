@@ -1,4 +1,5 @@
--- P1 for every job: one that is read whole and registers no variable prints nothing. The factors that were read fit into the store, the plan is empty, and the run ends without a marginal. Assumes nothing.
+-- P1 for every job: one that is read whole and registers no variable prints nothing. The factors that were read fit into the store, the plan is
+-- empty, and the run ends without a marginal. Assumes nothing.
 use Prim.Native.Nat.{ℕ, zero, suc, _+_, _≤_}
 use mathlib.Core.Path.{_≡_, refl, ap, _∙_}
 use mathlib.Core.Bool.{Bool, true, false, cond}
@@ -44,18 +45,21 @@ held-turn : (b : Bool) (x y : Reading) → Held x → Held y → Held (cond b x 
 held-turn true x y h k = h
 held-turn false x y h k = k
 
-held-on : (place : ℕ) (next : Next) (g : Graph) (s : List Float) (rest : ℕ → Reading) → ((n : ℕ) → next ≡ At n → Held (rest n)) → Held (onward next g s place rest)
+held-on : (place : ℕ) (next : Next) (g : Graph) (s : List Float) (rest : ℕ → Reading) → ((n : ℕ) → next ≡ At n → Held (rest n))
+    → Held (onward next g s place rest)
 unfolding Held
 held-on place (At n) g s rest h = h n refl
 held-on place (Stop why) g s rest h = λ e. let z : _≡_ {A = ℕ} 0 1 = cc in absurd (omega arith)
 
-read-held : (turns : ℕ) (bytes : List ℕ) (at place : ℕ) (g : Graph) (store : List Float) → Reached g → offset g (g .count) ≤ length store → Held (readFrom turns bytes at place g store)
+read-held : (turns : ℕ) (bytes : List ℕ) (at place : ℕ) (g : Graph) (store : List Float) → Reached g → offset g (g .count) ≤ length store
+    → Held (readFrom turns bytes at place g store)
 unfolding readFrom Held
 read-held zero bytes at place g store r l = λ e. (r, l)
 read-held (suc turns) bytes at place g store r l =
     let q = recordAt g store bytes at in
     held-turn (ltb at (length bytes)) _ _
-    (held-on place (stepOf g q .next) (stepOf g q .graph) (storeAfter g store q) (λ n. readFrom turns bytes n (place + 1) (stepOf g q .graph) (storeAfter g store q))
+    (held-on place (stepOf g q .next) (stepOf g q .graph) (storeAfter g store q)
+    (λ n. readFrom turns bytes n (place + 1) (stepOf g q .graph) (storeAfter g store q))
     (λ n e. read-held turns bytes n (place + 1) (stepOf g q .graph) (storeAfter g store q) (step-reached g q r)
     (omega (arith, record-same g store bytes at, record-bounded g (good-of g r) store l at bytes n e .1))))
     (λ e. (r, l))
@@ -66,7 +70,8 @@ no-plan : (g : Graph) → g .variables ≡ 0 → graphPlan g ≡ noPlan
 unfolding graphPlan lists.plan
 no-plan g e = rw e
 
-no-marginals : (g : Graph) (factors messages marginals : List Float) → valid g ≡ true → g .variables ≡ 0 → offset g (g .count) ≤ length factors → marginalNumbers g ≤ length marginals
+no-marginals : (g : Graph) (factors messages marginals : List Float) → valid g ≡ true → g .variables ≡ 0 → offset g (g .count) ≤ length factors
+    → marginalNumbers g ≤ length marginals
     → run g factors messages work-numbers marginals ≡ record { answer = record { figure = 0; ended = Done }; messages = messages; marginals = marginals }
 unfolding run checked carried first second third figureOf need needTo values valuesTo stopFrom finished marginalsFrom missingFrom marginalsIn every
 no-marginals g factors messages marginals v e l m = rw (v, no-plan g e, le-leb _ _ l, le-leb 0 (length messages) (omega arith), le-leb _ _ m)
@@ -74,12 +79,14 @@ no-marginals g factors messages marginals v e l m = rw (v, no-plan g e, le-leb _
 no-text : (g : Graph) (factors : List Float) → valid g ≡ true → g .variables ≡ 0 → offset g (g .count) ≤ length factors → runText g factors ≡ []
 unfolding runText linesText
 no-text g factors v e l =
-    ap (verdictText g) (no-marginals g factors (zeros message-room) (zeros marginal-room) v e l (omega (arith, numbers-most g v, length-replicate marginal-room plus-zero)))
+    ap (verdictText g) (no-marginals g factors (zeros message-room) (zeros marginal-room) v e l
+    (omega (arith, numbers-most g v, length-replicate marginal-room plus-zero)))
     ∙ ap (linesText g (zeros marginal-room)) e
 
 -- ---- the job
 
-pub no-lines : (bytes : List ℕ) → readAll bytes (zeros factor-room) .answer .ended ≡ Whole → readAll bytes (zeros factor-room) .answer .graph .variables ≡ 0 → jobText bytes ≡ []
+pub no-lines : (bytes : List ℕ) → readAll bytes (zeros factor-room) .answer .ended ≡ Whole
+    → readAll bytes (zeros factor-room) .answer .graph .variables ≡ 0 → jobText bytes ≡ []
 unfolding jobText readAll Held offset sum
 no-lines bytes w e =
     let all : Reading = readAll bytes (zeros factor-room) in

@@ -34,7 +34,8 @@ use Rattle.solver.proofs.GraphOnce as once
 use Rattle.marginals.specs.Marginals.{gatheredViews, found, marginalsFrom, missingFrom, marginalsIn}
 use Rattle.solver.specs.Run.{figureOf, Verdict, first, second, third, carried, checked, run}
 use Rattle.solver.specs.declared.run.Ended.the-variants.{Done, Refused}
-use Rattle.claims.specs.Pairs.{zer, one, minus-one, two, three, four, three-quarters, Lent, next, lentTo, made, named, observed, weak, between, float, bare, held, pair, keyless, planOf, runOf, gatheredAt, Pairs}
+use Rattle.claims.specs.Pairs.{zer, one, minus-one, two, three, four, three-quarters, Lent, next, lentTo, made, named, observed, weak, between}
+use Rattle.claims.specs.Pairs.{float, bare, held, pair, keyless, planOf, runOf, gatheredAt, Pairs}
 use Rattle.claims.proofs.Computing.{computedRun, computedCalls}
 use Rattle.claims.proofs.NoKeys.{no-lines}
 use Rattle.claims.proofs.Jobs as jobs
@@ -128,7 +129,8 @@ backward-is : values graph store backward ≡ message 1 (minus-one ∷ []) (zer 
 unfolding computedRun
 backward-is = refl
 
-marginals-are : marginalsFrom graph store plan (message 1 (one ∷ []) (three ∷ []) (three-quarters ∷ []) ∷ []) (message 1 (minus-one ∷ []) (zer ∷ []) (zer ∷ []) ∷ []) 0 at-key
+marginals-are : marginalsFrom graph store plan (message 1 (one ∷ []) (three ∷ []) (three-quarters ∷ []) ∷ [])
+    (message 1 (minus-one ∷ []) (zer ∷ []) (zer ∷ []) ∷ []) 0 at-key
     ≡ found (zer ∷ []) (float 0x3FD5555555555556 ∷ []) ∷ found (float 0x4010000000000001 ∷ []) (float 0x3FF5555555555556 ∷ []) ∷ []
 unfolding computedRun
 marginals-are = refl
@@ -170,7 +172,8 @@ planned-is = planned-made graph valid-is ∙ plan-is
 
 -- what key 0 gathers: the backward message and three priors
 abbrev views : List FactorView
-views = likelihood (0 ∷ []) 1 (minus-one ∷ []) (zer ∷ []) (zer ∷ []) ∷ prior 0 (zer ∷ []) (one ∷ []) ∷ prior 0 (zer ∷ []) (one ∷ []) ∷ prior 0 (zer ∷ []) (one ∷ []) ∷ []
+views = likelihood (0 ∷ []) 1 (minus-one ∷ []) (zer ∷ []) (zer ∷ []) ∷ prior 0 (zer ∷ []) (one ∷ []) ∷ prior 0 (zer ∷ []) (one ∷ []) ∷ prior 0
+    (zer ∷ []) (one ∷ []) ∷ []
 
 views-are : gatheredAt made-pair 0 ≡ views
 unfolding gatheredViews slotView messageView originalView offset numbers aNumbers firstColumn sum ofBits
@@ -206,7 +209,8 @@ keyless-is =
     ∙ ap (λ (r : Lent). next r between) keyless-1
     ∙ keyless-2
 
-uncovered : map (λ (q : Gathered). q .originals) (planOf (with (p0 ∷ ob0 ∷ ob ∷ []) (zer ∷ one ∷ two ∷ one ∷ minus-one ∷ one ∷ four ∷ one ∷ [])) .at-key) ≡ (0 ∷ 1 ∷ []) ∷ (1 ∷ []) ∷ []
+uncovered : map (λ (q : Gathered). q .originals) (planOf (with (p0 ∷ ob0 ∷ ob ∷ [])
+    (zer ∷ one ∷ two ∷ one ∷ minus-one ∷ one ∷ four ∷ one ∷ [])) .at-key) ≡ (0 ∷ 1 ∷ []) ∷ (1 ∷ []) ∷ []
 unfolding computedRun
 uncovered = refl
 
@@ -252,13 +256,16 @@ pairs =
           of-pair (λ (r : Lent). rowsOfAll (layoutOf (0 ∷ []) [] (r .graph .sizes)) (nth (gatheredAt r 0)) (length (gatheredAt r 0)) ≡ 4)
           (subst (λ (vs : List FactorView). rowsOfAll (layoutOf (0 ∷ []) [] (graph .sizes)) (nth vs) (length vs) ≡ 4) (sym views-are) rows-are);
       p6-branch =
-          of-pair (λ (r : Lent). gaussian.eliminate (gatheredAt r 0) (0 ∷ []) [] (r .graph .sizes) ≡ gaussian.run false (frameOf 0 1 1) (layoutOf (0 ∷ []) [] (r .graph .sizes)) (nth (gatheredAt r 0)) 4)
-          (subst (λ (vs : List FactorView). gaussian.eliminate vs (0 ∷ []) [] (graph .sizes) ≡ gaussian.run false (frameOf 0 1 1) (layoutOf (0 ∷ []) [] (graph .sizes)) (nth vs) 4) (sym views-are) branch-is);
+          of-pair (λ (r : Lent). gaussian.eliminate (gatheredAt r 0) (0 ∷ []) [] (r .graph .sizes)
+          ≡ gaussian.run false (frameOf 0 1 1) (layoutOf (0 ∷ []) [] (r .graph .sizes)) (nth (gatheredAt r 0)) 4)
+          (subst (λ (vs : List FactorView). gaussian.eliminate vs (0 ∷ []) [] (graph .sizes)
+          ≡ gaussian.run false (frameOf 0 1 1) (layoutOf (0 ∷ []) [] (graph .sizes)) (nth vs) 4) (sym views-are) branch-is);
       p4-run = of-pair (λ (r : Lent). runOf r 7 5 ≡ ended) run-is;
       p7-four = refl;
       p7-two = refl;
       p7-least = refl;
-      p8 = of-pair (λ (r : Lent). answered (r .graph) (observed (1 ∷ 1 ∷ []) (one ∷ one ∷ []) one (replicate 14 nan)) .outcome ≡ outcome.Refused KeysNotRising) equal-keys;
+      p8 = of-pair (λ (r : Lent). answered (r .graph) (observed (1 ∷ 1 ∷ []) (one ∷ one ∷ []) one (replicate 14 nan)) .outcome
+          ≡ outcome.Refused KeysNotRising) equal-keys;
       p8-number = refl;
       p9-every = λ g v i k l e h d. subst (λ (p : lists.Plan). In i (getD (p .at-key) k d .originals)) (sym (planned-made g v)) (once.keyless g v i k l e h d);
       p9 = subst (λ (r : Lent). map (λ (q : Gathered). q .originals) (planOf r .at-key) ≡ (0 ∷ 1 ∷ []) ∷ (1 ∷ []) ∷ []) (sym keyless-is) uncovered;

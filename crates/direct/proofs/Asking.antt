@@ -109,9 +109,11 @@ module _ (g : Graph) (slots kept cleared : List ℕ) (factors : List Float) (ok 
         let number : ℕ = getD slots n 0 in
         ap₂ (λ (a b : ℕ). a + b) (rows-to n (omega arith))
         (rows-are kept cleared (g .sizes) keys _ (headOf heads number) (fits-at n (omega arith)) _
-        ∙ ap (rowsOf m) (original-view g (ok .reached) keys heads o number (slot-below n (omega arith)) factors [] ∙ sym (getD-map (originalView g factors) slots n _ (omega arith))))
+        ∙ ap (rowsOf m) (original-view g (ok .reached) keys heads o number (slot-below n (omega arith)) factors []
+        ∙ sym (getD-map (originalView g factors) slots n _ (omega arith))))
 
-    pub need-is : numbersOf (messageRows (rowsByAll m keys heads slots (length slots)) (dimOf (g .sizes) kept)) (dimOf (g .sizes) kept) ≡ need g kept cleared (views g slots factors)
+    pub need-is : numbersOf (messageRows (rowsByAll m keys heads slots (length slots)) (dimOf (g .sizes) kept)) (dimOf (g .sizes) kept)
+        ≡ need g kept cleared (views g slots factors)
     unfolding need views
     need-is =
         let d : ℕ = dimOf (g .sizes) kept in
@@ -120,7 +122,8 @@ module _ (g : Graph) (slots kept cleared : List ℕ) (factors : List Float) (ok 
         ap (λ (y : ℕ). numbersOf (messageRows y d) d) e
 
     -- what the elimination asks for
-    pub asked : (messages : List Float) (work n : ℕ) → n ≡ numbersOf (messageRows (rowsByAll m keys heads slots (length slots)) (dimOf (g .sizes) kept)) (dimOf (g .sizes) kept) → n ≤ length messages → work-numbers ≤ work
+    pub asked : (messages : List Float) (work n : ℕ) → n ≡ numbersOf
+        (messageRows (rowsByAll m keys heads slots (length slots)) (dimOf (g .sizes) kept)) (dimOf (g .sizes) kept) → n ≤ length messages → work-numbers ≤ work
         → Asked kept cleared (g .sizes) factors messages work keys heads slots × Roomy kept cleared (g .sizes) keys heads slots 0 (length messages)
     asked messages work n en room enough = (
       record {

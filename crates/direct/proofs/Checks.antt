@@ -28,7 +28,8 @@ module _ (a b c : Bool) where
   unfolding every
   third-decides ea eb = rw (ea, eb) (sym (and-true c))
 
-pub key-tells : (kept cleared : List ℕ) (key k : ℕ) (r b : Bool) → key ≡ k → r ≡ (member key cleared || member key kept) → r ≡ b → (member k cleared || member k kept) ≡ b
+pub key-tells : (kept cleared : List ℕ) (key k : ℕ) (r b : Bool) → key ≡ k → r ≡ (member key cleared || member key kept) → r ≡ b
+    → (member k cleared || member k kept) ≡ b
 key-tells kept cleared key k r b e er eb = rw (← e, ← er) eb
 
 pub rows-low : (y d : ℕ) → messageRows y d ≤ d
@@ -45,6 +46,7 @@ numbers-low r y d k er ed h =
     let b : d ≤ 32 = omega arith in
     (a, mul-le-mul a b, mul-le-mul a a)
 
-pub numbers-are : (m n : Layout) (keys heads slots : List ℕ) (y d k r : ℕ) → m ≡ n → d ≡ k → y ≡ rowsByAll m keys heads slots (length slots) → r ≡ messageRows y d
+pub numbers-are : (m n : Layout) (keys heads slots : List ℕ) (y d k r : ℕ) → m ≡ n → d ≡ k → y ≡ rowsByAll m keys heads slots (length slots) → r
+    ≡ messageRows y d
     → r * d + r + r * r ≡ numbersOf (messageRows (rowsByAll n keys heads slots (length slots)) k) k
 numbers-are m n keys heads slots y d k r em ed ey er = rw (er, ey, em, ed)

@@ -14,7 +14,8 @@ use Rattle.graph.specs.declared.refusal.Refusal.the-variants.{NeitherKeptNorCle
 use Rattle.graph.proofs.Computing.{computedTest}
 use Rattle.gaussian.proofs.Computing.{computed}
 use Rattle.tables.specs.Originals.{originalView}
-use Rattle.direct.specs.Direct.{countsFit, disjoint, listsFit, allKnown, factorPlaced, allPlaced, views, need, Verdict, send, refuse, sent, verdict, answerOf, storeOf}
+use Rattle.direct.specs.Direct.{countsFit, disjoint, listsFit, allKnown, factorPlaced, allPlaced, views, need, Verdict, send, refuse, sent}
+use Rattle.direct.specs.Direct.{verdict, answerOf, storeOf}
 use Rattle.direct.specs.declared.Direct.the-variants.{Rows, Refused}
 
 abbrev zer : Float
@@ -56,7 +57,8 @@ unfolding judged
 p4 = refl
 
 -- it stands at the start of the message store, and the rest is as it was
-p4-stored : storeOf (four ∷ four ∷ four ∷ minus-one ∷ []) (judged (0 ∷ 3 ∷ 2 ∷ 1 ∷ []) (1 ∷ []) (0 ∷ []) store 4 2304) ≡ one ∷ three ∷ three-quarters ∷ minus-one ∷ []
+p4-stored : storeOf (four ∷ four ∷ four ∷ minus-one ∷ []) (judged (0 ∷ 3 ∷ 2 ∷ 1 ∷ []) (1 ∷ []) (0 ∷ []) store 4 2304)
+    ≡ one ∷ three ∷ three-quarters ∷ minus-one ∷ []
 unfolding judged storeOf
 p4-stored = refl
 

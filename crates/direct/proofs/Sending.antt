@@ -34,21 +34,24 @@ turned-back v why store e = rw e (refl, refl)
 start : (l n : List Float) → n ++ drop (0 + length n - 0) l ≡ n ++ drop (length n) l
 start l n = let e : 0 + length n - 0 ≡ length n = omega arith in ap (λ (k : ℕ). n ++ drop k l) e
 
-pub with-rows : (v : Verdict) (o : Outcome) (e : Eliminated) (store s : List Float) (r : ℕ) → v ≡ sent o → e ≡ gaussian.answer o → s ≡ gaussian.stored store 0 o → e ≡ eliminated.Rows r
+pub with-rows : (v : Verdict) (o : Outcome) (e : Eliminated) (store s : List Float) (r : ℕ) → v ≡ sent o → e ≡ gaussian.answer o → s
+    ≡ gaussian.stored store 0 o → e ≡ eliminated.Rows r
     → (Rows r ≡ answerOf v) × (s ≡ storeOf store v)
 unfolding gaussian.answer gaussian.stored sent answerOf storeOf
 with-rows v pivot e store s r ev ea es er = absurd (let z : _≡_ {A = ℕ} 0 1 = cc in omega arith)
 with-rows v unbounded e store s r ev ea es er = absurd (let z : _≡_ {A = ℕ} 0 1 = cc in omega arith)
 with-rows v (message n a xi w) e store s r ev ea es er = let k : r ≡ n = cc in rw ev (ap Rows k, es ∙ start store (a ++ (xi ++ w)))
 
-pub at-pivot : (v : Verdict) (o : Outcome) (e : Eliminated) (store s : List Float) → v ≡ sent o → e ≡ gaussian.answer o → s ≡ gaussian.stored store 0 o → e ≡ eliminated.Pivot
+pub at-pivot : (v : Verdict) (o : Outcome) (e : Eliminated) (store s : List Float) → v ≡ sent o → e ≡ gaussian.answer o → s
+    ≡ gaussian.stored store 0 o → e ≡ eliminated.Pivot
     → (Refused ClearedPivot ≡ answerOf v) × (s ≡ storeOf store v)
 unfolding gaussian.answer gaussian.stored sent answerOf storeOf
 at-pivot v pivot e store s ev ea es er = rw ev (refl, es)
 at-pivot v unbounded e store s ev ea es er = absurd (let z : _≡_ {A = ℕ} 0 1 = cc in omega arith)
 at-pivot v (message n a xi w) e store s ev ea es er = absurd (let z : _≡_ {A = ℕ} 0 1 = cc in omega arith)
 
-pub at-overflow : (v : Verdict) (o : Outcome) (e : Eliminated) (store s : List Float) → v ≡ sent o → e ≡ gaussian.answer o → s ≡ gaussian.stored store 0 o → e ≡ eliminated.Unbounded
+pub at-overflow : (v : Verdict) (o : Outcome) (e : Eliminated) (store s : List Float) → v ≡ sent o → e ≡ gaussian.answer o → s
+    ≡ gaussian.stored store 0 o → e ≡ eliminated.Unbounded
     → (Refused ResultNotFinite ≡ answerOf v) × (s ≡ storeOf store v)
 unfolding gaussian.answer gaussian.stored sent answerOf storeOf
 at-overflow v pivot e store s ev ea es er = absurd (let z : _≡_ {A = ℕ} 0 1 = cc in omega arith)
@@ -57,8 +60,10 @@ at-overflow v (message n a xi w) e store s ev ea es er = absurd (let z : _≡_ {
 
 -- ---- a call that its early checks admit
 
-module _ (g : Graph) (slots kept cleared : List ℕ) (factors : List Float) (ok : Admitted g slots kept cleared factors) (keys heads : List ℕ) (o : Originals g keys heads) (messages : List Float) (work n : ℕ)
-    (en : n ≡ numbersOf (messageRows (rowsByAll (layoutOf kept cleared (g .sizes)) keys heads slots (length slots)) (dimOf (g .sizes) kept)) (dimOf (g .sizes) kept)) where
+module _ (g : Graph) (slots kept cleared : List ℕ) (factors : List Float) (ok : Admitted g slots kept cleared factors) (keys heads : List ℕ)
+    (o : Originals g keys heads) (messages : List Float) (work n : ℕ)
+    (en : n ≡ numbersOf (messageRows (rowsByAll (layoutOf kept cleared (g .sizes)) keys heads slots (length slots)) (dimOf (g .sizes) kept))
+    (dimOf (g .sizes) kept)) where
   abbrev v : Verdict
   v = verdict g slots kept cleared factors (length messages) work
 

@@ -9,7 +9,8 @@ use Rattle.direct.specs.Told.{directTold, verdictTold}
 use Rattle.direct.specs.declared.Direct.{Direct}
 
 -- the answer with the message store, and what the answer tells
-pub verdict-tells : (r : Direct) (v : Verdict) (l s : List Float) → (r ≡ answerOf v) × (s ≡ storeOf l v) → (r ≡ answerOf v) × ((s ≡ storeOf l v) × (directTold r ≡ verdictTold v))
+pub verdict-tells : (r : Direct) (v : Verdict) (l s : List Float) → (r ≡ answerOf v) × (s ≡ storeOf l v)
+    → (r ≡ answerOf v) × ((s ≡ storeOf l v) × (directTold r ≡ verdictTold v))
 unfolding answerOf directTold verdictTold
 verdict-tells r v l s (e, h) = (e, (h, ap directTold e ∙ go v))
   where

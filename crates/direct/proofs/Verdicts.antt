@@ -12,7 +12,8 @@ use Rattle.factor.specs.Counting.{every}
 use Rattle.graph.specs.Record.{offset, valid}
 use Rattle.graph.specs.declared.Graph.{Graph}
 use Rattle.graph.specs.declared.refusal.Refusal.{Refusal}
-use Rattle.graph.specs.declared.refusal.Refusal.the-variants.{NeitherKeptNorCleared, CountOutside, KeptAndCleared, NoSuchKey, FactorStoreShort, StoreShort, NoSuchGraph}
+use Rattle.graph.specs.declared.refusal.Refusal.the-variants.{NeitherKeptNorCleared, CountOutside, KeptAndCleared, NoSuchKey, FactorStoreShort}
+use Rattle.graph.specs.declared.refusal.Refusal.the-variants.{StoreShort, NoSuchGraph}
 use Rattle.workspace.specs.Frames.{work-numbers}
 use Rattle.gaussian.specs.Elimination.{eliminate}
 use Rattle.direct.specs.Direct.{countsFit, listsFit, allKnown, allPlaced, views, need, Verdict, refuse, sent, verdict}
@@ -84,7 +85,8 @@ module _ (g : Graph) (slots kept cleared : List ℕ) (factors : List Float) wher
   pub admitted : Passed ≡ early g slots kept cleared factors → Admitted g slots kept cleared factors
   unfolding early
   admitted =
-      case _ (valid g) _ _ (λ h30. case _ (countsFit slots kept cleared) _ _ (λ h4. case _ (listsFit kept cleared) _ _ (λ h9. case _ (allKnown g slots kept cleared) _ _
+      case _ (valid g) _ _ (λ h30. case _ (countsFit slots kept cleared) _ _
+      (λ h4. case _ (listsFit kept cleared) _ _ (λ h9. case _ (allKnown g slots kept cleared) _ _
       (λ h11. case _ (allPlaced g slots kept cleared) _ _ (λ h0. case _ (leb (offset g (g .count)) (length factors)) _ _
       (λ h13 e. record { reached = h30; few = h4; apart = h9; there = h11; placed = h0; stored = leb-true _ _ h13 }))))))
 
@@ -92,7 +94,8 @@ module _ (g : Graph) (slots kept cleared : List ℕ) (factors : List Float) wher
 
   module _ (ok : Admitted g slots kept cleared factors) (room work : ℕ) where
     late : verdict g slots kept cleared factors room work
-        ≡ cond (not (every (leb (need g kept cleared (views g slots factors)) room ∷ leb work-numbers work ∷ []))) (refuse StoreShort) (sent (eliminate (views g slots factors) kept cleared (g .sizes)))
+        ≡ cond (not (every (leb (need g kept cleared (views g slots factors)) room ∷ leb work-numbers work ∷ []))) (refuse StoreShort)
+        (sent (eliminate (views g slots factors) kept cleared (g .sizes)))
     unfolding verdict
     late = rw (ok .reached, ok .few, ok .apart, ok .there, ok .placed, le-leb _ _ (ok .stored))
 

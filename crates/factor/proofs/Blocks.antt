@@ -23,9 +23,11 @@ unfolding firstColumn
 first-none sizes keys = sum-none _
 
 -- the next block begins where this one ends
-pub first-more : (sizes keys : List ℕ) (j key size : ℕ) → key ≡ getD keys j 0 → size ≡ sizeOf sizes key → firstColumn sizes keys (j + 1) ≡ firstColumn sizes keys j + size
+pub first-more : (sizes keys : List ℕ) (j key size : ℕ) → key ≡ getD keys j 0 → size ≡ sizeOf sizes key → firstColumn sizes keys (j + 1)
+    ≡ firstColumn sizes keys j + size
 unfolding firstColumn
-first-more sizes keys j key size e s = sum-more (λ i. sizeOf sizes (getD keys i 0)) j ∙ ap (λ (x : ℕ). sum (λ i. sizeOf sizes (getD keys i 0)) j + x) (ap (sizeOf sizes) (sym e) ∙ sym s)
+first-more sizes keys j key size e s = sum-more (λ i. sizeOf sizes (getD keys i 0)) j
+    ∙ ap (λ (x : ℕ). sum (λ i. sizeOf sizes (getD keys i 0)) j + x) (ap (sizeOf sizes) (sym e) ∙ sym s)
 
 -- later blocks begin no earlier
 pub first-le : (sizes keys : List ℕ) (i j : ℕ) → i ≤ j → firstColumn sizes keys i ≤ firstColumn sizes keys j
@@ -43,11 +45,16 @@ module _ (sizes keys : List ℕ) (key : ℕ) where
       next = omega arith
 
       go : (b : Bool) → cond b (Block (firstColumn sizes keys j) (sizeOf sizes (getD keys j 0))) (findFrom sizes keys key (j + 1) n) ≡ Block first size
-          → (findFrom sizes keys key (j + 1) n ≡ Block first size → first + size ≤ firstColumn sizes keys (j + 1 + n)) → first + size ≤ firstColumn sizes keys (j + suc n)
+          → (findFrom sizes keys key (j + 1) n ≡ Block first size → first + size ≤ firstColumn sizes keys (j + 1 + n))
+          → first + size ≤ firstColumn sizes keys (j + suc n)
       go true h f =
           let a : firstColumn sizes keys j ≡ first = cc in
           let b : sizeOf sizes (getD keys j 0) ≡ size = cc in
-          rw next (omega (arith, first-more sizes keys j (getD keys j 0) (sizeOf sizes (getD keys j 0)) refl refl, first-le sizes keys (j + 1) (j + 1 + n) (omega arith)))
+          rw next (omega (
+            arith,
+            first-more sizes keys j (getD keys j 0) (sizeOf sizes (getD keys j 0)) refl refl,
+            first-le sizes keys (j + 1) (j + 1 + n) (omega arith),
+          ))
       go false h f = rw next (f h)
 
   pub found-ends : (n first size : ℕ) → findFrom sizes keys key 0 n ≡ Block first size → first + size ≤ firstColumn sizes keys n
@@ -57,15 +64,18 @@ module _ (sizes keys : List ℕ) (key : ℕ) where
   find-begun n = let e : n - 0 ≡ n = omega arith in rw e
 
   -- one place looked at
-  pub find-here : (j n first here size : ℕ) (r : Found) → j < n → here ≡ getD keys j 0 → size ≡ sizeOf sizes here → first ≡ firstColumn sizes keys j → here ≡ key
+  pub find-here : (j n first here size : ℕ) (r : Found) → j < n → here ≡ getD keys j 0 → size ≡ sizeOf sizes here → first ≡ firstColumn sizes keys j
+      → here ≡ key
       → r ≡ findFrom sizes keys key j (n - j) → Block first size ≡ r
   unfolding findFrom
   find-here j n first here size r l eh es ef same e =
       let d : n - j ≡ suc (n - (j + 1)) = omega arith in
       let t : getD keys j 0 ≡ key = sym eh ∙ same in
-      sym (e ∙ rw (d, eq-eqb _ _ t) (ap (λ (x : ℕ). Block (firstColumn sizes keys j) (sizeOf sizes x)) (sym eh) ∙ ap (λ (x : ℕ). Block (firstColumn sizes keys j) x) (sym es) ∙ ap (λ (x : ℕ). Block x size) (sym ef)))
+      sym (e ∙ rw (d, eq-eqb _ _ t) (ap (λ (x : ℕ). Block (firstColumn sizes keys j) (sizeOf sizes x)) (sym eh)
+      ∙ ap (λ (x : ℕ). Block (firstColumn sizes keys j) x) (sym es) ∙ ap (λ (x : ℕ). Block x size) (sym ef)))
 
-  pub find-past : (j n here : ℕ) (r : Found) → j < n → here ≡ getD keys j 0 → (here ≡ key → ⊥) → r ≡ findFrom sizes keys key j (n - j) → r ≡ findFrom sizes keys key (j + 1) (n - (j + 1))
+  pub find-past : (j n here : ℕ) (r : Found) → j < n → here ≡ getD keys j 0 → (here ≡ key → ⊥) → r ≡ findFrom sizes keys key j (n - j) → r
+      ≡ findFrom sizes keys key (j + 1) (n - (j + 1))
   unfolding findFrom
   find-past j n here r l eh other e =
       let d : n - j ≡ suc (n - (j + 1)) = omega arith in

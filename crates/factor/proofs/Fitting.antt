@@ -135,7 +135,8 @@ module _ (keys : List ℕ) where
   pub observation-long : length keys ≤ max-keys → length (keys ++ replicate (max-keys - length keys) 0) ≡ max-keys
   observation-long few = simp (length-append, length-replicate) (omega arith)
 
-  module _ (sizes : List ℕ) (n y : ℕ) (few : length keys ≤ max-keys) (some : 1 ≤ y) (most : y ≤ max-rows) (up : rising keys ≡ true) (there : known n keys ≡ true) where
+  module _ (sizes : List ℕ) (n y : ℕ) (few : length keys ≤ max-keys) (some : 1 ≤ y) (most : y ≤ max-rows) (up : rising keys ≡ true)
+      (there : known n keys ≡ true) where
     above-as : (j : ℕ) → j < length keys → above (keys ++ replicate (max-keys - length keys) 0) j ≡ true
     unfolding above
     above-as j l =
@@ -151,7 +152,8 @@ module _ (keys : List ℕ) where
         by-test (ltb j (length keys)) _ _
         (λ t.
         let a : j < length keys = ltb-true _ _ t in
-        every-2 _ _ (ap (λ (x : ℕ). ltb x n) (key-in (max-keys - length keys) j a) ∙ all-at (λ i. ltb (getD keys i 0) n) (length keys) j there a) (above-as j a))
+        every-2 _ _ (ap (λ (x : ℕ). ltb x n) (key-in (max-keys - length keys) j a) ∙ all-at (λ i. ltb (getD keys i 0) n) (length keys) j there a)
+        (above-as j a))
         (λ t. eq-eqb _ _ (key-out (max-keys - length keys) j (ltb-false _ _ t)))
 
     pub observation-fits : fits sizes n (observationOf keys y) ≡ true
@@ -169,7 +171,8 @@ clear-is f n e =
     let t : f .touched ≡ 0 = eqb-true (f .touched) 0 (every-at _ 1 e) in
     let r : f .rows ≡ 0 = eqb-true (f .rows) 0 (every-at _ 2 e) in
     let k : f .keys ≡ replicate max-keys 0 =
-    ext-getD 0 (f .keys) (replicate max-keys 0) n (λ j l. eqb-true (keyAt f j) 0 (all-at (λ i. eqb (keyAt f i) 0) max-keys j (every-at _ 3 e) (omega arith)) ∙ sym (zeros max-keys j)) in
+    ext-getD 0 (f .keys) (replicate max-keys 0) n (λ j l. eqb-true (keyAt f j) 0
+    (all-at (λ i. eqb (keyAt f i) 0) max-keys j (every-at _ 3 e) (omega arith)) ∙ sym (zeros max-keys j)) in
     λ i. record { prior = p i; touched = t i; rows = r i; keys = k i }
 
 module _ (sizes : List ℕ) (n : ℕ) (f : Factor) (long : length (f .keys) ≡ max-keys) (h : fits sizes n f ≡ true) where
@@ -177,12 +180,14 @@ module _ (sizes : List ℕ) (n : ℕ) (f : Factor) (long : length (f .keys) ≡ 
   prior-is p =
       let t : f .touched ≡ 1 = prior-touched sizes n f h p in
       let r : f .rows ≡ sizeOf sizes (keyAt f 0) = prior-rows sizes n f h p in
-      let k : f .keys ≡ set (replicate max-keys 0) 0 (keyAt f 0) = ext-getD 0 (f .keys) (set (replicate max-keys 0) 0 (keyAt f 0)) long (λ j l. go j (omega arith) t) in
+      let k : f .keys ≡ set (replicate max-keys 0) 0 (keyAt f 0) = ext-getD 0 (f .keys) (set (replicate max-keys 0) 0 (keyAt f 0)) long
+      (λ j l. go j (omega arith) t) in
       λ i. record { prior = p i; touched = t i; rows = r i; keys = k i }
     where
       go : (j : ℕ) → j < max-keys → f .touched ≡ 1 → keyAt f j ≡ getD (set (replicate max-keys 0) 0 (keyAt f 0)) j 0
       go zero l t = refl
-      go (suc j) l t = fits-unused sizes n f h (suc j) (omega arith) l ∙ sym (getD-set-other (replicate max-keys 0) 0 (suc j) (keyAt f 0) 0 (λ x. omega arith) ∙ zeros max-keys (suc j))
+      go (suc j) l t = fits-unused sizes n f h (suc j) (omega arith) l
+          ∙ sym (getD-set-other (replicate max-keys 0) 0 (suc j) (keyAt f 0) 0 (λ x. omega arith) ∙ zeros max-keys (suc j))
 
   -- the keys that an observation touches
   abbrev pub touches : List ℕ
@@ -214,7 +219,8 @@ module _ (sizes : List ℕ) (n : ℕ) (f : Factor) (long : length (f .keys) ≡ 
   observation-is p =
       let few : length touches ≤ max-keys = omega (arith, touches-long, fits-touched sizes n f h) in
       let k : f .keys ≡ touches ++ replicate (max-keys - length touches) 0 =
-      ext-getD 0 (f .keys) (touches ++ replicate (max-keys - length touches) 0) (long ∙ sym (observation-long touches few)) (λ j l. go j (omega arith) (decLt j (f .touched))) in
+      ext-getD 0 (f .keys) (touches ++ replicate (max-keys - length touches) 0) (long ∙ sym (observation-long touches few))
+      (λ j l. go j (omega arith) (decLt j (f .touched))) in
       λ i. record { prior = p i; touched = sym touches-long i; rows = f .rows; keys = k i }
     where
       go : (j : ℕ) → j < max-keys → Dec (j < f .touched) → keyAt f j ≡ getD (touches ++ replicate (max-keys - length touches) 0) j 0

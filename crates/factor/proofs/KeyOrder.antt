@@ -31,13 +31,15 @@ find-absent sizes keys key n other = sym (find-none sizes keys key n n (findFrom
 -- a key that stands first at place i is found there
 pub find-first : (sizes keys : List ℕ) (n i : ℕ) → i < n → ((j : ℕ) → j < i → getD keys j 0 ≡ getD keys i 0 → ⊥)
     → findFrom sizes keys (getD keys i 0) 0 n ≡ Block (firstColumn sizes keys i) (sizeOf sizes (getD keys i 0))
-find-first sizes keys n i l other = sym (find-here sizes keys (getD keys i 0) i n _ (getD keys i 0) _ (findFrom sizes keys (getD keys i 0) 0 n) l refl refl refl refl (go i (omega arith)))
+find-first sizes keys n i l other = sym (find-here sizes keys (getD keys i 0) i n _ (getD keys i 0) _ (findFrom sizes keys (getD keys i 0) 0 n) l refl
+    refl refl refl (go i (omega arith)))
   where
     go : (j : ℕ) → j ≤ i → findFrom sizes keys (getD keys i 0) 0 n ≡ findFrom sizes keys (getD keys i 0) j (n - j)
     go zero m = find-begun sizes keys (getD keys i 0) n
     go (suc j) m =
         let e : findFrom sizes keys (getD keys i 0) 0 n ≡ findFrom sizes keys (getD keys i 0) (j + 1) (n - (j + 1)) =
-        find-past sizes keys (getD keys i 0) j n (getD keys j 0) (findFrom sizes keys (getD keys i 0) 0 n) (omega arith) refl (other j m) (go j (omega arith)) in
+        find-past sizes keys (getD keys i 0) j n (getD keys j 0) (findFrom sizes keys (getD keys i 0) 0 n) (omega arith) refl (other j m)
+        (go j (omega arith)) in
         rw add-one at e
 
 module _ (sizes : List ℕ) (n : ℕ) (f : Factor) (h : fits sizes n f ≡ true) where
@@ -68,12 +70,14 @@ module _ (sizes : List ℕ) (n : ℕ) (f : Factor) (h : fits sizes n f ≡ true)
   -- the columns to a key are among those of all keys up to it
   columns-to : (j : ℕ) → j < f .touched → firstColumn sizes (f .keys) (j + 1) ≤ sum (sizeOf sizes) (keyAt f j + 1)
   columns-to zero l =
-      let a : firstColumn sizes (f .keys) (0 + 1) ≡ firstColumn sizes (f .keys) 0 + sizeOf sizes (keyAt f 0) = first-more sizes (f .keys) 0 (keyAt f 0) (sizeOf sizes (keyAt f 0)) refl refl in
+      let a : firstColumn sizes (f .keys) (0 + 1) ≡ firstColumn sizes (f .keys) 0 + sizeOf sizes (keyAt f 0) = first-more sizes (f .keys) 0
+      (keyAt f 0) (sizeOf sizes (keyAt f 0)) refl refl in
       omega (arith, first-none sizes (f .keys), sum-more (sizeOf sizes) (keyAt f 0))
   columns-to (suc j) l =
       let b : firstColumn sizes (f .keys) (j + 1) ≤ sum (sizeOf sizes) (keyAt f j + 1) = columns-to j (omega arith) in
       let e : firstColumn sizes (f .keys) (suc j) ≡ firstColumn sizes (f .keys) (j + 1) = ap (firstColumn sizes (f .keys)) (sym (add-one j)) in
-      let a : firstColumn sizes (f .keys) (suc j + 1) ≡ firstColumn sizes (f .keys) (suc j) + sizeOf sizes (keyAt f (suc j)) = first-more sizes (f .keys) (suc j) (keyAt f (suc j)) (sizeOf sizes (keyAt f (suc j))) refl refl in
+      let a : firstColumn sizes (f .keys) (suc j + 1) ≡ firstColumn sizes (f .keys) (suc j) + sizeOf sizes (keyAt f (suc j)) = first-more sizes
+      (f .keys) (suc j) (keyAt f (suc j)) (sizeOf sizes (keyAt f (suc j))) refl refl in
       let c : keyAt f j < keyAt f (suc j) = earlier-below (suc j) j (omega arith) l in
       omega (arith, sum-le (sizeOf sizes) (keyAt f j + 1) (keyAt f (suc j)) (omega arith), sum-more (sizeOf sizes) (keyAt f (suc j)))
 

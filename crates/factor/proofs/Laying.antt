@@ -5,12 +5,14 @@ use mathlib.Core.List.{List, [], _++_, append-assoc, append-nil}
 use native.Mathlib.Omega.{arith}
 use native.Mathlib.Numerals.{add-one}
 use lib.ListN.{length, getD, set, take, drop, replicate, length-append, length-drop, length-replicate, getD-replicate, List·getD-append}
-use lib.Seq.{length-take-le, getD-take, getD-drop, getD-append-add, ext-getD, take-at, drop-at, drop-drop, take-length, drop-length, paste, paste-zero, paste-suc}
+use lib.Seq.{length-take-le, getD-take, getD-drop, getD-append-add, ext-getD, take-at, drop-at, drop-drop, take-length, drop-length, paste}
+use lib.Seq.{paste-zero, paste-suc}
 use Rattle.factor.specs.Factor.{lay}
 
 module _ {A : Type 0} where
   -- a turn of a copy
-  pub copy-more : (d₀ d : List A) (at : ℕ) (s : List A) (j : ℕ) (x z : A) → d ≡ paste d₀ at s j → x ≡ getD s j z → at + j < length d₀ → j < length s → set d (at + j) x ≡ paste d₀ at s (j + 1)
+  pub copy-more : (d₀ d : List A) (at : ℕ) (s : List A) (j : ℕ) (x z : A) → d ≡ paste d₀ at s j → x ≡ getD s j z → at + j < length d₀ → j < length s
+      → set d (at + j) x ≡ paste d₀ at s (j + 1)
   copy-more d₀ d at s j x z e ex h k = rw (e, ex) (paste-suc d₀ at s j z h k ∙ ap (λ (n : ℕ). paste d₀ at s n) (sym (add-one j)))
 
   -- after the last turn
@@ -43,7 +45,8 @@ module _ {A : Type 0} where
     lay-lay more b e =
         let n : at + length vs + length more ≡ at + length (vs ++ more) = omega (arith, length-append vs more) in
         let d : drop (at + length vs + length more) (lay l at vs) ≡ drop (at + length (vs ++ more)) l =
-        sym (drop-drop (length more) (at + length vs) (lay l at vs)) ∙ ap (drop (length more)) lay-drop ∙ drop-drop (length more) (at + length vs) l ∙ ap (λ (k : ℕ). drop k l) n in
+        sym (drop-drop (length more) (at + length vs) (lay l at vs)) ∙ ap (drop (length more)) lay-drop ∙ drop-drop (length more) (at + length vs) l
+        ∙ ap (λ (k : ℕ). drop k l) n in
         rw (e, lay-take, d, append-assoc (take at l) vs more)
 
     pub two-laid : (more t r : List A) (b : ℕ) → b ≡ at + length vs → t ≡ lay l at vs → r ≡ lay t b more → r ≡ lay l at (vs ++ more)

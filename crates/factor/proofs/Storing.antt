@@ -13,12 +13,14 @@ use Rattle.factor.specs.Storing.{Room, laid}
 use Rattle.factor.proofs.Laying.{lay-whole, two-laid}
 
 -- A, xi and W laid one after the other
-three : (st a xi w s₁ s₂ s₃ : List Float) (at n : ℕ) → at ≤ length st → length xi ≡ n → s₁ ≡ lay st at a → s₂ ≡ lay s₁ (at + length a) xi → s₃ ≡ lay s₂ (at + length a + n) w
+three : (st a xi w s₁ s₂ s₃ : List Float) (at n : ℕ) → at ≤ length st → length xi ≡ n → s₁ ≡ lay st at a → s₂ ≡ lay s₁ (at + length a) xi → s₃
+    ≡ lay s₂ (at + length a + n) w
     → s₃ ≡ lay st at (a ++ xi ++ w)
 three st a xi w s₁ s₂ s₃ at n l x e₁ e₂ e₃ =
     two-laid st (a ++ xi) at l w s₂ s₃ (at + length a + n) (omega (arith, length-append a xi)) (two-laid st a at l xi s₁ s₂ (at + length a) refl e₁ e₂) e₃
 
-module _ (n at : ℕ) (a mean variance store l₀ xi₀ l₁ xi₁ xi₂ w₂ : List Float) (r : Exchanged) (room : Room n at a mean variance store) (nl : length l₀ ≡ n * n) (nx : length xi₀ ≡ n)
+module _ (n at : ℕ) (a mean variance store l₀ xi₀ l₁ xi₁ xi₂ w₂ : List Float) (r : Exchanged) (room : Room n at a mean variance store)
+    (nl : length l₀ ≡ n * n) (nx : length xi₀ ≡ n)
     (el : l₁ ≡ lay l₀ 0 variance) (ex : xi₁ ≡ lay xi₀ 0 mean) (ew : exchanged n xi₁ l₁ ≡ told r xi₂ w₂) where
   came : exchanged n mean variance ≡ told r xi₂ w₂
   came =
@@ -34,7 +36,8 @@ module _ (n at : ℕ) (a mean variance store l₀ xi₀ l₁ xi₁ xi₂ w₂ : 
   unfolding told endOf
   at-overflow p = let e = came in rw (e, p) (refl, refl)
 
-  pub when-done : r ≡ Done → (s₁ s₂ s₃ : List Float) → length xi₂ ≡ n → s₁ ≡ lay store at a → s₂ ≡ lay s₁ (at + length a) xi₂ → s₃ ≡ lay s₂ (at + length a + n) w₂
+  pub when-done : r ≡ Done → (s₁ s₂ s₃ : List Float) → length xi₂ ≡ n → s₁ ≡ lay store at a → s₂ ≡ lay s₁ (at + length a) xi₂ → s₃
+      ≡ lay s₂ (at + length a + n) w₂
       → (Done ≡ endOf (exchanged n mean variance)) × (s₃ ≡ laid (exchanged n mean variance) a store at)
   unfolding told endOf
   when-done p s₁ s₂ s₃ x e₁ e₂ e₃ =

@@ -33,13 +33,15 @@ module _ (f : Frame) (w x : List Float) (l : Laid f (length w)) (e : x ≡ zeroe
 
   at-zero : (k : ℕ) → k < f .end → getD t k nan ≡ plus-zero
   at-zero k h =
-      subst (λ (n : ℕ). getD (splice w 0 (f .end) x) n nan ≡ getD x k nan) (zero-add k) (splice-in w 0 (f .end) x (omega arith) (l .fits) x-long k (omega arith))
+      subst (λ (n : ℕ). getD (splice w 0 (f .end) x) n nan ≡ getD x k nan) (zero-add k)
+      (splice-in w 0 (f .end) x (omega arith) (l .fits) x-long k (omega arith))
       ∙ ap (λ (y : List Float). getD y k nan) x-zero
       ∙ getD-replicate (f .end) k plus-zero nan h
 
   part-zero : (a b n : ℕ) → b ≤ f .end → b - a ≡ n → part t a b ≡ replicate n plus-zero
   part-zero a b n h g =
-      let r : length (part (splice w 0 (f .end) x) a b) ≡ n = length-part (splice w 0 (f .end) x) a b (rw (length-splice w 0 (f .end) x (omega arith) (l .fits) x-long) (omega (arith, l .fits))) ∙ g in
+      let r : length (part (splice w 0 (f .end) x) a b) ≡ n = length-part (splice w 0 (f .end) x) a b
+      (rw (length-splice w 0 (f .end) x (omega arith) (l .fits) x-long) (omega (arith, l .fits))) ∙ g in
       ext-getD nan _ _ (r ∙ sym (length-replicate n plus-zero))
       (λ k b′. getD-part (splice w 0 (f .end) x) a b k (omega arith) ∙ at-zero (a + k) (omega arith) ∙ sym (getD-replicate n k plus-zero nan (omega arith)))
 

@@ -27,17 +27,21 @@ pub left-same : (u v d e : ℕ) (t : List Float) (o p : Outcome) → u ≡ v →
 left-same u v d e t o p eu ed eo h = rw (eu, ed, eo) at h
 
 module _ {u d : ℕ} {m : Layout} {factors messages : List Float} {work : ℕ} {keys heads slots : List ℕ} (q : Whole u d m factors messages work keys heads slots)
-    {y r : ℕ} {z : Bool} {f : Frame} (ey : y ≡ rowsByAll m keys heads slots (length slots)) (ez : leb y d ≡ z) (er : cond z y d ≡ r) (ef : f ≡ frameOf u r d) where
+    {y r : ℕ} {z : Bool} {f : Frame} (ey : y ≡ rowsByAll m keys heads slots (length slots)) (ez : leb y d ≡ z) (er : cond z y d ≡ r)
+    (ef : f ≡ frameOf u r d) where
   same-z : leb (rowsByAll m keys heads slots (length slots)) d ≡ z
   same-z = rw (← ey) ez
 
   same-f : frameFor u d (rowsByAll m keys heads slots (length slots)) ≡ f
   same-f = rw (← ey, ez, er, ef)
 
-  pub ready-is : (i : ℕ) → i < length slots → Ready f m z (rowsOfAll m (viewAt factors messages keys heads slots) i) factors messages keys scratch-numbers (headOf heads (getD slots i 0))
+  pub ready-is : (i : ℕ) → i < length slots → Ready f m z (rowsOfAll m (viewAt factors messages keys heads slots) i) factors messages keys
+      scratch-numbers (headOf heads (getD slots i 0))
   ready-is i h =
-      subst (λ (g : Frame). Ready g m z (rowsOfAll m (viewAt factors messages keys heads slots) i) factors messages keys scratch-numbers (headOf heads (getD slots i 0))) same-f
-      (subst (λ (b : Bool). Ready (frameFor u d (rowsByAll m keys heads slots (length slots))) m b (rowsOfAll m (viewAt factors messages keys heads slots) i) factors messages keys scratch-numbers (headOf heads (getD slots i 0))) same-z (q .ready i h))
+      subst (λ (g : Frame). Ready g m z (rowsOfAll m (viewAt factors messages keys heads slots) i) factors messages keys scratch-numbers
+      (headOf heads (getD slots i 0))) same-f
+      (subst (λ (b : Bool). Ready (frameFor u d (rowsByAll m keys heads slots (length slots))) m b
+      (rowsOfAll m (viewAt factors messages keys heads slots) i) factors messages keys scratch-numbers (headOf heads (getD slots i 0))) same-z (q .ready i h))
 
   run-is : run z f m (viewAt factors messages keys heads slots) (length slots) ≡ branchedAt u d m factors messages keys heads slots
   unfolding branchedAt branched
@@ -52,8 +56,10 @@ module _ {u d : ℕ} {m : Layout} {factors messages : List Float} {work : ℕ} {
   kept-is = rw ef
 
   pub branch-is : (a : Eliminated) (t : List Float) → a ≡ answer (run z f m (viewAt factors messages keys heads slots) (length slots))
-      → leftIn (f .cleared) (f .kept) t (run z f m (viewAt factors messages keys heads slots) (length slots)) ≡ numbersIn (run z f m (viewAt factors messages keys heads slots) (length slots))
-      → (a ≡ answer (branchedAt u d m factors messages keys heads slots)) × (leftIn u d t (branchedAt u d m factors messages keys heads slots) ≡ numbersIn (branchedAt u d m factors messages keys heads slots))
+      → leftIn (f .cleared) (f .kept) t (run z f m (viewAt factors messages keys heads slots) (length slots))
+      ≡ numbersIn (run z f m (viewAt factors messages keys heads slots) (length slots))
+      → (a ≡ answer (branchedAt u d m factors messages keys heads slots)) ×
+      (leftIn u d t (branchedAt u d m factors messages keys heads slots) ≡ numbersIn (branchedAt u d m factors messages keys heads slots))
   branch-is a t ea et = (ea ∙ ap answer run-is, left-same _ _ _ _ t _ _ cleared-is kept-is run-is et)
 
 -- in x there are as many rows as kept columns

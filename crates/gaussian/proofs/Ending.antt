@@ -16,10 +16,13 @@ use Rattle.gaussian.specs.Elimination.{refused, done, lost, ended, finis
 use Rattle.gaussian.specs.Answers.{endedAs}
 
 module _ (z : Bool) (f : Frame) where
-  pub lose-is : (σ σ₁ σ₂ σ₃ σ₄ σ₅ : Sums) → σ₁ ≡ change H (λ c. solvedColumns (σ .s) (f .cleared) c 1) σ → σ₂ ≡ change G (λ c. solvedColumns (σ₁ .s) (f .cleared) c (f .rows)) σ₁
+  pub lose-is : (σ σ₁ σ₂ σ₃ σ₄ σ₅ : Sums) → σ₁ ≡ change H (λ c. solvedColumns (σ .s) (f .cleared) c 1) σ → σ₂
+      ≡ change G (λ c. solvedColumns (σ₁ .s) (f .cleared) c (f .rows)) σ₁
       → σ₃ ≡ change W (λ c. cond z c (filledUpper (columns (f .rows)) c (f .rows))) σ₂
-      → σ₄ ≡ change Xi (λ c. product Subtract (columns (f .rows)) (f .rows) (σ₃ .g) (flip (columns (f .cleared))) (pick H σ₃) (columns (f .cleared)) (f .cleared) c 1) σ₃
-      → σ₅ ≡ change W (λ c. product Subtract (columns (f .rows)) (f .rows) (σ₄ .g) (flip (columns (f .cleared))) (pick G σ₄) (columns (f .cleared)) (f .cleared) c (f .rows)) σ₄
+      → σ₄ ≡ change Xi (λ c. product Subtract (columns (f .rows)) (f .rows) (σ₃ .g) (flip (columns (f .cleared))) (pick H σ₃) (columns (f .cleared))
+      (f .cleared) c 1) σ₃
+      → σ₅ ≡ change W (λ c. product Subtract (columns (f .rows)) (f .rows) (σ₄ .g) (flip (columns (f .cleared))) (pick G σ₄) (columns (f .cleared))
+      (f .cleared) c (f .rows)) σ₄
       → σ₅ ≡ lost z f σ
   unfolding lost change
   lose-is σ σ₁ σ₂ σ₃ σ₄ σ₅ e₁ e₂ e₃ e₄ e₅ = rw (e₅, e₄, e₃, e₂, e₁)
@@ -35,10 +38,12 @@ module _ (z : Bool) (f : Frame) where
   stopped-by σ (stuck l) e = refl
 
   pub finish-done : (σ σ₁ σ₂ : Sums) (r : Factored) → r ≡ answerOf (factor (columns (f .cleared)) (f .cleared) (σ .s) (f .cleared))
-      → σ₁ ≡ change S (λ c. listOf (factor (columns (f .cleared)) (f .cleared) c (f .cleared))) σ → r ≡ Done → σ₂ ≡ lost z f σ₁ → finished z f σ ≡ endedAs Done σ₂
+      → σ₁ ≡ change S (λ c. listOf (factor (columns (f .cleared)) (f .cleared) c (f .cleared))) σ → r ≡ Done → σ₂ ≡ lost z f σ₁ → finished z f σ
+      ≡ endedAs Done σ₂
   unfolding finished endedAs change
   finish-done σ σ₁ σ₂ r er e₁ ed e₂ = rw (e₂, e₁) (done-by σ (factor (columns (f .cleared)) (f .cleared) (σ .s) (f .cleared)) (sym er ∙ ed))
 
-  pub finish-stopped : (σ σ₁ : Sums) (r : Factored) → r ≡ answerOf (factor (columns (f .cleared)) (f .cleared) (σ .s) (f .cleared)) → r ≡ Stopped → finished z f σ ≡ endedAs Stopped σ₁
+  pub finish-stopped : (σ σ₁ : Sums) (r : Factored) → r ≡ answerOf (factor (columns (f .cleared)) (f .cleared) (σ .s) (f .cleared)) → r ≡ Stopped
+      → finished z f σ ≡ endedAs Stopped σ₁
   unfolding finished endedAs
   finish-stopped σ σ₁ r er ed = stopped-by σ (factor (columns (f .cleared)) (f .cleared) (σ .s) (f .cleared)) (sym er ∙ ed)

@@ -35,7 +35,8 @@ module _ (kept cleared sizes : List ℕ) (len : length sizes ≡ max-variables) 
   unfolding layoutOf
   cleared-at key h = getD-table (λ k. member k cleared) 0 (length sizes) key false (rw len h) ∙ ap (λ (k : ℕ). member k cleared) (omega arith)
 
-  first-at : (key : ℕ) → key < max-variables → getD (layoutOf kept cleared sizes .first) key 0 ≡ cond (member key cleared) (firstOf sizes cleared key) (firstOf sizes kept key)
+  first-at : (key : ℕ) → key < max-variables → getD (layoutOf kept cleared sizes .first) key 0
+      ≡ cond (member key cleared) (firstOf sizes cleared key) (firstOf sizes kept key)
   unfolding layoutOf
   first-at key h =
       getD-table (λ k. cond (member k cleared) (firstOf sizes cleared k) (firstOf sizes kept k)) 0 (length sizes) key 0 (rw len h)
@@ -49,7 +50,8 @@ module _ (kept cleared sizes : List ℕ) (len : length sizes ≡ max-variables) 
         small = rw (size-is kept cleared sizes) (k .small);
         sits =
             rw (cleared-at key (k .listed), first-at key (k .listed), size-is kept cleared sizes)
-            (sits-by (firstOf sizes cleared key) (firstOf sizes kept key) (getD sizes key 0) (dimOf sizes cleared) (dimOf sizes kept) (member key cleared) (member key kept)
+            (sits-by (firstOf sizes cleared key) (firstOf sizes kept key) (getD sizes key 0) (dimOf sizes cleared) (dimOf sizes kept)
+            (member key cleared) (member key kept)
             (first-fits sizes cleared key) (first-fits sizes kept key) (k .placed));
       }
 
@@ -57,12 +59,14 @@ module _ (kept cleared sizes : List ℕ) (len : length sizes ≡ max-variables) 
 
   module _ (keys : List ℕ) (store : ℕ) (h : Head) (k : HeadFits kept cleared sizes keys store h) where
     fitted : (z : Bool) (r row : ℕ) → (z ≡ false → r ≡ dimOf sizes kept) → (z ≡ true → row + rowsBy (layoutOf kept cleared sizes) keys h ≤ r)
-        → Fitted (frameOf (dimOf sizes cleared) r (dimOf sizes kept)) (layoutOf kept cleared sizes) z row (h .prior) (keysAt keys h) (h .rows) (h .width) scratch-numbers (numbersOf (h .rows) (h .width))
+        → Fitted (frameOf (dimOf sizes cleared) r (dimOf sizes kept)) (layoutOf kept cleared sizes) z row (h .prior) (keysAt keys h) (h .rows)
+        (h .width) scratch-numbers (numbersOf (h .rows) (h .width))
     unfolding frameOf
     fitted z r row hx hz =
         record {
           some = λ e. rw (count-is kept cleared sizes keys store h k) (k .of-prior e .0);
-          known = λ j l. rw (key-at kept cleared sizes keys store h k j (rw (count-is kept cleared sizes keys store h k) at l)) (known-key r _ (k .known j (rw (count-is kept cleared sizes keys store h k) at l)));
+          known = λ j l. rw (key-at kept cleared sizes keys store h k j (rw (count-is kept cleared sizes keys store h k) at l))
+              (known-key r _ (k .known j (rw (count-is kept cleared sizes keys store h k) at l)));
           count = rw (count-is kept cleared sizes keys store h k) (k .count);
           narrow = k .width;
           rows = k .rows;
@@ -81,13 +85,15 @@ unfolding rowsOfAll
 rows-rise m view zero i h = absurd (omega arith)
 rows-rise m view (suc n) i h = go (decLt i n) (rows-rise m view n i)
   where
-    go : Dec (i < n) → (i < n → rowsOfAll m view i + rowsOf m (view i) ≤ rowsOfAll m view n) → rowsOfAll m view i + rowsOf m (view i) ≤ rowsOfAll m view n + rowsOf m (view n)
+    go : Dec (i < n) → (i < n → rowsOfAll m view i + rowsOf m (view i) ≤ rowsOfAll m view n)
+        → rowsOfAll m view i + rowsOf m (view i) ≤ rowsOfAll m view n + rowsOf m (view n)
     go (yes p) ih = omega (arith, ih p)
     go (no p) ih = let e : i ≡ n = omega arith in rw e (omega arith)
 
 module _ {kept cleared sizes : List ℕ} {factors messages : List Float} {work : ℕ} {keys heads slots : List ℕ} (len : length sizes ≡ max-variables)
     (q : Asked kept cleared sizes factors messages work keys heads slots) where
-  rows-all : (n : ℕ) → n ≤ length slots → (rowsByAll (layoutOf kept cleared sizes) keys heads slots n ≡ rowsOfAll (layoutOf kept cleared sizes) (viewAt factors messages keys heads slots) n)
+  rows-all : (n : ℕ) → n ≤ length slots → (rowsByAll (layoutOf kept cleared sizes) keys heads slots n
+      ≡ rowsOfAll (layoutOf kept cleared sizes) (viewAt factors messages keys heads slots) n)
       × (rowsByAll (layoutOf kept cleared sizes) keys heads slots n ≤ max-total * n)
   unfolding rowsByAll rowsOfAll viewAt
   rows-all zero h = (refl, omega arith)
@@ -100,12 +106,17 @@ module _ {kept cleared sizes : List ℕ} {factors messages : List Float} {work :
 
   -- in z the rows of each slot are within those of all
   rows-inside : (i : ℕ) → i < length slots
-      → rowsOfAll (layoutOf kept cleared sizes) (viewAt factors messages keys heads slots) i + rowsBy (layoutOf kept cleared sizes) keys (headOf heads (getD slots i 0))
+      → rowsOfAll (layoutOf kept cleared sizes) (viewAt factors messages keys heads slots) i + rowsBy (layoutOf kept cleared sizes) keys
+      (headOf heads (getD slots i 0))
       ≤ rowsByAll (layoutOf kept cleared sizes) keys heads slots (length slots)
   unfolding viewAt
   rows-inside i h =
       let k : Head = headOf heads (getD slots i 0) in
-      rw (rows-are kept cleared sizes keys _ k (q .fits i h) (part (storeOf (k .slot) factors messages) (k .at) (k .at + numbersOf (k .rows) (k .width))), rows-all (length slots) (omega arith) .0)
+      rw (
+        rows-are kept cleared sizes keys _ k (q .fits i h) (part (storeOf (k .slot) factors messages) (k .at)
+            (k .at + numbersOf (k .rows) (k .width))),
+        rows-all (length slots) (omega arith) .0,
+      )
       (rows-rise (layoutOf kept cleared sizes) (viewAt factors messages keys heads slots) (length slots) i h)
 
   pub enough : Whole (dimOf sizes cleared) (dimOf sizes kept) (layoutOf kept cleared sizes) factors messages work keys heads slots
@@ -124,8 +135,11 @@ module _ {kept cleared sizes : List ℕ} {factors messages : List Float} {work :
       }
     where
       ready : (i : ℕ) → i < length slots
-          → Ready (frameFor (dimOf sizes cleared) (dimOf sizes kept) (rowsByAll (layoutOf kept cleared sizes) keys heads slots (length slots))) (layoutOf kept cleared sizes)
-          (leb (rowsByAll (layoutOf kept cleared sizes) keys heads slots (length slots)) (dimOf sizes kept)) (rowsOfAll (layoutOf kept cleared sizes) (viewAt factors messages keys heads slots) i) factors messages keys scratch-numbers (headOf heads (getD slots i 0))
+          → Ready (frameFor (dimOf sizes cleared) (dimOf sizes kept) (rowsByAll (layoutOf kept cleared sizes) keys heads slots (length slots)))
+          (layoutOf kept cleared sizes)
+          (leb (rowsByAll (layoutOf kept cleared sizes) keys heads slots (length slots)) (dimOf sizes kept))
+          (rowsOfAll (layoutOf kept cleared sizes) (viewAt factors messages keys heads slots) i) factors messages keys scratch-numbers
+          (headOf heads (getD slots i 0))
       ready i h =
           let k = q .fits i h in
           let b = rows-all i (omega arith) in

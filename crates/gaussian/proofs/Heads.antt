@@ -41,6 +41,7 @@ module _ (kept cleared sizes keys : List ℕ) (store : ℕ) (h : Head) (k : Head
             (omega (arith, k .listed), subst (λ (n : ℕ). getD keys n 0 < max-variables) (omega arith) (k .known 0 c .listed));
       }
 
-  pub rows-are : (t : List Float) → rowsBy (layoutOf kept cleared sizes) keys h ≡ rowsOf (layoutOf kept cleared sizes) (viewOf (h .prior) (keysAt keys h) (h .rows) (h .width) t)
+  pub rows-are : (t : List Float) → rowsBy (layoutOf kept cleared sizes) keys h
+      ≡ rowsOf (layoutOf kept cleared sizes) (viewOf (h .prior) (keysAt keys h) (h .rows) (h .width) t)
   unfolding rowsBy
   rows-are t = rows-of-view (layoutOf kept cleared sizes) (h .prior) (keysAt keys h) (getD keys (h .first) 0) (h .rows) (h .width) t prior-size first-key

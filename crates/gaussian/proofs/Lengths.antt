@@ -24,7 +24,8 @@ use Rattle.workspace.specs.declared.Frame.{Frame}
 use Rattle.workspace.specs.declared.Part.{Part}
 use Rattle.workspace.specs.declared.Part.the-variants.{S, H, G, A, Xi, W}
 use Rattle.slots.specs.Layouts.{dimOf, layoutOf, find}
-use Rattle.slots.specs.Views.{FactorView, prior, likelihood, rowsOfAll, withProduct, withProducts, withOwn, withKey, withKeys, withRows, withPrior, withView, withViews}
+use Rattle.slots.specs.Views.{FactorView, prior, likelihood, rowsOfAll, withProduct, withProducts, withOwn, withKey, withKeys, withRows, withPrior}
+use Rattle.slots.specs.Views.{withView, withViews}
 use Rattle.slots.specs.declared.layout.Layout.{Layout}
 use Rattle.slots.specs.declared.layout.Spot.{Spot}
 use Rattle.slots.specs.declared.sums.Target.{Target}
@@ -81,7 +82,8 @@ module _ (r d : ℕ) where
   of-own true true f row k b xi w y σ l = changed G _ _ (λ c. product-length _ _ _ _ _ _ _ _ c _) (changed H _ σ (λ c. product-length _ _ _ _ _ _ _ _ c _) l)
   of-own true false f row k b xi w y σ l = changed A _ σ (λ c. stamp-length _ _ _ _ _ _ c) l
 
-  of-key : (z : Bool) (f : Frame) (m : Layout) (row : ℕ) (keys : List ℕ) (y : ℕ) (a xi w : List Float) (k : Spot) (b : List Float) (σ : Sums) → Long r d σ → Long r d (withKey z f m row keys y a xi w k b σ)
+  of-key : (z : Bool) (f : Frame) (m : Layout) (row : ℕ) (keys : List ℕ) (y : ℕ) (a xi w : List Float) (k : Spot) (b : List Float) (σ : Sums)
+      → Long r d σ → Long r d (withKey z f m row keys y a xi w k b σ)
   unfolding withKey withProducts
   of-key z f m row keys y a xi w k b σ l = turned _ _ (length keys) (λ j σ h. of-product _ _ _ _ _ _ σ h) (of-own z (k .cleared) f row k b xi w y σ l)
 
@@ -110,13 +112,23 @@ module _ (r d : ℕ) where
 of-begun : (z : Bool) (f : Frame) → Long (f .rows) (f .kept) (begun z f)
 unfolding begun
 of-begun true f = record { of-a = length-replicate _ plus-zero; of-xi = length-replicate _ plus-zero; of-w = length-replicate _ plus-zero }
-of-begun false f = record { of-a = diagonal-length _ _ _ ∙ length-replicate _ plus-zero; of-xi = length-replicate _ plus-zero; of-w = length-replicate _ plus-zero }
+of-begun false f = record {
+  of-a = diagonal-length _ _ _ ∙ length-replicate _ plus-zero;
+  of-xi = length-replicate _ plus-zero;
+  of-w = length-replicate
+      _ plus-zero;
+}
 
 of-lost : (r d : ℕ) (z : Bool) (f : Frame) (σ : Sums) → Long r d σ → Long r d (lost z f σ)
 unfolding lost
 of-lost r d true f σ l = record { of-a = l .of-a; of-xi = product-length _ _ _ _ _ _ _ _ _ _ ∙ l .of-xi; of-w = product-length _ _ _ _ _ _ _ _ _ _ ∙ l .of-w }
 of-lost r d false f σ l =
-    record { of-a = l .of-a; of-xi = product-length _ _ _ _ _ _ _ _ _ _ ∙ l .of-xi; of-w = product-length _ _ _ _ _ _ _ _ _ _ ∙ (upper-length _ _ (σ .w) ∙ l .of-w) }
+    record {
+      of-a = l .of-a;
+      of-xi = product-length _ _ _ _ _ _ _ _ _ _ ∙ l .of-xi;
+      of-w = product-length _ _ _ _ _ _ _ _ _ _
+          ∙ (upper-length _ _ (σ .w) ∙ l .of-w);
+    }
 
 of-factor : (r d : ℕ) (σ : Sums) (t : List Float) → Long r d σ → Long r d (change S (λ c. t) σ)
 unfolding change
@@ -132,14 +144,16 @@ of-message : (y d r : ℕ) (σ : Sums) → r ≡ messageRows y d → Long r d σ
 of-message y d r σ e l true = record { of-rows = e; of-a = l .of-a; of-xi = l .of-xi; of-w = l .of-w }
 of-message y d r σ e l false = refl
 
-of-ended : (y : ℕ) (z : Bool) (f : Frame) (σ : Sums) → f .rows ≡ messageRows y (f .kept) → Long (f .rows) (f .kept) σ → (F : Left) → SizedIn y (f .kept) (outcome (f .rows) (ended z f σ F))
+of-ended : (y : ℕ) (z : Bool) (f : Frame) (σ : Sums) → f .rows ≡ messageRows y (f .kept) → Long (f .rows) (f .kept) σ → (F : Left)
+    → SizedIn y (f .kept) (outcome (f .rows) (ended z f σ F))
 unfolding ended outcome
 of-ended y z f σ e l (stuck t) = refl
 of-ended y z f σ e l (whole t) =
     let ρ : Sums = lost z f (change S (λ c. t) σ) in
     of-message y (f .kept) (f .rows) ρ e (of-lost (f .rows) (f .kept) z f _ (of-factor (f .rows) (f .kept) σ t l)) (allFinite (ρ .a ++ (ρ .xi ++ ρ .w)))
 
-of-run : (y : ℕ) (z : Bool) (f : Frame) (m : Layout) (view : ℕ → FactorView) (n : ℕ) → f .rows ≡ messageRows y (f .kept) → SizedIn y (f .kept) (run z f m view n)
+of-run : (y : ℕ) (z : Bool) (f : Frame) (m : Layout) (view : ℕ → FactorView) (n : ℕ) → f .rows ≡ messageRows y (f .kept)
+    → SizedIn y (f .kept) (run z f m view n)
 unfolding run finished
 of-run y z f m view n e = of-ended y z f _ e (of-views (f .rows) (f .kept) z f m view (begun z f) n (of-begun z f)) _
 
@@ -152,7 +166,8 @@ of-eliminate : (views : List FactorView) (kept cleared sizes : List ℕ)
 unfolding eliminate
 of-eliminate views kept cleared sizes = of-branched _ _ _ _ _ _
 
-pub message-sized : (views : List FactorView) (kept cleared sizes : List ℕ) (r : ℕ) (a xi w : List Float) → eliminate views kept cleared sizes ≡ message r a xi w
+pub message-sized : (views : List FactorView) (kept cleared sizes : List ℕ) (r : ℕ) (a xi w : List Float) → eliminate views kept cleared sizes
+    ≡ message r a xi w
     → Sized (rowsOfAll (layoutOf kept cleared sizes) (nth views) (length views)) (dimOf sizes kept) r a xi w
 message-sized views kept cleared sizes r a xi w e = subst (SizedIn _ _) e (of-eliminate views kept cleared sizes)
 

@@ -42,7 +42,8 @@ module _ (m : Layout) (s t : ℕ → FactorView) where
       ap (λ (σ : Sums). outcome (f .rows) (finished (leb y d) f σ)) (views-same (leb y d) f (begun (leb y d) f) n h)
 
 module _ (factors messages : List Float) (keys heads slots kept cleared sizes : List ℕ) where
-  pub listed-is : branchedAt (dimOf sizes cleared) (dimOf sizes kept) (layoutOf kept cleared sizes) factors messages keys heads slots ≡ eliminate (viewsOf factors messages keys heads slots) kept cleared sizes
+  pub listed-is : branchedAt (dimOf sizes cleared) (dimOf sizes kept) (layoutOf kept cleared sizes) factors messages keys heads slots
+      ≡ eliminate (viewsOf factors messages keys heads slots) kept cleared sizes
   unfolding branchedAt eliminate viewsOf viewAt
   listed-is =
       let m : Layout = layoutOf kept cleared sizes in
@@ -53,11 +54,14 @@ module _ (factors messages : List Float) (keys heads slots kept cleared sizes : 
       (rowsOfAll m (viewAt factors messages keys heads slots) (length slots)) (length slots) e)
 
   pub slots-are : (u d : ℕ) (m : Layout) (a : Eliminated) (t : List Float) → u ≡ dimOf sizes cleared → d ≡ dimOf sizes kept → m ≡ layoutOf kept cleared sizes
-      → a ≡ answer (branchedAt u d m factors messages keys heads slots) → leftIn u d t (branchedAt u d m factors messages keys heads slots) ≡ numbersIn (branchedAt u d m factors messages keys heads slots)
+      → a ≡ answer (branchedAt u d m factors messages keys heads slots) → leftIn u d t (branchedAt u d m factors messages keys heads slots)
+      ≡ numbersIn (branchedAt u d m factors messages keys heads slots)
       → (a ≡ answer (eliminate (viewsOf factors messages keys heads slots) kept cleared sizes))
-      × (leftIn (dimOf sizes cleared) (dimOf sizes kept) t (eliminate (viewsOf factors messages keys heads slots) kept cleared sizes) ≡ numbersIn (eliminate (viewsOf factors messages keys heads slots) kept cleared sizes))
+      × (leftIn (dimOf sizes cleared) (dimOf sizes kept) t (eliminate (viewsOf factors messages keys heads slots) kept cleared sizes)
+      ≡ numbersIn (eliminate (viewsOf factors messages keys heads slots) kept cleared sizes))
   slots-are u d m a t eu ed em ea et =
-      let g : branchedAt u d m factors messages keys heads slots ≡ eliminate (viewsOf factors messages keys heads slots) kept cleared sizes = rw (eu, ed, em) listed-is in
+      let g : branchedAt u d m factors messages keys heads slots ≡ eliminate (viewsOf factors messages keys heads slots) kept cleared sizes = rw
+      (eu, ed, em) listed-is in
       (ea ∙ ap answer g, left-same _ _ _ _ t _ _ eu ed g et)
 
   pub rows-listed : rowsOfAll (layoutOf kept cleared sizes) (viewAt factors messages keys heads slots) (length slots)
@@ -65,4 +69,5 @@ module _ (factors messages : List Float) (keys heads slots kept cleared sizes : 
   unfolding viewsOf viewAt
   rows-listed =
       let g : ℕ → FactorView = λ number. readView factors messages keys (headOf heads number) in
-      rw (length-map slots g) (rows-same (layoutOf kept cleared sizes) (viewAt factors messages keys heads slots) (nth (map g slots)) (length slots) (λ i h. sym (getD-map g slots i _ h)))
+      rw (length-map slots g) (rows-same (layoutOf kept cleared sizes) (viewAt factors messages keys heads slots) (nth (map g slots)) (length slots)
+      (λ i h. sym (getD-map g slots i _ h)))

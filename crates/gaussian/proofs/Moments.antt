@@ -32,9 +32,14 @@ padded-is n s t e =
     ap (λ (l : List Float). t ++ l) (drop-replicate n (s - 0) ∙ ap (λ (k : ℕ). replicate k plus-zero) d)
 
 module _ (key s y : ℕ) (message mean covariance : List Float) (r : Exchanged)
-    (em : momentsOf y s (part message 0 (y * s)) (part message (y * s) (y * s + y)) (part message (y * s + y) (y * s + y + y * y)) ≡ told r mean covariance) where
+    (em : momentsOf y s (part message 0 (y * s)) (part message (y * s) (y * s + y)) (part message (y * s + y) (y * s + y + y * y))
+    ≡ told r mean covariance) where
   pub from-done : length mean ≡ s → length covariance ≡ s * s → r ≡ Done
-      → record { ending = ending.Done; marginal = marginalAt key s (splice (replicate max-size plus-zero) 0 s mean) (splice (replicate (max-size * max-size) plus-zero) 0 (s * s) covariance) } ≡ marginalOf key s y message
+      → record {
+        ending = ending.Done;
+        marginal = marginalAt key s (splice (replicate max-size plus-zero) 0 s mean)
+            (splice (replicate (max-size * max-size) plus-zero) 0 (s * s) covariance);
+      } ≡ marginalOf key s y message
   unfolding marginalOf answerOf told
   from-done lm lc e = rw (em, e, padded-is max-size s mean lm, padded-is (max-size * max-size) (s * s) covariance lc)
 

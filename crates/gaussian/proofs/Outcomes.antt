@@ -1,4 +1,5 @@
--- What the answer of an elimination tells of its outcome, and that the message in the work store is the one that is sent, or that the marginal is made of. Assumes nothing.
+-- What the answer of an elimination tells of its outcome, and that the message in the work store is the one that is sent, or that the marginal is
+-- made of. Assumes nothing.
 use Prim.Native.Nat.{ℕ, _+_, _-_, _*_, _≤_}
 use mathlib.Core.Path.{_≡_, refl, ap, _∙_, sym}
 use mathlib.Core.List.{List, [], _++_}
@@ -95,7 +96,8 @@ module _ (n k : ℕ) (a xi w : List Float) (la : length a ≡ n) (lx : length xi
 
 -- its rows by the table of heads, and its lengths
 pub asked-sized : {kept cleared sizes : List ℕ} {factors messages : List Float} {work : ℕ} {keys heads slots : List ℕ} → length sizes ≡ max-variables
-    → Asked kept cleared sizes factors messages work keys heads slots → (r : ℕ) (a xi w : List Float) → eliminate (viewsOf factors messages keys heads slots) kept cleared sizes ≡ message r a xi w
+    → Asked kept cleared sizes factors messages work keys heads slots → (r : ℕ) (a xi w : List Float)
+    → eliminate (viewsOf factors messages keys heads slots) kept cleared sizes ≡ message r a xi w
     → Sized (rowsByAll (layoutOf kept cleared sizes) keys heads slots (length slots)) (dimOf sizes kept) r a xi w
 asked-sized {kept} {cleared} {sizes} {factors} {messages} {work} {keys} {heads} {slots} len q r a xi w e =
     rw (enough len q .rows, rows-listed factors messages keys heads slots kept cleared sizes)
@@ -118,18 +120,29 @@ module _ {kept cleared sizes : List ℕ} {factors messages : List Float} {work :
 
   module _ (t : List Float) (et : leftIn (dimOf sizes cleared) (dimOf sizes kept) t (eliminate (viewsOf factors messages keys heads slots) kept cleared sizes)
       ≡ numbersIn (eliminate (viewsOf factors messages keys heads slots) kept cleared sizes)) where
-    standing : part t (frameOf (dimOf sizes cleared) r (dimOf sizes kept) .a) (frameOf (dimOf sizes cleared) r (dimOf sizes kept) .end) ≡ came .a ++ (came .xi ++ came .w)
+    standing : part t (frameOf (dimOf sizes cleared) r (dimOf sizes kept) .a) (frameOf (dimOf sizes cleared) r (dimOf sizes kept) .end)
+        ≡ came .a ++ (came .xi ++ came .w)
     unfolding leftIn numbersIn
     standing = rw (came .is) at et
 
     pub message-sent : (l y : List Float) (to : ℕ)
-        → y ≡ splice l to (to + numbersOf r (dimOf sizes kept)) (part t (frameOf (dimOf sizes cleared) r (dimOf sizes kept) .a) (frameOf (dimOf sizes cleared) r (dimOf sizes kept) .end))
-        → (Rows r ≡ answer (eliminate (viewsOf factors messages keys heads slots) kept cleared sizes)) × (y ≡ stored l to (eliminate (viewsOf factors messages keys heads slots) kept cleared sizes))
+        → y ≡ splice l to (to + numbersOf r (dimOf sizes kept)) (part t (frameOf (dimOf sizes cleared) r (dimOf sizes kept) .a)
+        (frameOf (dimOf sizes cleared) r (dimOf sizes kept) .end))
+        → (Rows r ≡ answer (eliminate (viewsOf factors messages keys heads slots) kept cleared sizes)) ×
+        (y ≡ stored l to (eliminate (viewsOf factors messages keys heads slots) kept cleared sizes))
     unfolding stored
-    message-sent l y to ey =
-        (sym er ∙ ex, ey ∙ rw (came .is, standing, whole-length (r * dimOf sizes kept) r (came .a) (came .xi) (came .w) (sized .of-a) (sized .of-xi) (sized .of-w)))
+    message-sent l y to ey = (
+      sym er ∙ ex,
+      ey ∙ rw (
+        came .is,
+        standing,
+        whole-length (r * dimOf sizes kept) r (came .a) (came .xi) (came .w) (sized .of-a) (sized .of-xi)
+            (sized .of-w),
+      ),
+    )
 
-    marginal-kept : (key : ℕ) → marginalOf key (dimOf sizes kept) r (part t (frameOf (dimOf sizes cleared) r (dimOf sizes kept) .a) (frameOf (dimOf sizes cleared) r (dimOf sizes kept) .end))
+    marginal-kept : (key : ℕ) → marginalOf key (dimOf sizes kept) r
+        (part t (frameOf (dimOf sizes cleared) r (dimOf sizes kept) .a) (frameOf (dimOf sizes cleared) r (dimOf sizes kept) .end))
         ≡ marginalFrom key (dimOf sizes kept) (eliminate (viewsOf factors messages keys heads slots) kept cleared sizes)
     unfolding marginalOf marginalFrom
     marginal-kept key =

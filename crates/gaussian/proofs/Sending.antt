@@ -21,7 +21,8 @@ use Rattle.gaussian.specs.Answers.{endedAs, answer, numbersIn, leftIn}
 use Rattle.gaussian.specs.declared.Eliminated.the-variants.{Rows, Pivot, Unbounded}
 
 -- the sums from those before the first factor
-pub views-from : (z : Bool) (f : Frame) (m : Layout) (view : ℕ → FactorView) (n : ℕ) (σ₀ : Sums) → σ₀ ≡ begun z f → (σ₁ : Sums) → σ₁ ≡ withViews z f m view σ₀ n → σ₁ ≡ withViews z f m view (begun z f) n
+pub views-from : (z : Bool) (f : Frame) (m : Layout) (view : ℕ → FactorView) (n : ℕ) (σ₀ : Sums) → σ₀ ≡ begun z f → (σ₁ : Sums) → σ₁
+    ≡ withViews z f m view σ₀ n → σ₁ ≡ withViews z f m view (begun z f) n
 views-from z f m view n σ₀ e σ₁ g = rw e at g
 
 module _ (z : Bool) (f : Frame) (m : Layout) (view : ℕ → FactorView) (n : ℕ) (σ : Sums) (es : σ ≡ withViews z f m view (begun z f) n) (r : Factored) where
@@ -32,7 +33,8 @@ module _ (z : Bool) (f : Frame) (m : Layout) (view : ℕ → FactorView) (n : �
       let g : finished z f (withViews z f m view (begun z f) n) ≡ refused = rw (← es, ef, er) in
       rw g (refl, refl)
 
-  module _ (t : List Float) (ld : Laid f (length t)) (ef : finished z f σ ≡ endedAs r (cut f t)) (er : r ≡ Done) (b : Bool) (eb : b ≡ allFinite (part t (f .a) (f .end))) where
+  module _ (t : List Float) (ld : Laid f (length t)) (ef : finished z f σ ≡ endedAs r (cut f t)) (er : r ≡ Done) (b : Bool)
+      (eb : b ≡ allFinite (part t (f .a) (f .end))) where
     done-is : finished z f (withViews z f m view (begun z f) n) ≡ done (cut f t)
     unfolding endedAs
     done-is = rw (← es, ef, er)
@@ -55,6 +57,7 @@ module _ (z : Bool) (f : Frame) (m : Layout) (view : ℕ → FactorView) (n : �
     unfolding run outcome answer leftIn numbersIn
     unbounded-is h = rw (done-is, in-order, ← eb, h) (refl, refl)
 
-    pub message-is : b ≡ true → (Rows (f .rows) ≡ answer (run z f m view n)) × (leftIn (f .cleared) (f .kept) t (run z f m view n) ≡ numbersIn (run z f m view n))
+    pub message-is : b ≡ true → (Rows (f .rows) ≡ answer (run z f m view n)) ×
+        (leftIn (f .cleared) (f .kept) t (run z f m view n) ≡ numbersIn (run z f m view n))
     unfolding run outcome answer leftIn numbersIn
     message-is h = rw (done-is, in-order, ← eb, h, in-order, a-at, end-at) (refl, refl)

@@ -25,7 +25,8 @@ stored-tells r o l s to (e, h) = (e, (h, ap eliminatedTold e ∙ go o))
     go unbounded = refl
 
 -- the solving for a mean and a covariance
-pub solved-tells : (m : Form) (r : Exchanged) (mean covariance : List Float) → m ≡ told r mean covariance → (m ≡ told r mean covariance) × (solvedTold r ≡ momentsTold m)
+pub solved-tells : (m : Form) (r : Exchanged) (mean covariance : List Float) → m ≡ told r mean covariance
+    → (m ≡ told r mean covariance) × (solvedTold r ≡ momentsTold m)
 unfolding told solvedTold momentsTold
 solved-tells m r mean covariance e = (e, go r ∙ sym (ap momentsTold e))
   where
@@ -41,7 +42,8 @@ by-moments key s (form mean covariance) = refl
 by-moments key s noPivot = refl
 by-moments key s noNumber = refl
 
-pub from-tells : (key s y : ℕ) (t : List Float) (x : Answer) → x ≡ marginalOf key s y t → (x ≡ marginalOf key s y t) × (endingTold (x .ending) ≡ momentsTold (momentsIn y s t))
+pub from-tells : (key s y : ℕ) (t : List Float) (x : Answer) → x ≡ marginalOf key s y t
+    → (x ≡ marginalOf key s y t) × (endingTold (x .ending) ≡ momentsTold (momentsIn y s t))
 unfolding marginalOf
 from-tells key s y t x e = (e, ap (λ (a : Answer). endingTold (a .ending)) e ∙ by-moments key s (momentsIn y s t))
 

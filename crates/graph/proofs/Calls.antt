@@ -18,7 +18,8 @@ use Rattle.graph.specs.declared.Outcome.the-variants.{Key}
 use Rattle.graph.specs.declared.refusal.Refusal.{Refusal}
 use Rattle.graph.proofs.Checking.{Named, Taken, variable-cases, prior-cases, observation-cases}
 
--- A call with these keys and this store is turned back and leaves the graph and the store, or adds a variable, or adds a factor of the keys and stores its numbers.
+-- A call with these keys and this store is turned back and leaves the graph and the store, or adds a variable, or adds a factor of the keys and
+-- stores its numbers.
 pub data Comes (g : Graph) (keys : List ℕ) (store : List Float) : Added → List Float → Type 0 where
   turned : (why : Refusal) → Comes g keys store (refused g why) store
   named : (name : Symbol) (size : ℕ) → Named g name size → Comes g keys store (record { graph = withVariable g name size; outcome = Key (g .variables) }) store

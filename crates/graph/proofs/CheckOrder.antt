@@ -28,8 +28,10 @@ pub turned-back : (g : Graph) (f : Factor) (store s : List Float) (v : Verdict) 
 turned-back g f store s v why r e h k = rw e (h, k)
 
 -- with what the code has tested, and the start and the count of numbers that it has found
-module _ (g : Graph) (f : Factor) (a mean variance store : List Float) (h5 : lengthsFit (g .sizes) f (length a) (length mean) (length variance) ≡ true) (h12 : g .count < max-factors)
-    (start n : ℕ) (es : start ≡ offset g (g .count)) (en : n ≡ numbers (g .sizes) f) (h13 : start + n ≤ length store) (h6 : givenFinite a mean variance ≡ true) where
+module _ (g : Graph) (f : Factor) (a mean variance store : List Float)
+    (h5 : lengthsFit (g .sizes) f (length a) (length mean) (length variance) ≡ true) (h12 : g .count < max-factors)
+    (start n : ℕ) (es : start ≡ offset g (g .count)) (en : n ≡ numbers (g .sizes) f) (h13 : start + n ≤ length store)
+    (h6 : givenFinite a mean variance ≡ true) where
   passed : Passed g f a mean variance store
   passed = record { lengths = h5; few = h12; room = omega arith; finite = h6 }
 
@@ -46,7 +48,8 @@ module _ (g : Graph) (f : Factor) (a mean variance store : List Float) (h5 : len
   module _ (s : List Float) where
     -- the answer and the store, by how the weighing ended
     abbrev pub Ends : Exchanged → Type 0
-    Ends Done = (_≡_ {A = Added} record { graph = withFactor g f; outcome = Number (g .count) } (settle g f (checks g f a mean variance store))) × (s ≡ stored g store (checks g f a mean variance store))
+    Ends Done = (_≡_ {A = Added} record { graph = withFactor g f; outcome = Number (g .count) } (settle g f (checks g f a mean variance store))) ×
+        (s ≡ stored g store (checks g f a mean variance store))
     Ends Pivot = (checks g f a mean variance store ≡ refuse VariancePivot) × (s ≡ store)
     Ends Unbounded = (checks g f a mean variance store ≡ refuse NotFinite) × (s ≡ store)
 

@@ -1,4 +1,5 @@
--- What the checks of a call come to: each way out by the checks before it, and for each call one law by cases, so that no other proof opens a chain of checks. Assumes nothing.
+-- What the checks of a call come to: each way out by the checks before it, and for each call one law by cases, so that no other proof opens a chain
+-- of checks. Assumes nothing.
 use Prim.Native.Nat.{ℕ, _+_, _*_, _<_, _≤_}
 use mathlib.Core.Path.{_≡_, refl}
 use mathlib.Core.Bool.{Bool, true, false}
@@ -15,13 +16,15 @@ use Rattle.factor.specs.declared.Factor.{Factor}
 use Rattle.factor.proofs.Counting.{every-at}
 use Rattle.factor.proofs.Fitting.{prior-fits, observation-fits, observation-long}
 use Rattle.graph.specs.Record.{sizeAt, scalar, sizeFits, free, total, offset, valid}
-use Rattle.graph.specs.Registration.{refused, withVariable, addVariable, Verdict, accept, refuse, weighedVerdict, factorVerdict, priorVerdict, countsFit, observationVerdict}
+use Rattle.graph.specs.Registration.{refused, withVariable, addVariable, Verdict, accept, refuse, weighedVerdict, factorVerdict, priorVerdict}
+use Rattle.graph.specs.Registration.{countsFit, observationVerdict}
 use Rattle.graph.specs.declared.Symbol.{Symbol}
 use Rattle.graph.specs.declared.Graph.{Graph}
 use Rattle.graph.specs.declared.Added.{Added}
 use Rattle.graph.specs.declared.Outcome.the-variants.{Key}
 use Rattle.graph.specs.declared.refusal.Refusal.{Refusal}
-use Rattle.graph.specs.declared.refusal.Refusal.the-variants.{NotALetter, SizeOutside, KeysNotRising, CountOutside, LengthUnlike, NotFinite, NameTaken, NoSuchKey, PastLimit, FactorStoreShort, NoSuchGraph}
+use Rattle.graph.specs.declared.refusal.Refusal.the-variants.{NotALetter, SizeOutside, KeysNotRising, CountOutside, LengthUnlike, NotFinite}
+use Rattle.graph.specs.declared.refusal.Refusal.the-variants.{NameTaken, NoSuchKey, PastLimit, FactorStoreShort, NoSuchGraph}
 
 -- a check passes or fails
 by : (b : Bool) {P : Type 0} → (b ≡ true → P) → (b ≡ false → P) → P
@@ -81,7 +84,8 @@ module _ (g : Graph) (name : Symbol) (size : ℕ) where
   unfolding addVariable every
   named n = simp (n .sound, n .letter, n .sized, n .new, lt-ltb _ _ (n .few), le-leb _ _ (n .room))
 
-  pub variable-cases : (P : Added → Type 0) → ((why : Refusal) → P (refused g why)) → (Named → P (record { graph = withVariable g name size; outcome = Key (g .variables) })) → P registering
+  pub variable-cases : (P : Added → Type 0) → ((why : Refusal) → P (refused g why))
+      → (Named → P (record { graph = withVariable g name size; outcome = Key (g .variables) })) → P registering
   variable-cases P back taken =
       by (valid g)
       (λ h30. by (scalar (name .0))
@@ -140,7 +144,8 @@ module _ (g : Graph) (f : Factor) (a mean variance store : List Float) where
     weighed-cases noPivot taken = back _
     weighed-cases noNumber taken = back _
 
-    pub factor-cases : (Passed g f a mean variance store → (xi w : List Float) → exchanged (f .rows) mean variance ≡ form xi w → P (accept (a ++ xi ++ w))) → P checks
+    pub factor-cases : (Passed g f a mean variance store → (xi w : List Float) → exchanged (f .rows) mean variance ≡ form xi w
+        → P (accept (a ++ xi ++ w))) → P checks
     factor-cases taken =
         by (lengthsFit (g .sizes) f (length a) (length mean) (length variance))
         (λ h5. by-lt (g .count) max-factors
@@ -191,7 +196,8 @@ module _ (g : Graph) (key : ℕ) (mean variance store : List Float) where
     unfolding priorVerdict
     prior-as l = rw (h30, lt-ltb _ _ l)
 
-  pub prior-cases : (P : Verdict → Type 0) → ((why : Refusal) → P (refuse why)) → ((xi w : List Float) → Taken g (priorOf key (sizeAt g key)) [] mean variance store xi w → P (accept ([] ++ xi ++ w)))
+  pub prior-cases : (P : Verdict → Type 0) → ((why : Refusal) → P (refuse why))
+      → ((xi w : List Float) → Taken g (priorOf key (sizeAt g key)) [] mean variance store xi w → P (accept ([] ++ xi ++ w)))
       → P (priorVerdict g key mean variance store)
   prior-cases P back taken =
       by (valid g)
@@ -219,7 +225,8 @@ module _ (keys rows : ℕ) (h : countsFit keys rows ≡ true) where
   most-rows = leb-true _ _ (every-at _ 2 h)
 
 -- the record of such an observation fits
-pub counted-fits : (g : Graph) (keys : List ℕ) (rows : ℕ) → countsFit (length keys) rows ≡ true → rising keys ≡ true → known (g .variables) keys ≡ true → fits (g .sizes) (g .variables) (observationOf keys rows) ≡ true
+pub counted-fits : (g : Graph) (keys : List ℕ) (rows : ℕ) → countsFit (length keys) rows ≡ true → rising keys ≡ true → known (g .variables) keys
+    ≡ true → fits (g .sizes) (g .variables) (observationOf keys rows) ≡ true
 counted-fits g keys rows h4 h3 h11 = observation-fits keys (g .sizes) (g .variables) rows (few-keys _ _ h4) (some-rows _ _ h4) (most-rows _ _ h4) h3 h11
 
 module _ (g : Graph) (keys : List ℕ) (rows : ℕ) (a mean variance store : List Float) where
@@ -249,7 +256,8 @@ module _ (g : Graph) (keys : List ℕ) (rows : ℕ) (a mean variance store : Lis
         unfolding observationVerdict
         observation-as h11 = rw (h30, h4, h3, h11)
 
-  pub observation-cases : (P : Verdict → Type 0) → ((why : Refusal) → P (refuse why)) → ((xi w : List Float) → Taken g (observationOf keys rows) a mean variance store xi w → P (accept (a ++ xi ++ w)))
+  pub observation-cases : (P : Verdict → Type 0) → ((why : Refusal) → P (refuse why))
+      → ((xi w : List Float) → Taken g (observationOf keys rows) a mean variance store xi w → P (accept (a ++ xi ++ w)))
       → P judged
   observation-cases P back taken =
       by (valid g)

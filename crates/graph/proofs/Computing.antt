@@ -4,7 +4,8 @@ use Rattle.cholesky.proofs.Computing.{computedExchange}
 use Rattle.factor.specs.Counting.{every, all, sum}
 use Rattle.factor.specs.Factor.{above, keyFits, rowsFit, fits, isClear, firstColumn, aNumbers, numbers, lengthsFit, givenFinite}
 use Rattle.graph.specs.Record.{scalar, sizeFits, same, free, total, registered, clear, place, variablesFit, factorPlace, factorsFit, offset, valid}
-use Rattle.graph.specs.Registration.{addVariable, factorVerdict, priorVerdict, addPrior, priorStore, countsFit, observationVerdict, addObservation, observationStore}
+use Rattle.graph.specs.Registration.{addVariable, factorVerdict, priorVerdict, addPrior, priorStore, countsFit, observationVerdict}
+use Rattle.graph.specs.Registration.{addObservation, observationStore}
 use Rattle.graph.specs.Reached.{Call, answered}
 use Rattle.graph.specs.declared.Graph.{Graph}
 use Rattle.graph.specs.declared.Added.{Added}

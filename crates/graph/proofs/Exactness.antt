@@ -1,4 +1,5 @@
--- The record test is exact: a valid record of the declared shape is yielded by registering its variables in order, and then its factors in order. Assumes nothing.
+-- The record test is exact: a valid record of the declared shape is yielded by registering its variables in order, and then its factors in order.
+-- Assumes nothing.
 use Prim.Native.Nat.{ℕ, zero, suc, _+_, _<_, _≤_}
 use mathlib.Core.Path.{_≡_, refl, sym, ap, _∙_}
 use mathlib.Core.Bool.{Bool, true, false}
@@ -12,7 +13,8 @@ use Rattle.factor.specs.Counting.{every, sum}
 use Rattle.factor.specs.Factor.{keyAt, noFactor, past}
 use Rattle.factor.specs.declared.Factor.{Factor}
 use Rattle.factor.proofs.Counting.{every-at, sum-le, sum-more, sum-ext, sum-stop}
-use Rattle.factor.proofs.Fitting.{fits-touched, fits-key, prior-touched, prior-is, some-rows, few-rows, touches, touches-long, touches-rising, touches-known, observation-is, clear-is}
+use Rattle.factor.proofs.Fitting.{fits-touched, fits-key, prior-touched, prior-is, some-rows, few-rows, touches, touches-long, touches-rising}
+use Rattle.factor.proofs.Fitting.{touches-known, observation-is, clear-is}
 use Rattle.graph.specs.Record.{noName, nameAt, sizeAt, factorAt, scalar, sizeFits, free, total, registered, valid}
 use Rattle.graph.specs.Registration.{withFactor}
 use Rattle.graph.specs.Reached.{Call, variable, after, yields, Reached}
@@ -57,7 +59,15 @@ module _ (g : Graph) (sh : Shaped g) (so : Sound g) where
       let f : free (vars k) k (nameAt g k) ≡ true =
       free-ext (vars k) g k (nameAt g k) (λ j a. fill-below (g .symbols) max-variables (sh .symbols) noName noName k j (omega arith) a) ∙ every-at _ 2 r in
       let b : k < max-variables = omega arith in
-      variable-taken (vars k) (nameAt g k) (sizeAt g k) (record { sound = v; letter = every-at _ 0 r; sized = every-at _ 1 r; new = f; few = b; room = room-for k l })
+      variable-taken (vars k) (nameAt g k) (sizeAt g k) (record {
+        sound = v;
+        letter = every-at _ 0 r;
+        sized = every-at _ 1 r;
+        new = f;
+        few = b;
+        room =
+            room-for k l;
+      })
       ∙ (λ i. record {
         symbols = fill-set (g .symbols) max-variables (sh .symbols) noName noName k b i;
         sizes = fill-set (g .sizes) max-variables (sh .sizes) 0 0 k b i;
@@ -71,7 +81,8 @@ module _ (g : Graph) (sh : Shaped g) (so : Sound g) where
   reach-variables zero l = ([], refl)
   reach-variables (suc k) l =
       let r : Reached (vars k) = reach-variables k (omega arith) in
-      let s : Reached (vars (k + 1)) = reached-more (vars k) (vars (k + 1)) (variable (nameAt g k) (sizeAt g k)) r (next-variable k l (good-of (vars k) r .1)) in
+      let s : Reached (vars (k + 1)) = reached-more (vars k) (vars (k + 1)) (variable (nameAt g k) (sizeAt g k)) r
+      (next-variable k l (good-of (vars k) r .1)) in
       rw add-one at s
 
   -- ---- all variables, and the first k factors
@@ -104,7 +115,8 @@ module _ (g : Graph) (sh : Shaped g) (so : Sound g) where
         symbols = g .symbols;
         sizes = g .sizes;
         variables = g .variables;
-        factors = fill-all (g .factors) max-factors (sh .factors) noFactor past (g .count) m (λ j a b. clear-is (factorAt g j) (sh .keys j b) (so .none j a b)) i;
+        factors = fill-all (g .factors) max-factors (sh .factors) noFactor past (g .count) m
+            (λ j a b. clear-is (factorAt g j) (sh .keys j b) (so .none j a b)) i;
         count = g .count;
       }
 
@@ -132,15 +144,21 @@ module _ (g : Graph) (sh : Shaped g) (so : Sound g) where
           let t : factorAt g k .touched ≡ 1 = prior-touched (g .sizes) (g .variables) (factorAt g k) (so .good k l) p in
           let there : keyAt (factorAt g k) 0 < g .variables = fits-key (g .sizes) (g .variables) (factorAt g k) (so .good k l) 0 (omega arith) in (
             prior-call (facs k) (keyAt (factorAt g k) 0),
-            prior-taken (facs k) v b (keyAt (factorAt g k) 0) there ∙ put-next k l _ (prior-is (g .sizes) (g .variables) (factorAt g k) (sh .keys k b) (so .good k l) p),
+            prior-taken (facs k) v b (keyAt (factorAt g k) 0) there ∙ put-next k l _
+                (prior-is (g .sizes) (g .variables) (factorAt g k) (sh .keys k b) (so .good k l) p),
           )
       go false p =
           let few : length (touches (g .sizes) (g .variables) (factorAt g k) (sh .keys k b) (so .good k l)) ≤ max-keys =
-          omega (arith, touches-long (g .sizes) (g .variables) (factorAt g k) (sh .keys k b) (so .good k l), fits-touched (g .sizes) (g .variables) (factorAt g k) (so .good k l)) in (
+          omega (
+            arith,
+            touches-long (g .sizes) (g .variables) (factorAt g k) (sh .keys k b) (so .good k l),
+            fits-touched (g .sizes) (g .variables) (factorAt g k) (so .good k l),
+          ) in (
             observation-call (facs k) (touches (g .sizes) (g .variables) (factorAt g k) (sh .keys k b) (so .good k l)) (factorAt g k .rows),
             observation-taken (facs k) v b (touches (g .sizes) (g .variables) (factorAt g k) (sh .keys k b) (so .good k l)) (factorAt g k .rows) few
                 (some-rows (g .sizes) (g .variables) (factorAt g k) (so .good k l) p) (few-rows (g .sizes) (g .variables) (factorAt g k) (so .good k l) p)
-                (touches-rising (g .sizes) (g .variables) (factorAt g k) (sh .keys k b) (so .good k l)) (touches-known (g .sizes) (g .variables) (factorAt g k) (sh .keys k b) (so .good k l))
+                (touches-rising (g .sizes) (g .variables) (factorAt g k) (sh .keys k b) (so .good k l))
+                (touches-known (g .sizes) (g .variables) (factorAt g k) (sh .keys k b) (so .good k l))
                 ∙ put-next k l _ (observation-is (g .sizes) (g .variables) (factorAt g k) (sh .keys k b) (so .good k l) p),
           )
 

@@ -6,7 +6,8 @@ use lib.Ieee.{Float, nan, binary64, ofBits}
 use Rattle.factor.specs.Factor.{observationOf}
 use Rattle.factor.specs.Told.{value, refusal}
 use Rattle.graph.specs.Record.{fresh}
-use Rattle.graph.specs.Registration.{refused, settle, refuse, addVariable, priorVerdict, addPrior, priorStore, observationVerdict, addObservation, observationStore}
+use Rattle.graph.specs.Registration.{refused, settle, refuse, addVariable, priorVerdict, addPrior, priorStore, observationVerdict}
+use Rattle.graph.specs.Registration.{addObservation, observationStore}
 use Rattle.graph.specs.Told.{outcomeTold}
 use Rattle.graph.specs.declared.Graph.{Graph}
 use Rattle.graph.specs.declared.refusal.Refusal.the-variants.{KeysNotRising, VariancePivot}
@@ -71,7 +72,8 @@ unfolding pair outcomeTold
 prior-told = refl
 
 -- A = (-1 1), mean 4 and variance 1 are stored as they are
-observation-stored : observationStore pair (0 ∷ 1 ∷ []) 1 (minus-one ∷ one ∷ []) (four ∷ []) (one ∷ []) (nan ∷ nan ∷ nan ∷ nan ∷ nan ∷ []) ≡ minus-one ∷ one ∷ four ∷ one ∷ nan ∷ []
+observation-stored : observationStore pair (0 ∷ 1 ∷ []) 1 (minus-one ∷ one ∷ []) (four ∷ []) (one ∷ []) (nan ∷ nan ∷ nan ∷ nan ∷ nan ∷ [])
+    ≡ minus-one ∷ one ∷ four ∷ one ∷ nan ∷ []
 unfolding pair
 observation-stored = refl
 

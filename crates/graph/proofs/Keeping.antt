@@ -15,7 +15,8 @@ use Rattle.factor.specs.Factor.{noFactor, past, fits, isClear}
 use Rattle.factor.specs.declared.Factor.{Factor}
 use Rattle.factor.proofs.Counting.{every-at, every-3, every-5, by-test, all-of, all-ext, sum-put}
 use Rattle.factor.proofs.Fitting.{fits-more}
-use Rattle.graph.specs.Record.{noName, nameAt, sizeAt, factorAt, fresh, scalar, sizeFits, same, free, total, registered, clear, place, variablesFit, factorPlace, factorsFit, valid}
+use Rattle.graph.specs.Record.{noName, nameAt, sizeAt, factorAt, fresh, scalar, sizeFits, same, free, total, registered, clear, place}
+use Rattle.graph.specs.Record.{variablesFit, factorPlace, factorsFit, valid}
 use Rattle.graph.specs.Registration.{withVariable, withFactor}
 use Rattle.graph.specs.Reached.{Call, after, yields, Reached}
 use Rattle.graph.specs.declared.Symbol.{Symbol}
@@ -141,7 +142,8 @@ module _ (g : Graph) (sh : Shaped g) (so : Sound g) (name : Symbol) (size : ℕ)
         used = used-more;
         unused = λ i l m. clear-ext h g i (name-else i (λ x. omega arith)) (size-else i (λ x. omega arith)) ∙ so .unused i (omega arith) m;
         room = omega (arith, total-more, new .room);
-        good = λ i l. fits-more (g .sizes) (h .sizes) (g .variables) (h .variables) (omega arith) (λ j k. sym (size-else j (λ x. omega arith))) (factorAt g i) (so .good i l);
+        good = λ i l. fits-more (g .sizes) (h .sizes) (g .variables) (h .variables) (omega arith) (λ j k. sym (size-else j (λ x. omega arith)))
+            (factorAt g i) (so .good i l);
         none = so .none;
       }
 
@@ -156,7 +158,8 @@ module _ (g : Graph) (sh : Shaped g) (so : Sound g) (name : Symbol) (size : ℕ)
 
 -- ---- a factor more
 
-module _ (g : Graph) (sh : Shaped g) (so : Sound g) (f : Factor) (h12 : g .count < max-factors) (fit : fits (g .sizes) (g .variables) f ≡ true) (long : length (f .keys) ≡ max-keys) where
+module _ (g : Graph) (sh : Shaped g) (so : Sound g) (f : Factor) (h12 : g .count < max-factors) (fit : fits (g .sizes) (g .variables) f ≡ true)
+    (long : length (f .keys) ≡ max-keys) where
   factor-at : factorAt (withFactor g f) (g .count) ≡ f
   factor-at = getD-set-same (g .factors) (g .count) f past (omega (arith, sh .factors))
 
@@ -217,7 +220,16 @@ module _ (g : Graph) (ok : Good g) where
 
 fresh-good : Good fresh
 unfolding valid variablesFit factorsFit every all place clear same factorPlace isClear total sum
-fresh-good = (record { symbols = refl; sizes = refl; factors = refl; keys = λ i l. ap (λ (x : Factor). length (x .keys)) (getD-replicate max-factors i noFactor past l) }, refl)
+fresh-good = (
+  record {
+    symbols = refl;
+    sizes = refl;
+    factors = refl;
+    keys = λ i l. ap (λ (x : Factor). length (x .keys))
+        (getD-replicate max-factors i noFactor past l);
+  },
+  refl,
+)
 
 yields-good : (cs : List Call) (g : Graph) → Good g → Good (yields g cs)
 unfolding yields

@@ -5,7 +5,10 @@ use mathlib.Core.List.{[], _∷_}
 use lib.ListN.{getD}
 use Rattle.graph.specs.Refusals.{numberOf}
 use Rattle.graph.specs.declared.refusal.Refusal.{Refusal}
-use Rattle.graph.specs.declared.refusal.Refusal.the-variants.{NeitherKeptNorCleared, NotALetter, SizeOutside, KeysNotRising, CountOutside, LengthUnlike, NotFinite, VariancePivot, BadRecord, KeptAndCleared, NameTaken, NoSuchKey, PastLimit, FactorStoreShort, StoreShort, ClearedPivot, MarginalPivot, ResultNotFinite, CountedTwice, NoSuchGraph}
+use Rattle.graph.specs.declared.refusal.Refusal.the-variants.{NeitherKeptNorCleared, NotALetter, SizeOutside, KeysNotRising, CountOutside}
+use Rattle.graph.specs.declared.refusal.Refusal.the-variants.{LengthUnlike, NotFinite, VariancePivot, BadRecord, KeptAndCleared, NameTaken}
+use Rattle.graph.specs.declared.refusal.Refusal.the-variants.{NoSuchKey, PastLimit, FactorStoreShort, StoreShort, ClearedPivot, MarginalPivot}
+use Rattle.graph.specs.declared.refusal.Refusal.the-variants.{ResultNotFinite, CountedTwice, NoSuchGraph}
 
 -- the refusal of a number: 0 to 18 in their order, and 30 is past them
 abbrev named : ℕ → Refusal

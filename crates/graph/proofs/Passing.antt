@@ -17,7 +17,8 @@ use Rattle.factor.specs.declared.Factor.{Factor}
 use Rattle.factor.proofs.Counting.{every-3}
 use Rattle.cholesky.proofs.Forms.{identity-exchanged}
 use Rattle.graph.specs.Record.{sizeAt, offset, valid}
-use Rattle.graph.specs.Registration.{withVariable, Verdict, accept, withFactor, settle, weighedVerdict, factorVerdict, priorVerdict, addPrior, countsFit, observationVerdict, addObservation}
+use Rattle.graph.specs.Registration.{withVariable, Verdict, accept, withFactor, settle, weighedVerdict, factorVerdict, priorVerdict, addPrior}
+use Rattle.graph.specs.Registration.{countsFit, observationVerdict, addObservation}
 use Rattle.graph.specs.Reached.{Call, prior, observation, variable, register, after}
 use Rattle.graph.specs.declared.Symbol.{Symbol}
 use Rattle.graph.specs.declared.Graph.{Graph}
@@ -47,7 +48,8 @@ module _ (g : Graph) (f : Factor) (h12 : g .count < max-factors) (a : List Float
 
   factor-passes : factorVerdict g f a (zeros (f .rows)) (identityOf (f .rows)) (room g f) ≡ accept (a ++ zeros (f .rows) ++ identityOf (f .rows))
   factor-passes =
-      let l : offset g (g .count) + numbers (g .sizes) f ≤ length (room g f) = omega (arith, length-replicate (offset g (g .count) + numbers (g .sizes) f) plus-zero) in
+      let l : offset g (g .count) + numbers (g .sizes) f ≤ length (room g f) = omega
+      (arith, length-replicate (offset g (g .count) + numbers (g .sizes) f) plus-zero) in
       weighs g f a _ _ _ (record { lengths = lengths; few = h12; room = l; finite = given }) ∙ ap (weighedVerdict a) (identity-exchanged (f .rows))
 
 -- ---- a prior
@@ -56,7 +58,8 @@ abbrev pub prior-call : Graph → ℕ → Call
 prior-call g key = register (prior key (zeros (sizeAt g key)) (identityOf (sizeAt g key))) (room g (priorOf key (sizeAt g key)))
 
 module _ (g : Graph) (h30 : valid g ≡ true) (h12 : g .count < max-factors) (key : ℕ) (h11 : key < g .variables) where
-  prior-passes : priorVerdict g key (zeros (sizeAt g key)) (identityOf (sizeAt g key)) (room g (priorOf key (sizeAt g key))) ≡ accept ([] ++ zeros (sizeAt g key) ++ identityOf (sizeAt g key))
+  prior-passes : priorVerdict g key (zeros (sizeAt g key)) (identityOf (sizeAt g key)) (room g (priorOf key (sizeAt g key)))
+      ≡ accept ([] ++ zeros (sizeAt g key) ++ identityOf (sizeAt g key))
   unfolding aNumbers allFinite
   prior-passes = prior-as g key _ _ _ h30 h11 ∙ factor-passes g (priorOf key (sizeAt g key)) h12 [] refl refl
 
@@ -67,9 +70,11 @@ module _ (g : Graph) (h30 : valid g ≡ true) (h12 : g .count < max-factors) (ke
 -- ---- an observation
 
 abbrev pub observation-call : Graph → List ℕ → ℕ → Call
-observation-call g keys y = register (observation keys y (zeros (aNumbers (g .sizes) (observationOf keys y))) (zeros y) (identityOf y)) (room g (observationOf keys y))
+observation-call g keys y = register (observation keys y (zeros (aNumbers (g .sizes) (observationOf keys y))) (zeros y) (identityOf y))
+    (room g (observationOf keys y))
 
-module _ (g : Graph) (h30 : valid g ≡ true) (h12 : g .count < max-factors) (keys : List ℕ) (y : ℕ) (few : length keys ≤ max-keys) (some : 1 ≤ y) (most : y ≤ max-rows)
+module _ (g : Graph) (h30 : valid g ≡ true) (h12 : g .count < max-factors) (keys : List ℕ) (y : ℕ) (few : length keys ≤ max-keys) (some : 1 ≤ y)
+    (most : y ≤ max-rows)
     (h3 : rising keys ≡ true) (h11 : known (g .variables) keys ≡ true) where
   abbrev a : List Float
   a = zeros (aNumbers (g .sizes) (observationOf keys y))
@@ -79,7 +84,9 @@ module _ (g : Graph) (h30 : valid g ≡ true) (h12 : g .count < max-factors) (ke
   counts = every-3 _ _ _ (le-leb _ _ few) (le-leb _ _ some) (le-leb _ _ most)
 
   observation-passes : observationVerdict g keys y a (zeros y) (identityOf y) (room g (observationOf keys y)) ≡ accept (a ++ zeros y ++ identityOf y)
-  observation-passes = observation-as g keys y a _ _ _ h30 counts h3 h11 ∙ factor-passes g (observationOf keys y) h12 a (length-replicate (aNumbers (g .sizes) (observationOf keys y)) plus-zero) (zeros-finite (aNumbers (g .sizes) (observationOf keys y)))
+  observation-passes = observation-as g keys y a _ _ _ h30 counts h3 h11
+      ∙ factor-passes g (observationOf keys y) h12 a (length-replicate (aNumbers (g .sizes) (observationOf keys y)) plus-zero)
+      (zeros-finite (aNumbers (g .sizes) (observationOf keys y)))
 
   pub observation-taken : after g (observation-call g keys y) ≡ withFactor g (observationOf keys y)
   unfolding addObservation

@@ -39,7 +39,8 @@ pub third-decides : (a b c : Bool) → a ≡ true → b ≡ true → c ≡ every
 unfolding every
 third-decides a b c p q = simp (p, q, and-true)
 
-pub placed-is : (g : Graph) (i : ℕ) (used r : Bool) (f : Factor) → used ≡ ltb i (g .count) → f ≡ factorAt g i → r ≡ cond used (fits (g .sizes) (g .variables) f) (isClear f) → r ≡ factorPlace g i
+pub placed-is : (g : Graph) (i : ℕ) (used r : Bool) (f : Factor) → used ≡ ltb i (g .count) → f ≡ factorAt g i → r
+    ≡ cond used (fits (g .sizes) (g .variables) f) (isClear f) → r ≡ factorPlace g i
 unfolding factorPlace
 placed-is g i used r f eu ef e = e ∙ rw (eu, ef)
 

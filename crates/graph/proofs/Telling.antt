@@ -8,7 +8,8 @@ use Rattle.cholesky.specs.Forms.{noPivot, noNumber}
 use Rattle.factor.specs.Told.{weightTold}
 use Rattle.factor.specs.declared.Factor.{Factor}
 use Rattle.graph.specs.Record.{sizeAt}
-use Rattle.graph.specs.Registration.{Verdict, accept, refuse, settle, weighedVerdict, addVariable, priorVerdict, addPrior, priorStore, observationVerdict, addObservation, observationStore}
+use Rattle.graph.specs.Registration.{Verdict, accept, refuse, settle, weighedVerdict, addVariable, priorVerdict, addPrior, priorStore}
+use Rattle.graph.specs.Registration.{observationVerdict, addObservation, observationStore}
 use Rattle.graph.specs.Told.{outcomeTold, verdictTold}
 use Rattle.graph.specs.declared.Symbol.{Symbol}
 use Rattle.graph.specs.declared.Graph.{Graph}
@@ -27,17 +28,23 @@ settled g f v r e = ap (λ (a : Added). outcomeTold (a .outcome)) e ∙ go v
     go (refuse why) = refl
 
 -- a prior's and an observation's answer with the store, and what the answer tells
-pub prior-tells : (g : Graph) (key : ℕ) (mean variance store s : List Float) (r : Added) → (r ≡ addPrior g key mean variance store) × (s ≡ priorStore g key mean variance store)
-    → (r ≡ addPrior g key mean variance store) × ((s ≡ priorStore g key mean variance store) × (outcomeTold (r .outcome) ≡ verdictTold g (priorVerdict g key mean variance store)))
+pub prior-tells : (g : Graph) (key : ℕ) (mean variance store s : List Float) (r : Added)
+    → (r ≡ addPrior g key mean variance store) × (s ≡ priorStore g key mean variance store)
+    → (r ≡ addPrior g key mean variance store) × ((s ≡ priorStore g key mean variance store) ×
+    (outcomeTold (r .outcome) ≡ verdictTold g (priorVerdict g key mean variance store)))
 unfolding addPrior
 prior-tells g key mean variance store s r (e, h) = (e, (h, settled g (priorOf key (sizeAt g key)) (priorVerdict g key mean variance store) r e))
 
-pub observation-tells : (g : Graph) (keys : List ℕ) (rows : ℕ) (a mean variance store s : List Float) (r : Added) → (r ≡ addObservation g keys rows a mean variance store) × (s ≡ observationStore g keys rows a mean variance store)
-    → (r ≡ addObservation g keys rows a mean variance store) × ((s ≡ observationStore g keys rows a mean variance store) × (outcomeTold (r .outcome) ≡ verdictTold g (observationVerdict g keys rows a mean variance store)))
+pub observation-tells : (g : Graph) (keys : List ℕ) (rows : ℕ) (a mean variance store s : List Float) (r : Added)
+    → (r ≡ addObservation g keys rows a mean variance store) × (s ≡ observationStore g keys rows a mean variance store)
+    → (r ≡ addObservation g keys rows a mean variance store) × ((s ≡ observationStore g keys rows a mean variance store) ×
+    (outcomeTold (r .outcome) ≡ verdictTold g (observationVerdict g keys rows a mean variance store)))
 unfolding addObservation
-observation-tells g keys rows a mean variance store s r (e, h) = (e, (h, settled g (observationOf keys rows) (observationVerdict g keys rows a mean variance store) r e))
+observation-tells g keys rows a mean variance store s r (e, h) =
+    (e, (h, settled g (observationOf keys rows) (observationVerdict g keys rows a mean variance store) r e))
 
 -- the numbers with which `factor` tells that a mean and a variance have no other form are those of the refusals here
-pub weighing-tells : (g : Graph) (a : List Float) → (verdictTold g (weighedVerdict a noPivot) ≡ weightTold noPivot) × (verdictTold g (weighedVerdict a noNumber) ≡ weightTold noNumber)
+pub weighing-tells : (g : Graph) (a : List Float) → (verdictTold g (weighedVerdict a noPivot) ≡ weightTold noPivot) ×
+    (verdictTold g (weighedVerdict a noNumber) ≡ weightTold noNumber)
 unfolding verdictTold weightTold
 weighing-tells g a = (refl, refl)

@@ -79,7 +79,8 @@ module _ (g : Graph) (v : valid g ≡ true) where
   pub width-most : (f : Factor) → fits (g .sizes) (g .variables) f ≡ true → width (g .sizes) f ≤ max-total
   unfolding total
   width-most f h =
-      let w : width (g .sizes) f ≤ total g = width-within (g .sizes) (g .variables) f h max-variables (λ j l. omega (arith, fits-key (g .sizes) (g .variables) f h j l, valid-variables)) in
+      let w : width (g .sizes) f ≤ total g = width-within (g .sizes) (g .variables) f h max-variables
+      (λ j l. omega (arith, fits-key (g .sizes) (g .variables) f h j l, valid-variables)) in
       omega (arith, valid-total)
 
 -- the numbers of a factor follow those of the one before it
@@ -90,4 +91,8 @@ offset-more g i = sum-more (λ k. numbers (g .sizes) (factorAt g k)) i
 -- and end within those of all factors
 pub offset-within : (g : Graph) (i n : ℕ) → i < n → offset g i + numbers (g .sizes) (factorAt g i) ≤ offset g n
 unfolding offset
-offset-within g i n l = omega (arith, sum-more (λ k. numbers (g .sizes) (factorAt g k)) i, sum-le (λ k. numbers (g .sizes) (factorAt g k)) (i + 1) n (omega arith))
+offset-within g i n l = omega (
+  arith,
+  sum-more (λ k. numbers (g .sizes) (factorAt g k)) i,
+  sum-le (λ k. numbers (g .sizes) (factorAt g k)) (i + 1) n (omega arith),
+)

@@ -63,7 +63,8 @@ marginals-fit g v = omega (arith, sum-le (λ k. numbersOf g k) (g .variables) ma
 
 -- ---- how the run ended
 
-module _ (g : Graph) (factors messages marginals : List Float) (ran : Ran) (is : verdict ran messages marginals ≡ run g factors (zeros message-room) work-numbers (zeros marginal-room)) where
+module _ (g : Graph) (factors messages marginals : List Float) (ran : Ran)
+    (is : verdict ran messages marginals ≡ run g factors (zeros message-room) work-numbers (zeros marginal-room)) where
   ended : endedText g (ran .ended) marginals ≡ runText g factors
   unfolding runText
   ended = ap (verdictText g) is
@@ -76,7 +77,8 @@ module _ (g : Graph) (factors messages marginals : List Float) (ran : Ran) (is :
 
 -- ---- how the reading ended
 
-module _ (bytes : List ℕ) (store : List Float) (r : Read) (is : r ≡ readAll bytes (zeros factor-room) .answer) (stored : store ≡ readAll bytes (zeros factor-room) .store) where
+module _ (bytes : List ℕ) (store : List Float) (r : Read) (is : r ≡ readAll bytes (zeros factor-room) .answer)
+    (stored : store ≡ readAll bytes (zeros factor-room) .store) where
   read : readText (r .ended) (r .graph) store ≡ jobText bytes
   unfolding jobText
   read = rw (is, stored)

@@ -47,7 +47,10 @@ text-most = 717 * max-variables
 
 ended-most : (g : Graph) (e : Ended) (marginals : List Float) → valid g ≡ true → Keyed e → length (endedText g e marginals) ≤ text-most
 ended-most g Done marginals v k = lines-most g marginals v
-ended-most g (Refused why stage key) marginals v k = omega (arith, refusal-most (numberOf why) stage key (omega (arith, number-most why)) (omega (arith, k .0)) (omega (arith, k .1)))
+ended-most g (Refused why stage key) marginals v k = omega (
+  arith,
+  refusal-most (numberOf why) stage key (omega (arith, number-most why)) (omega (arith, k .0)) (omega (arith, k .1)),
+)
 
 run-most : (g : Graph) (factors : List Float) → valid g ≡ true → length (runText g factors) ≤ text-most
 unfolding runText
@@ -57,7 +60,10 @@ run-most g factors v =
 
 read-most : (e : records.Ended) (g : Graph) (factors : List Float) → Reached g → Placed deciding-bytes e → length (readText e g factors) ≤ text-most
 read-most reads.Whole g factors r l = run-most g factors (good-of g r .1)
-read-most (reads.Refused why place) g factors r l = omega (arith, refusal-most (numberOf why) 0 place (omega (arith, number-most why)) (omega arith) (omega arith))
+read-most (reads.Refused why place) g factors r l = omega (
+  arith,
+  refusal-most (numberOf why) 0 place (omega (arith, number-most why)) (omega arith) (omega arith),
+)
 
 taken-most : (bytes : List ℕ) → length bytes ≤ deciding-bytes → length (jobText bytes) ≤ text-most
 unfolding jobText readAll

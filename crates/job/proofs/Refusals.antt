@@ -70,7 +70,8 @@ Placed n (reads.Refused w place) = place ≤ n
 abbrev Fine : ℕ → Reading → Type 0
 Fine n r = Reached (r .answer .graph) × Placed n (r .answer .ended)
 
-fine-on : (most place : ℕ) (n : Next) (g : Graph) (store : List Float) (rest : ℕ → Reading) → Reached g → place ≤ most → ((k : ℕ) → Fine most (rest k)) → Fine most (onward n g store place rest)
+fine-on : (most place : ℕ) (n : Next) (g : Graph) (store : List Float) (rest : ℕ → Reading) → Reached g → place ≤ most
+    → ((k : ℕ) → Fine most (rest k)) → Fine most (onward n g store place rest)
 fine-on most place (At n) g store rest r l h = h n
 fine-on most place (Stop w) g store rest r l h = (r, l)
 
@@ -79,14 +80,17 @@ fine-turn most true x y h k = h
 fine-turn most false x y h k = k
 
 -- a place counts the turns before it
-pub read-fine : (turns : ℕ) (bytes : List ℕ) (from place most : ℕ) (g : Graph) (store : List Float) → Reached g → place + turns ≤ most → Fine most (readFrom turns bytes from place g store)
+pub read-fine : (turns : ℕ) (bytes : List ℕ) (from place most : ℕ) (g : Graph) (store : List Float) → Reached g → place + turns ≤ most
+    → Fine most (readFrom turns bytes from place g store)
 unfolding readFrom
 read-fine zero bytes from place most g store r l = (r, omega arith)
 read-fine (suc turns) bytes from place most g store r l =
     let q = recordAt g store bytes from in
     let reached : Reached (stepOf g q .graph) = step-reached g q r in
     fine-turn most (ltb from (length bytes)) _ _
-    (fine-on most place (stepOf g q .next) (stepOf g q .graph) (storeAfter g store q) (λ n. readFrom turns bytes n (place + 1) (stepOf g q .graph) (storeAfter g store q)) reached (omega arith) (λ n. read-fine turns bytes n (place + 1) most (stepOf g q .graph) (storeAfter g store q) reached (omega arith)))
+    (fine-on most place (stepOf g q .next) (stepOf g q .graph) (storeAfter g store q)
+    (λ n. readFrom turns bytes n (place + 1) (stepOf g q .graph) (storeAfter g store q)) reached (omega arith)
+    (λ n. read-fine turns bytes n (place + 1) most (stepOf g q .graph) (storeAfter g store q) reached (omega arith)))
     (r, omega arith)
 
 -- ---- the stage and the key of a run
@@ -109,7 +113,8 @@ missing-within k [] n l = omega arith
 missing-within k (found mean covariance ∷ rest) n l = missing-within (k + 1) rest n (omega arith)
 missing-within k (missing w ∷ rest) n l = omega arith
 
-marginals-long : (g : Graph) (store : List Float) (p : lists.Plan) (fw bw : List Outcome) (k : ℕ) (qs : List Gathered) → length (marginalsFrom g store p fw bw k qs) ≡ length qs
+marginals-long : (g : Graph) (store : List Float) (p : lists.Plan) (fw bw : List Outcome) (k : ℕ) (qs : List Gathered)
+    → length (marginalsFrom g store p fw bw k qs) ≡ length qs
 unfolding marginalsFrom
 marginals-long g store p fw bw k [] = refl
 marginals-long g store p fw bw k (q ∷ qs) = ap suc (marginals-long g store p fw bw (k + 1) qs)
@@ -119,12 +124,14 @@ unfolding third
 third-keyed figure m r all messages.none l = omega arith
 third-keyed figure m r all (messages.stopped k w) l = (omega arith, l)
 
-second-keyed : (figure n : ℕ) (bw : List ClosedFactor) (m r : List Float) (s : messages.Stop) (next : Verdict) → n ≤ max-variables → KeyedBy next → KeyedBy (second figure n bw m r s next)
+second-keyed : (figure n : ℕ) (bw : List ClosedFactor) (m r : List Float) (s : messages.Stop) (next : Verdict) → n ≤ max-variables → KeyedBy next
+    → KeyedBy (second figure n bw m r s next)
 unfolding second
 second-keyed figure n bw m r messages.none next l h = h
 second-keyed figure n bw m r (messages.stopped j w) next l h = (omega arith, omega arith)
 
-first-keyed : (figure : ℕ) (fw : List ClosedFactor) (m r : List Float) (s : messages.Stop) (next : Verdict) → ((j : ℕ) → at fw j .step ≤ max-variables) → KeyedBy next → KeyedBy (first figure fw m r s next)
+first-keyed : (figure : ℕ) (fw : List ClosedFactor) (m r : List Float) (s : messages.Stop) (next : Verdict)
+    → ((j : ℕ) → at fw j .step ≤ max-variables) → KeyedBy next → KeyedBy (first figure fw m r s next)
 unfolding first
 first-keyed figure fw m r messages.none next l h = h
 first-keyed figure fw m r (messages.stopped j w) next l h = (omega arith, l j)
@@ -141,7 +148,8 @@ carried-keyed g p run figure factors m r =
     let l : g .variables ≤ max-variables = valid-variables g (run .forward .sound) in
     first-keyed _ _ _ _ _ _ (steps-all (p .forward) max-variables (λ j h. omega (arith, run .forward-steps j h)))
     (second-keyed _ (g .variables) _ _ _ _ _ l
-    (third-keyed _ _ _ _ _ (missing-within 0 _ max-variables (omega (arith, run .for-each, marginals-long g factors p (messages.values g factors (p .forward)) (messages.values g factors (p .backward)) 0 (p .at-key))))))
+    (third-keyed _ _ _ _ _ (missing-within 0 _ max-variables (omega
+    (arith, run .for-each, marginals-long g factors p (messages.values g factors (p .forward)) (messages.values g factors (p .backward)) 0 (p .at-key))))))
 
 by-test : (b : Bool) (x y : Verdict) → KeyedBy x → KeyedBy y → KeyedBy (cond b x y)
 by-test true x y h k = h
@@ -154,13 +162,15 @@ by-valid true x y h k = k refl
 store-keyed : (figure : ℕ) (w : Refusal) (m r : List Float) → KeyedBy (refuse figure w 1 0 m r)
 store-keyed figure w m r = (omega arith, omega arith)
 
-checked-keyed : (g : Graph) (p : lists.Plan) → Runnable g p → (figure : ℕ) (factors m : List Float) (work : ℕ) (r : List Float) → KeyedBy (checked g p figure factors m work r)
+checked-keyed : (g : Graph) (p : lists.Plan) → Runnable g p → (figure : ℕ) (factors m : List Float) (work : ℕ) (r : List Float)
+    → KeyedBy (checked g p figure factors m work r)
 unfolding checked
 checked-keyed g p run figure factors m work r =
     let rest : Verdict = carried g p figure factors m r in
     let short : Bool = not (every (leb figure (length m) ∷ leb work-numbers work ∷ leb (marginalNumbers g) (length r) ∷ [])) in
     let none : Verdict = refuse figure why.StoreShort 1 0 m r in
-    by-test (not (leb (offset g (g .count)) (length factors))) (refuse figure why.FactorStoreShort 1 0 m r) (cond short none rest) (store-keyed figure why.FactorStoreShort m r)
+    by-test (not (leb (offset g (g .count)) (length factors))) (refuse figure why.FactorStoreShort 1 0 m r) (cond short none rest)
+    (store-keyed figure why.FactorStoreShort m r)
     (by-test short none rest (store-keyed figure why.StoreShort m r) (carried-keyed g p run figure factors m r))
 
 pub run-keyed : (g : Graph) (factors m : List Float) (work : ℕ) (r : List Float) → KeyedBy (run g factors m work r)

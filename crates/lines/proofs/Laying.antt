@@ -18,7 +18,11 @@ puts-none out at = (lay-none out at, omega arith)
 
 -- one byte
 pub puts-one : (out : List ℕ) (at x : ℕ) → at < length out → Puts out (set out at x) at (at + 1) (x ∷ [])
-puts-one out at x l = (set-split out at x l ∙ ap (λ (k : ℕ). take at out ++ x ∷ drop k out) (sym (add-one at)) ∙ sym (append-snoc (take at out) x (drop (at + 1) out)), refl)
+puts-one out at x l = (
+  set-split out at x l ∙ ap (λ (k : ℕ). take at out ++ x ∷ drop k out) (sym (add-one at))
+      ∙ sym (append-snoc (take at out) x (drop (at + 1) out)),
+  refl,
+)
 
 -- a piece after another is the two as one
 pub puts-both : (a b c : List ℕ) (at m n : ℕ) (s t : List ℕ) → at ≤ length a → Puts a b at m s → Puts b c m n t → Puts a c at n (s ++ t)
@@ -29,9 +33,11 @@ puts-both a b c at m n s t l p q =
 pub puts-begun : (out : List ℕ) (at : ℕ) → Puts out out at (at + 0) []
 puts-begun out at = (puts-none out at .0, refl)
 
-pub puts-next : (out₀ out : List ℕ) (at i x : ℕ) (s t : List ℕ) → length out ≡ length out₀ → at + i < length out₀ → Puts out₀ out at (at + i) s → t ≡ s ++ (x ∷ []) → Puts out₀ (set out (at + i) x) at (at + (i + 1)) t
+pub puts-next : (out₀ out : List ℕ) (at i x : ℕ) (s t : List ℕ) → length out ≡ length out₀ → at + i < length out₀ → Puts out₀ out at (at + i) s → t
+    ≡ s ++ (x ∷ []) → Puts out₀ (set out (at + i) x) at (at + (i + 1)) t
 puts-next out₀ out at i x s t k l p e =
-    let q : Puts out₀ (set out (at + i) x) at (at + i + 1) (s ++ (x ∷ [])) = puts-both out₀ out (set out (at + i) x) at (at + i) (at + i + 1) s (x ∷ []) (omega arith) p (puts-one out (at + i) x (omega arith)) in
+    let q : Puts out₀ (set out (at + i) x) at (at + i + 1) (s ++ (x ∷ [])) = puts-both out₀ out (set out (at + i) x) at (at + i) (at + i + 1) s
+    (x ∷ []) (omega arith) p (puts-one out (at + i) x (omega arith)) in
     rw e (q .0, omega (arith, q .1))
 
 -- an equal text
@@ -44,6 +50,7 @@ pub too-short : (out text : List ℕ) (n : ℕ) → n ≡ length text → length
 unfolding written laidIn
 too-short out text n e l = rw (lt-leb (length text) (length out) (omega arith)) (refl, refl)
 
-pub fitting : (out after text : List ℕ) (n : ℕ) → n ≡ length text → n ≤ length out → after ≡ lay out 0 text → (Length n ≡ written out text) × (after ≡ laidIn out text)
+pub fitting : (out after text : List ℕ) (n : ℕ) → n ≡ length text → n ≤ length out → after ≡ lay out 0 text
+    → (Length n ≡ written out text) × (after ≡ laidIn out text)
 unfolding written laidIn
 fitting out after text n e l h = rw (le-leb (length text) (length out) (omega arith)) (ap Length e, h)

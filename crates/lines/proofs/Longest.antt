@@ -27,7 +27,12 @@ line-most g k v l =
 pub lines-most : (g : Graph) (values : List Float) → valid g ≡ true → length (linesText g values (g .variables)) ≤ 717 * max-variables
 unfolding linesLength
 lines-most g values v =
-    omega (arith, lines-long g values (g .variables), valid-variables g v, sum-most (λ k. length (decimal k) + 17 * numbersOf g k + 1) 717 (g .variables) (λ k l. line-most g k v l))
+    omega (
+      arith,
+      lines-long g values (g .variables),
+      valid-variables g v,
+      sum-most (λ k. length (decimal k) + 17 * numbersOf g k + 1) 717 (g .variables) (λ k l. line-most g k v l),
+    )
 
 -- a refusal has three numbers of a machine word
 pub refusal-most : (number stage place : ℕ) → number < 2 ^ 64 → stage < 2 ^ 64 → place < 2 ^ 64 → length (refusalText number stage place) ≤ 71

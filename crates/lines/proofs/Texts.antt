@@ -37,20 +37,23 @@ pub numbers-length : (values : List Float) (from n : ℕ) → length (numbersTex
 unfolding numbersText
 numbers-length values from zero = refl
 numbers-length values from (suc n) =
-    length-append (numbersText values from n) (numberText (getD values (from + n) nan)) ∙ omega (arith, numbers-length values from n, number-length (getD values (from + n) nan))
+    length-append (numbersText values from n) (numberText (getD values (from + n) nan))
+    ∙ omega (arith, numbers-length values from n, number-length (getD values (from + n) nan))
 
 -- ---- lines
 
 pub line-length : (key : ℕ) (values : List Float) (from n : ℕ) → length (lineText key values from n) ≡ length (decimal key) + number-bytes * n + 1
 unfolding lineText
 line-length key values from n =
-    length-append (decimal key ++ numbersText values from n) (feed ∷ []) ∙ omega (arith, length-append (decimal key) (numbersText values from n), numbers-length values from n)
+    length-append (decimal key ++ numbersText values from n) (feed ∷ [])
+    ∙ omega (arith, length-append (decimal key) (numbersText values from n), numbers-length values from n)
 
 pub length-more : (g : Graph) (k : ℕ) → linesLength g (k + 1) ≡ linesLength g k + (length (decimal k) + number-bytes * numbersOf g k + 1)
 unfolding linesLength
 length-more g k = sum-more (λ i. length (decimal i) + number-bytes * numbersOf g i + 1) k
 
-pub lines-more : (g : Graph) (values : List Float) (k : ℕ) → linesText g values (k + 1) ≡ linesText g values k ++ lineText k values (startOf (g .sizes) k) (numbersOf g k)
+pub lines-more : (g : Graph) (values : List Float) (k : ℕ) → linesText g values (k + 1)
+    ≡ linesText g values k ++ lineText k values (startOf (g .sizes) k) (numbersOf g k)
 unfolding linesText
 lines-more g values k = rw add-one
 
@@ -59,11 +62,18 @@ unfolding linesText linesLength sum
 lines-long g values zero = refl
 lines-long g values (suc k) =
     length-append (linesText g values k) (lineText k values (startOf (g .sizes) k) (numbersOf g k))
-    ∙ omega (arith, lines-long g values k, line-length k values (startOf (g .sizes) k) (numbersOf g k), length-more g k, ap (λ (n : ℕ). linesLength g n) (add-one k))
+    ∙ omega (
+      arith,
+      lines-long g values k,
+      line-length k values (startOf (g .sizes) k) (numbersOf g k),
+      length-more g k,
+      ap (λ (n : ℕ). linesLength g n) (add-one k),
+    )
 
 -- ---- a refusal
 
 -- a word of 7 bytes, a space before each number, and the line feed
-pub refusal-length : (number stage place : ℕ) → length (refusalText number stage place) ≡ 11 + length (decimal number) + length (decimal stage) + length (decimal place)
+pub refusal-length : (number stage place : ℕ) → length (refusalText number stage place)
+    ≡ 11 + length (decimal number) + length (decimal stage) + length (decimal place)
 unfolding refusalText
 refusal-length number stage place = simp length-append (omega (arith, field-length number, field-length stage, field-length place))

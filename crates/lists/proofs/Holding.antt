@@ -44,9 +44,11 @@ unfolding msgAt
 message-holds p j shift kept cleared slots k c n l low ready ek hk ec hc en hn =
     rw (at-msg p j l)
     (record {
-      kept = ek ∙ map-same (λ i. 0 + i) (keysIn (getD (p .masks) (max-factors + j) 0)) (λ x. omega arith) ∙ ap keysIn (sym (getD-drop max-factors (p .masks) j 0));
+      kept = ek ∙ map-same (λ i. 0 + i) (keysIn (getD (p .masks) (max-factors + j) 0)) (λ x. omega arith)
+          ∙ ap keysIn (sym (getD-drop max-factors (p .masks) j 0));
       cleared = ec ∙ map-same (λ i. 0 + i) (keysIn (getD (p .cleared) j 0)) (λ x. omega arith);
-      slots = en ∙ map-map (numberOf shift) slotOf (raised shift) (drop (getD (p .starts) j 0) (take (getD (p .ends) j 0) (p .board .content))) (raised-is shift);
+      slots = en ∙ map-map (numberOf shift) slotOf (raised shift) (drop (getD (p .starts) j 0) (take (getD (p .ends) j 0) (p .board .content)))
+          (raised-is shift);
       few-kept = omega arith;
       few-cleared = omega arith;
       few = omega (arith, ready .closed j l, ready .room .contents .few);
@@ -63,7 +65,9 @@ gathered-holds q k zeros cleared s₁ s₂ s₃ c f b n held ec hc ef hf eb hb e
     record {
       kept = refl;
       cleared = ec ∙ map-same (λ i. 0 + i) (keysIn (q .last)) (λ x. omega arith);
-      slots = rw (en, eb, ef, map-same (raised 0) (drop (q .covered) (take (q .count) (q .items))) raised-none) (append-assoc (map (λ i. max-factors + i) (keysIn (q .forward))) (map (λ i. first-backward + i) (keysIn (q .backward))) (drop (q .covered) (take (q .count) (q .items))));
+      slots = rw (en, eb, ef, map-same (raised 0) (drop (q .covered) (take (q .count) (q .items))) raised-none)
+          (append-assoc (map (λ i. max-factors + i) (keysIn (q .forward))) (map (λ i. first-backward + i) (keysIn (q .backward)))
+          (drop (q .covered) (take (q .count) (q .items))));
       few-cleared = omega arith;
       few = omega (arith, held .items .few, held .covered);
     }

@@ -26,14 +26,16 @@ module _ (f : ℕ → ℕ) where
   abbrev pub Put : (p : ℕ → Bool) (list₀ : List ℕ) (at : ℕ) (list : List ℕ) (to j : ℕ) → Type 0
   Put p list₀ at list to j = (j ≤ max-variables) × (to ≤ at + j) × (length list ≡ length list₀) × (take to list ≡ take at list₀ ++ map f (rising j p))
 
-  module _ (p : ℕ → Bool) (list₀ list l : List ℕ) (at to j : ℕ) (low : j < max-variables) (room : at + max-variables ≤ length list₀) (put : Put p list₀ at list to j) where
+  module _ (p : ℕ → Bool) (list₀ list l : List ℕ) (at to j : ℕ) (low : j < max-variables) (room : at + max-variables ≤ length list₀)
+      (put : Put p list₀ at list to j) where
     pub put-in : (t : ℕ) → p j ≡ true → l ≡ set list to (f j) → t ≡ to + 1 → Put p list₀ at l t (j + 1)
     put-in t h el et =
         rw (el, et, rising-more p j, h, map-append f (rising j p) (j ∷ [])) (
           omega arith,
           omega (arith, put .1),
           length-set list to (f j) ∙ put .2,
-          grown list (take at list₀ ++ map f (rising j p)) to (f j) (omega (arith, put .1, put .2)) (put .3) ∙ append-assoc (take at list₀) (map f (rising j p)) (f j ∷ []),
+          grown list (take at list₀ ++ map f (rising j p)) to (f j) (omega (arith, put .1, put .2)) (put .3)
+              ∙ append-assoc (take at list₀) (map f (rising j p)) (f j ∷ []),
         )
 
     pub put-off : (t : ℕ) → p j ≡ false → l ≡ list → t ≡ to → Put p list₀ at l t (j + 1)
@@ -51,12 +53,15 @@ module _ (f : ℕ → ℕ) where
 
   -- the entries from a place up to i, and the one at i
   pub put-next : (list base slots : List ℕ) (at from i x : ℕ) → from ≤ i → i < length slots → at + (i - from) < length list → x ≡ f (getD slots i 0)
-      → take (at + (i - from)) list ≡ base ++ map f (drop from (take i slots)) → take (at + (i + 1 - from)) (set list (at + (i - from)) x) ≡ base ++ map f (drop from (take (i + 1) slots))
+      → take (at + (i - from)) list ≡ base ++ map f (drop from (take i slots)) → take (at + (i + 1 - from)) (set list (at + (i - from)) x)
+      ≡ base ++ map f (drop from (take (i + 1) slots))
   put-next list base slots at from i x l h r ex e =
       let n : at + (i + 1 - from) ≡ at + (i - from) + 1 = omega arith in
-      let s : drop from (take (i + 1) slots) ≡ drop from (take i slots) ++ (getD slots i 0 ∷ []) = rw (add-one i, take-suc slots i 0 h) (drop-append-le from (take i slots) (getD slots i 0 ∷ []) (omega (arith, length-take i slots))) in
+      let s : drop from (take (i + 1) slots) ≡ drop from (take i slots) ++ (getD slots i 0 ∷ []) = rw (add-one i, take-suc slots i 0 h)
+      (drop-append-le from (take i slots) (getD slots i 0 ∷ []) (omega (arith, length-take i slots))) in
       rw (n, s, ex, map-append f (drop from (take i slots)) (getD slots i 0 ∷ []))
-      (grown list (base ++ map f (drop from (take i slots))) (at + (i - from)) (f (getD slots i 0)) r e ∙ append-assoc base (map f (drop from (take i slots))) (f (getD slots i 0) ∷ []))
+      (grown list (base ++ map f (drop from (take i slots))) (at + (i - from)) (f (getD slots i 0)) r e
+      ∙ append-assoc base (map f (drop from (take i slots))) (f (getD slots i 0) ∷ []))
 
 -- the slot of a number, and the number that it has among the lists
 pub raised-is : (shift s : ℕ) → raised shift s ≡ numberOf shift (slotOf s)

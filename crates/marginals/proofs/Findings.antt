@@ -32,7 +32,8 @@ use Rattle.factor.proofs.Laying.{lay-none}
 -- ---- the last elimination, by its lists
 
 module _ (sizes : List ℕ) (factors messages : List Float) (keys heads : List ℕ) (key : ℕ) (q : Gathered) (l : Lists) (h : HoldsGathered key q l) where
-  pub lists-asked : (work : ℕ) → AskedAt sizes factors messages work keys heads key q → Asked (key ∷ []) (clearedOf l) sizes factors messages work keys heads (slotsOf l)
+  pub lists-asked : (work : ℕ) → AskedAt sizes factors messages work keys heads key q
+      → Asked (key ∷ []) (clearedOf l) sizes factors messages work keys heads (slotsOf l)
   lists-asked work a = rw (h .cleared, h .slots) a
 
   pub lists-last : (s : ℕ) (r : Answer) → r ≡ marginalFrom key s (eliminate (viewsOf factors messages keys heads (slotsOf l)) (key ∷ []) (clearedOf l) sizes)
@@ -77,7 +78,8 @@ module _ (f : Found) (key to : ℕ) (results : List Float) where
   unfolding missingFrom marginalsIn
   found-is mean covariance after e l = rw (e, append-nil (mean ++ covariance)) (refl, l)
 
-module _ (sizes : List ℕ) (factors messages : List Float) (keys heads : List ℕ) (key to : ℕ) (q : arrays.Gathered) (results : List Float) (b : Bool) (eb : b ≡ twice (take (q .count) (q .items))) where
+module _ (sizes : List ℕ) (factors messages : List Float) (keys heads : List ℕ) (key to : ℕ) (q : arrays.Gathered) (results : List Float) (b : Bool)
+    (eb : b ≡ twice (take (q .count) (q .items))) where
   abbrev s : ℕ
   s = getD sizes key 0
 
@@ -102,12 +104,15 @@ module _ (sizes : List ℕ) (factors messages : List Float) (keys heads : List �
     pub pivot-told : a .ending ≡ ending.Pivot → (stopped key MarginalPivot ≡ missingFrom key (f ∷ [])) × (results ≡ lay results to (marginalsIn (f ∷ [])))
     pivot-told e = refused-is f key to results MarginalPivot (rw e at told)
 
-    pub unbounded-told : a .ending ≡ ending.Unbounded → (stopped key ResultNotFinite ≡ missingFrom key (f ∷ [])) × (results ≡ lay results to (marginalsIn (f ∷ [])))
+    pub unbounded-told : a .ending ≡ ending.Unbounded → (stopped key ResultNotFinite ≡ missingFrom key (f ∷ [])) ×
+        (results ≡ lay results to (marginalsIn (f ∷ [])))
     unbounded-told e = refused-is f key to results ResultNotFinite (rw e at told)
 
     pub done-size : a .ending ≡ ending.Done → a .marginal .size ≡ s
     done-size e = (rw e at told) .0
 
-    pub done-told : a .ending ≡ ending.Done → (after : List Float) → after ≡ lay results to (take (a .marginal .size) (a .marginal .mean) ++ take (a .marginal .size * a .marginal .size) (a .marginal .covariance))
+    pub done-told : a .ending ≡ ending.Done → (after : List Float) → after
+        ≡ lay results to (take (a .marginal .size) (a .marginal .mean) ++ take (a .marginal .size * a .marginal .size) (a .marginal .covariance))
         → (none ≡ missingFrom key (f ∷ [])) × (after ≡ lay results to (marginalsIn (f ∷ [])))
-    done-told e after l = found-is f key to results (take s (a .marginal .mean)) (take (s * s) (a .marginal .covariance)) after ((rw e at told) .1) (rw (done-size e) at l)
+    done-told e after l = found-is f key to results (take s (a .marginal .mean)) (take (s * s) (a .marginal .covariance)) after ((rw e at told) .1)
+        (rw (done-size e) at l)

@@ -45,7 +45,8 @@ use Rattle.marginals.specs.Asked.{foundAt, foundFrom, AskedAt, Findable,
 -- ---- lists, entry by entry
 
 module _ (P : ℕ → Type 0) where
-  at-append : (a b : List ℕ) → ((i : ℕ) → i < length a → P (getD a i 0)) → ((i : ℕ) → i < length b → P (getD b i 0)) → (i : ℕ) → i < length (a ++ b) → P (getD (a ++ b) i 0)
+  at-append : (a b : List ℕ) → ((i : ℕ) → i < length a → P (getD a i 0)) → ((i : ℕ) → i < length b → P (getD b i 0)) → (i : ℕ) → i < length (a ++ b)
+      → P (getD (a ++ b) i 0)
   at-append [] b ha hb i h = hb i h
   at-append (x ∷ a) b ha hb zero h = ha 0 (omega arith)
   at-append (x ∷ a) b ha hb (suc i) h = at-append a b (λ j l. ha (suc j) (omega arith)) hb i (omega arith)
@@ -67,7 +68,8 @@ map-same f h (x ∷ l) e = rw (e x (List·Memᴰ·head refl), map-same f h l (λ
 
 set-few : (m : ℕ) → length (keysIn m) ≤ max-variables
 unfolding keysIn
-set-few m = kept-length max-variables [] (rising max-variables (λ j. has j m)) (λ x. apart x) (λ x h. rising-in max-variables (λ j. has j m) x (omega (arith, count-nil x)) .1)
+set-few m = kept-length max-variables [] (rising max-variables (λ j. has j m)) (λ x. apart x)
+    (λ x h. rising-in max-variables (λ j. has j m) x (omega (arith, count-nil x)) .1)
   where
     apart : (x : ℕ) → count x [] + count x (rising max-variables (λ j. has j m)) ≤ 1
     apart x = go (decLt 0 (count x (rising max-variables (λ j. has j m))))
@@ -95,7 +97,8 @@ numbers-few q held =
 
 -- ---- one key
 
-module _ (g : Graph) (p : lists.Plan) (at : List arrays.Gathered) (factors messages : List Float) (keys heads : List ℕ) (run : Gatherable g p at factors messages keys heads) where
+module _ (g : Graph) (p : lists.Plan) (at : List arrays.Gathered) (factors messages : List Float) (keys heads : List ℕ)
+    (run : Gatherable g p at factors messages keys heads) where
   abbrev fw : List ClosedFactor
   fw = p .forward
 
@@ -113,14 +116,16 @@ module _ (g : Graph) (p : lists.Plan) (at : List arrays.Gathered) (factors messa
 
     -- the slots
     abbrev Fits : ℕ → Type 0
-    Fits number = (number < max-slots) × HeadFits (k ∷ []) (q .last) (g .sizes) keys (length (storeOf (headOf heads number .slot) factors messages)) (headOf heads number)
+    Fits number = (number < max-slots) × HeadFits (k ∷ []) (q .last) (g .sizes) keys (length (storeOf (headOf heads number .slot) factors messages))
+        (headOf heads number)
 
     forward-fits : (j : ℕ) → In j (q .forward) → Fits (messageNumber 0 j)
     unfolding numberOf pass.keysOf need
     forward-fits j h =
         let s = settled .forward j h in (
           omega (arith, s .0, run .forward .few),
-          slot-fits g fw (run .forward) 0 0 (length fw) keys heads (omega arith) (omega arith) (run .tables) (run .placed) (k ∷ []) (q .last) (closed j) (s .0) (s .1) factors messages (run .enough) (omega (arith, run .enough′)),
+          slot-fits g fw (run .forward) 0 0 (length fw) keys heads (omega arith) (omega arith) (run .tables) (run .placed) (k ∷ []) (q .last)
+              (closed j) (s .0) (s .1) factors messages (run .enough) (omega (arith, run .enough′)),
         )
 
     backward-fits : (j : ℕ) → In j (q .backward) → Fits (messageNumber backward-shift j)
@@ -128,7 +133,8 @@ module _ (g : Graph) (p : lists.Plan) (at : List arrays.Gathered) (factors messa
     backward-fits j h =
         let s = settled .backward j h in (
           omega (arith, s .0, run .backward .few),
-          slot-fits g bw (run .backward) backward-shift (need g fw) (length bw) keys heads (omega arith) (omega arith) (run .tables) (run .placed′) (k ∷ []) (q .last) (closed j) (s .0) (s .1) factors messages (run .enough) (run .enough′),
+          slot-fits g bw (run .backward) backward-shift (need g fw) (length bw) keys heads (omega arith) (omega arith) (run .tables) (run .placed′)
+              (k ∷ []) (q .last) (closed j) (s .0) (s .1) factors messages (run .enough) (run .enough′),
         )
 
     original-fits : (i : ℕ) → In i (q .originals) → Fits i
@@ -137,13 +143,16 @@ module _ (g : Graph) (p : lists.Plan) (at : List arrays.Gathered) (factors messa
         let s = settled .originals i h in
         let b : i < g .count = from-lt i (g .count) (s .0) in (
           omega (arith, b, valid-count g (run .forward .sound)),
-          slot-fits g fw (run .forward) 0 0 (length fw) keys heads (omega arith) (omega arith) (run .tables) (run .placed) (k ∷ []) (q .last) (original i) b (s .1) factors messages (run .enough) (omega (arith, run .enough′)),
+          slot-fits g fw (run .forward) 0 0 (length fw) keys heads (omega arith) (omega arith) (run .tables) (run .placed) (k ∷ []) (q .last)
+              (original i) b (s .1) factors messages (run .enough) (omega (arith, run .enough′)),
         )
 
     slots-fit : (i : ℕ) → i < length (gatheredNumbers q) → Fits (getD (gatheredNumbers q) i 0)
     slots-fit =
-        at-append Fits (map (messageNumber 0) (q .forward)) (map (messageNumber backward-shift) (q .backward) ++ q .originals) (at-mapped Fits (messageNumber 0) (q .forward) forward-fits)
-        (at-append Fits (map (messageNumber backward-shift) (q .backward)) (q .originals) (at-mapped Fits (messageNumber backward-shift) (q .backward) backward-fits)
+        at-append Fits (map (messageNumber 0) (q .forward)) (map (messageNumber backward-shift) (q .backward) ++ q .originals)
+        (at-mapped Fits (messageNumber 0) (q .forward) forward-fits)
+        (at-append Fits (map (messageNumber backward-shift) (q .backward)) (q .originals)
+        (at-mapped Fits (messageNumber backward-shift) (q .backward) backward-fits)
         (λ i h. original-fits (getD (q .originals) i 0) (at-in (q .originals) i h)))
 
     key-asked : (work : ℕ) → work-numbers ≤ work → length (gatheredNumbers q) ≤ max-slots → AskedAt (g .sizes) factors messages work keys heads k q
@@ -167,17 +176,22 @@ module _ (g : Graph) (p : lists.Plan) (at : List arrays.Gathered) (factors messa
 
     forward-views : map view (map (messageNumber 0) (q .forward)) ≡ map (λ j. slotView g factors fw (values g factors fw) (closed j)) (q .forward)
     unfolding numberOf values
-    forward-views = map-map view (messageNumber 0) _ (q .forward) (λ j m. slot-view g fw (run .forward) 0 0 (length fw) keys heads (omega arith) (omega arith) (run .tables) (run .placed) factors messages (run .stored) (closed j) (settled .forward j (mem-in m) .0))
+    forward-views = map-map view (messageNumber 0) _ (q .forward)
+        (λ j m. slot-view g fw (run .forward) 0 0 (length fw) keys heads (omega arith) (omega arith) (run .tables) (run .placed) factors messages
+        (run .stored) (closed j) (settled .forward j (mem-in m) .0))
 
-    backward-views : map view (map (messageNumber backward-shift) (q .backward)) ≡ map (λ j. slotView g factors bw (values g factors bw) (closed j)) (q .backward)
+    backward-views : map view (map (messageNumber backward-shift) (q .backward))
+        ≡ map (λ j. slotView g factors bw (values g factors bw) (closed j)) (q .backward)
     unfolding numberOf values
     backward-views =
-        map-map view (messageNumber backward-shift) _ (q .backward) (λ j m. slot-view g bw (run .backward) backward-shift (need g fw) (length bw) keys heads (omega arith) (omega arith) (run .tables) (run .placed′) factors messages (run .stored′) (closed j) (settled .backward j (mem-in m) .0))
+        map-map view (messageNumber backward-shift) _ (q .backward) (λ j m. slot-view g bw (run .backward) backward-shift (need g fw) (length bw) keys
+        heads (omega arith) (omega arith) (run .tables) (run .placed′) factors messages (run .stored′) (closed j) (settled .backward j (mem-in m) .0))
 
     original-views : map view (q .originals) ≡ map (originalView g factors) (q .originals)
     unfolding numberOf slotView
     original-views =
-        map-same view (originalView g factors) (q .originals) (λ i m. slot-view g fw (run .forward) 0 0 (length fw) keys heads (omega arith) (omega arith) (run .tables) (run .placed) factors messages (run .stored) (original i) (from-lt i (g .count) (settled .originals i (mem-in m) .0)))
+        map-same view (originalView g factors) (q .originals) (λ i m. slot-view g fw (run .forward) 0 0 (length fw) keys heads (omega arith)
+        (omega arith) (run .tables) (run .placed) factors messages (run .stored) (original i) (from-lt i (g .count) (settled .originals i (mem-in m) .0)))
 
     views-are : viewsOf factors messages keys heads (gatheredNumbers q) ≡ gatheredViews g factors p (values g factors fw) (values g factors bw) q
     unfolding viewsOf gatheredViews
@@ -204,21 +218,31 @@ module _ (g : Graph) (p : lists.Plan) (at : List arrays.Gathered) (factors messa
         room = room;
       }
 
-  from-is : (k : ℕ) (qs : List Gathered) (d : Gathered) → ((i : ℕ) → i < length qs → (k + i < g .variables) × Settled (g .variables) (keysOf g) (from 0 (g .count)) fw bw (k + i) (getD qs i d))
+  from-is : (k : ℕ) (qs : List Gathered) (d : Gathered) → ((i : ℕ) → i < length qs
+      → (k + i < g .variables) × Settled (g .variables) (keysOf g) (from 0 (g .count)) fw bw (k + i) (getD qs i d))
       → foundFrom (g .sizes) factors messages keys heads k qs ≡ marginalsFrom g factors p (values g factors fw) (values g factors bw) k qs
   unfolding foundFrom marginalsFrom
   from-is k [] d h = refl
   from-is k (q ∷ qs) d h =
       let e : k + 0 ≡ k = omega arith in
       let z = h 0 (omega arith) in
-      rw (marginal-is k (omega (arith, z .0)) q (rw e at (z .1)), from-is (k + 1) qs d (λ i l. let n : k + suc i ≡ k + 1 + i = omega arith in rw n at (h (suc i) (omega arith)))) refl
+      rw (
+        marginal-is k (omega (arith, z .0)) q (rw e at (z .1)),
+        from-is (k + 1) qs d
+            (λ i l. let n : k + suc i ≡ k + 1 + i = omega arith in rw n at (h (suc i) (omega arith))),
+      ) refl
 
-  pub found-planned : foundFrom (g .sizes) factors messages keys heads 0 (map gatheredOf (take (g .variables) at)) ≡ marginalsFrom g factors p (values g factors fw) (values g factors bw) 0 (p .at-key)
-  found-planned = from-is 0 (map gatheredOf (take (g .variables) at)) (gatheredOf noGathered) each ∙ ap (marginalsFrom g factors p (values g factors fw) (values g factors bw) 0) (sym (run .gathers))
+  pub found-planned : foundFrom (g .sizes) factors messages keys heads 0 (map gatheredOf (take (g .variables) at))
+      ≡ marginalsFrom g factors p (values g factors fw) (values g factors bw) 0 (p .at-key)
+  found-planned = from-is 0 (map gatheredOf (take (g .variables) at)) (gatheredOf noGathered) each
+      ∙ ap (marginalsFrom g factors p (values g factors fw) (values g factors bw) 0) (sym (run .gathers))
     where
-      each : (i : ℕ) → i < length (map gatheredOf (take (g .variables) at)) → (0 + i < g .variables) × Settled (g .variables) (keysOf g) (from 0 (g .count)) fw bw (0 + i) (getD (map gatheredOf (take (g .variables) at)) i (gatheredOf noGathered))
+      each : (i : ℕ) → i < length (map gatheredOf (take (g .variables) at))
+          → (0 + i < g .variables) × Settled (g .variables) (keysOf g) (from 0 (g .count)) fw bw (0 + i)
+          (getD (map gatheredOf (take (g .variables) at)) i (gatheredOf noGathered))
       each i h =
           let b : i < length (take (g .variables) at) = omega (arith, length-map (take (g .variables) at) gatheredOf) in
           let n : i < g .variables = omega (arith, length-take-le (g .variables) at (run .long)) in
           let z : 0 + i ≡ i = omega arith in
-          rw (at-map gatheredOf (take (g .variables) at) i noGathered (gatheredOf noGathered) b, getD-take (g .variables) at i noGathered n, z) (n, run .settled i n)
+          rw (at-map gatheredOf (take (g .variables) at) i noGathered (gatheredOf noGathered) b, getD-take (g .variables) at i noGathered n, z)
+          (n, run .settled i n)

@@ -46,7 +46,8 @@ never-through k why e = let z : _≡_ {A = ℕ} 0 1 = cc in omega arith
 
 -- ---- how many numbers a key has
 
-moments-count : (s r : ℕ) (a xi w : List Float) (m : Form) (k : ℕ) → momentsOf r s a xi w ≡ m → missingFrom k (foundBy m ∷ []) ≡ none → length (marginalsIn (foundBy m ∷ [])) ≡ momentNumbers s
+moments-count : (s r : ℕ) (a xi w : List Float) (m : Form) (k : ℕ) → momentsOf r s a xi w ≡ m → missingFrom k (foundBy m ∷ []) ≡ none
+    → length (marginalsIn (foundBy m ∷ [])) ≡ momentNumbers s
 unfolding foundBy missingFrom marginalsIn
 moments-count s r a xi w (form mean covariance) k e h =
     let long = moments-long s mean covariance r a xi w e in
@@ -61,14 +62,16 @@ outcome-count s unbounded k h = absurd (let z : _≡_ {A = ℕ} 0 1 = cc in omeg
 outcome-count s (message r a xi w) k h = moments-count s r a xi w (momentsOf r s a xi w) k refl h
 
 module _ (sizes : List ℕ) (factors messages : List Float) (keys heads : List ℕ) where
-  found-count : (k : ℕ) (q : Gathered) → missingFrom k (foundAt sizes factors messages keys heads k q ∷ []) ≡ none → length (marginalsIn (foundAt sizes factors messages keys heads k q ∷ [])) ≡ momentNumbers (getD sizes k 0)
+  found-count : (k : ℕ) (q : Gathered) → missingFrom k (foundAt sizes factors messages keys heads k q ∷ []) ≡ none
+      → length (marginalsIn (foundAt sizes factors messages keys heads k q ∷ [])) ≡ momentNumbers (getD sizes k 0)
   unfolding foundAt
   found-count k q h = go (twice (q .leaves)) h
     where
       o : Outcome
       o = lastBy sizes factors messages keys heads k q
 
-      go : (b : Bool) → missingFrom k (cond b (missing CountedTwice) (foundIn (getD sizes k 0) o) ∷ []) ≡ none → length (marginalsIn (cond b (missing CountedTwice) (foundIn (getD sizes k 0) o) ∷ [])) ≡ momentNumbers (getD sizes k 0)
+      go : (b : Bool) → missingFrom k (cond b (missing CountedTwice) (foundIn (getD sizes k 0) o) ∷ []) ≡ none
+          → length (marginalsIn (cond b (missing CountedTwice) (foundIn (getD sizes k 0) o) ∷ [])) ≡ momentNumbers (getD sizes k 0)
       go true e = absurd (never-through k CountedTwice e)
       go false e = outcome-count (getD sizes k 0) o k e
 
@@ -98,9 +101,11 @@ module _ (sizes : List ℕ) (factors messages : List Float) (keys heads : List �
 
       opened : rest k ≡ f ∷ rest (k + 1)
       unfolding foundFrom
-      opened = ap (foundFrom sizes factors messages keys heads k) (drop-cons qs k q h ∙ ap (λ (x : Gathered). x ∷ drop (suc k) qs) eq ∙ ap (λ (n : ℕ). q ∷ drop n qs) (sym (add-one k)))
+      opened = ap (foundFrom sizes factors messages keys heads k) (drop-cons qs k q h ∙ ap (λ (x : Gathered). x ∷ drop (suc k) qs) eq
+          ∙ ap (λ (n : ℕ). q ∷ drop n qs) (sym (add-one k)))
 
-      pub walk-on : (results′ : List Float) (to′ : ℕ) → missingFrom k (f ∷ []) ≡ none → results′ ≡ lay results to (marginalsIn (f ∷ [])) → to′ ≡ to + momentNumbers (getD sizes k 0)
+      pub walk-on : (results′ : List Float) (to′ : ℕ) → missingFrom k (f ∷ []) ≡ none → results′ ≡ lay results to (marginalsIn (f ∷ [])) → to′
+          ≡ to + momentNumbers (getD sizes k 0)
           → to + momentNumbers (getD sizes k 0) ≤ length results → Walked results₀ results′ to′ (k + 1)
       walk-on results′ to′ e el et room =
           let n : length (marginalsIn (f ∷ [])) ≡ momentNumbers (getD sizes k 0) = found-count k q e in
@@ -125,9 +130,11 @@ module _ (sizes : List ℕ) (factors messages : List Float) (keys heads : List �
                 ∙ drop-drop (length (marginalsIn (f ∷ []))) to results₀);
           }
 
-      pub walk-halted : (numbers j : ℕ) (why : Refusal) (r : Carried) (results′ : List Float) → r ≡ Halted j why → stopOf r ≡ missingFrom k (f ∷ []) → Finds all numbers r results₀ results′
+      pub walk-halted : (numbers j : ℕ) (why : Refusal) (r : Carried) (results′ : List Float) → r ≡ Halted j why → stopOf r ≡ missingFrom k (f ∷ [])
+          → Finds all numbers r results₀ results′
       walk-halted numbers j why r results′ er e =
-          let s : stopOf r ≡ missingFrom 0 all = rw er (sym (w .stop ∙ ap (missingFrom k) opened ∙ halted-first f (rest (k + 1)) k j why (sym e ∙ ap stopOf er))) in
+          let s : stopOf r ≡ missingFrom 0 all = rw er (sym (w .stop ∙ ap (missingFrom k) opened
+          ∙ halted-first f (rest (k + 1)) k j why (sym e ∙ ap stopOf er))) in
           record {
             tells = s;
             told = carried-tells r (missingFrom 0 all) s;
@@ -138,7 +145,8 @@ module _ (sizes : List ℕ) (factors messages : List Float) (keys heads : List �
           apart : r ≡ Through → ⊥
           apart t = let z : _≡_ {A = ℕ} 0 1 = cc in omega arith
 
-    pub walk-done : (results₀ results : List Float) (to k : ℕ) → Walked results₀ results to k → length qs ≤ k → Finds all (startOf sizes (length qs)) Through results₀ results
+    pub walk-done : (results₀ results : List Float) (to k : ℕ) → Walked results₀ results to k → length qs ≤ k
+        → Finds all (startOf sizes (length qs)) Through results₀ results
     unfolding foundFrom missingFrom marginalsIn
     walk-done results₀ results to k w h =
         let e : drop k qs ≡ [] = drop-of-length-le qs {i = k} h in

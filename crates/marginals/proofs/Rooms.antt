@@ -24,7 +24,12 @@ sum-times f h k (suc n) e = omega (arith, sum-times f h k n (λ i l. e i (omega 
 module _ (g : Graph) (v : valid g ≡ true) where
   pub key-room : (k : ℕ) → k < g .variables → startOf (g .sizes) k + (sizeAt g k + sizeAt g k * sizeAt g k) ≤ marginalNumbers g
   unfolding startOf
-  key-room k h = omega (arith, start-more (g .sizes) k, sum-le (λ i. sizeAt g i + sizeAt g i * sizeAt g i) (k + 1) max-variables (omega (arith, valid-variables g v)))
+  key-room k h = omega (
+    arith,
+    start-more (g .sizes) k,
+    sum-le (λ i. sizeAt g i + sizeAt g i * sizeAt g i) (k + 1) max-variables
+        (omega (arith, valid-variables g v)),
+  )
 
   -- the places after the registered variables have size 0
   no-size : (k : ℕ) → g .variables ≤ k → k < max-variables → sizeAt g k ≡ 0
@@ -44,7 +49,8 @@ module _ (g : Graph) (v : valid g ≡ true) where
   numbers-most =
       omega (
         arith,
-        sum-times (λ i. sizeAt g i + sizeAt g i * sizeAt g i) (λ i. sizeAt g i) 7 max-variables (λ i l. let m : sizeAt g i * sizeAt g i ≤ max-size * sizeAt g i = mul-le-mul (size-few i l) (omega arith) in omega arith),
+        sum-times (λ i. sizeAt g i + sizeAt g i * sizeAt g i) (λ i. sizeAt g i) 7 max-variables
+            (λ i l. let m : sizeAt g i * sizeAt g i ≤ max-size * sizeAt g i = mul-le-mul (size-few i l) (omega arith) in omega arith),
         valid-total g v,
       )
 

@@ -39,11 +39,14 @@ module _ (g : Graph) (at : List arrays.Gathered) (factors messages : List Float)
   many : length (entries at (g .variables)) ≡ g .variables
   many = length-map (take (g .variables) at) gatheredOf ∙ length-take-le (g .variables) at (f .long)
 
-  planned-finds : (numbers : ℕ) (r : Carried) (results : List Float) → numbers ≡ marginalNumbers g → Finds (foundFrom (g .sizes) factors messages keys heads 0 (entries at (g .variables))) numbers r results₀ results
+  planned-finds : (numbers : ℕ) (r : Carried) (results : List Float) → numbers ≡ marginalNumbers g
+      → Finds (foundFrom (g .sizes) factors messages keys heads 0 (entries at (g .variables))) numbers r results₀ results
       → FindsPlanned g at factors messages keys heads r results₀ results
-  planned-finds numbers r results e h p run = subst (λ (all : List Found). Finds all (marginalNumbers g) r results₀ results) (found-planned g p at factors messages keys heads run) (rw e at h)
+  planned-finds numbers r results e h p run = subst (λ (all : List Found). Finds all (marginalNumbers g) r results₀ results)
+      (found-planned g p at factors messages keys heads run) (rw e at h)
 
-  pub search-done : (results : List Float) (to k : ℕ) → At results to k → g .variables ≤ k → FindsPlanned g at factors messages keys heads Through results₀ results
+  pub search-done : (results : List Float) (to k : ℕ) → At results to k → g .variables ≤ k
+      → FindsPlanned g at factors messages keys heads Through results₀ results
   search-done results to k w h =
       planned-finds (startOf (g .sizes) (length (entries at (g .variables)))) Through results (ap (startOf (g .sizes)) many ∙ all-numbers g (f .sound))
       (walk-done (g .sizes) factors messages keys heads (entries at (g .variables)) results₀ results to k w (omega (arith, many)))
@@ -72,13 +75,17 @@ module _ (g : Graph) (at : List arrays.Gathered) (factors messages : List Float)
     pub turn-asked : (work : ℕ) → work ≡ work₀ → Held q × AskedAt (g .sizes) factors messages work keys heads k (gatheredOf q) × (sizeAt g k ≤ max-size)
     turn-asked work e = rw e (f .held k l, f .asked k l, key-small)
 
-    pub search-on : (r : Carried) (results′ : List Float) (s : ℕ) → r ≡ Through → stopOf r ≡ missingFrom k (own ∷ []) → results′ ≡ lay results to (marginalsIn (own ∷ [])) → s ≡ sizeAt g k
+    pub search-on : (r : Carried) (results′ : List Float) (s : ℕ) → r ≡ Through → stopOf r ≡ missingFrom k (own ∷ []) → results′
+        ≡ lay results to (marginalsIn (own ∷ [])) → s ≡ sizeAt g k
         → At results′ (to + (s + s * s)) (k + 1)
     search-on r results′ s er et el es =
-        walk-on (g .sizes) factors messages keys heads (entries at (g .variables)) results₀ results to k (gatheredOf q) w (omega (arith, many)) entry results′ (to + (s + s * s))
+        walk-on (g .sizes) factors messages keys heads (entries at (g .variables)) results₀ results to k (gatheredOf q) w (omega (arith, many)) entry
+        results′ (to + (s + s * s))
         (sym et ∙ ap stopOf er) el (rw es refl) turn-room
 
-    pub search-halted : (j : ℕ) (why : Refusal) (r : Carried) (results′ : List Float) → r ≡ Halted j why → stopOf r ≡ missingFrom k (own ∷ []) → FindsPlanned g at factors messages keys heads r results₀ results′
+    pub search-halted : (j : ℕ) (why : Refusal) (r : Carried) (results′ : List Float) → r ≡ Halted j why → stopOf r ≡ missingFrom k (own ∷ [])
+        → FindsPlanned g at factors messages keys heads r results₀ results′
     search-halted j why r results′ er e =
         planned-finds (marginalNumbers g) r results′ refl
-        (walk-halted (g .sizes) factors messages keys heads (entries at (g .variables)) results₀ results to k (gatheredOf q) w (omega (arith, many)) entry (marginalNumbers g) j why r results′ er e)
+        (walk-halted (g .sizes) factors messages keys heads (entries at (g .variables)) results₀ results to k (gatheredOf q) w (omega (arith, many))
+        entry (marginalNumbers g) j why r results′ er e)

@@ -21,7 +21,8 @@ counted-none items count =
     let e : drop count (take count items) ≡ [] = drop-of-length-le (take count items) {i = count} (omega (arith, length-take count items)) in
     rw e (omega arith, set-none, refl)
 
-module _ (items : List ℕ) (count : ℕ) (r : Bool) (seen i one : ℕ) (long : count ≤ length items) (h : 0 < i) (inv : Counted items count r seen i) (single : one ≡ 2 ^ getD items (i - 1) 0) where
+module _ (items : List ℕ) (count : ℕ) (r : Bool) (seen i one : ℕ) (long : count ≤ length items) (h : 0 < i) (inv : Counted items count r seen i)
+    (single : one ≡ 2 ^ getD items (i - 1) 0) where
   abbrev x : ℕ
   x = getD items (i - 1) 0
 

@@ -24,7 +24,8 @@ odd-number d s (suc q) k l = refl
 -- rounding never gives a NaN, and so neither does a sum of two numbers
 units-number : (f : Format) (s : Bool) (q k : ℕ) → isNan (units f s q k) ≡ false
 unfolding units isNan
-units-number f s q k = cond-number (ltb (q * 2 ^ k) (2 ^ (low f + suc (emax f)))) (odd (suc (prec f)) s q k (low f)) (inf s) (odd-number (suc (prec f)) s q k (low f)) refl
+units-number f s q k = cond-number (ltb (q * 2 ^ k) (2 ^ (low f + suc (emax f)))) (odd (suc (prec f)) s q k (low f)) (inf s)
+    (odd-number (suc (prec f)) s q k (low f)) refl
 
 round-number : (f : Format) (s : Bool) (a b : ℕ) → isNan (round f s a b) ≡ false
 unfolding round
@@ -63,7 +64,8 @@ finite-is (fin s m e) = equals-itself (sub binary64 (fin s m e) (fin s m e)) (di
 -- ---- a walk over a list
 
 -- where the elements passed are finite, the rest decides
-pub rest-decides : (s : List Float) (i : ℕ) → i < length s → allFinite s ≡ allFinite (drop i s) → isFinite (getD s i nan) ≡ true → allFinite s ≡ allFinite (drop (i + 1) s)
+pub rest-decides : (s : List Float) (i : ℕ) → i < length s → allFinite s ≡ allFinite (drop i s) → isFinite (getD s i nan) ≡ true → allFinite s
+    ≡ allFinite (drop (i + 1) s)
 unfolding allFinite
 rest-decides s i l e h = e ∙ rw (drop-cons s i nan, h, add-one)
 

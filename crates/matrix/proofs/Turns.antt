@@ -18,7 +18,8 @@ pub within : {k m n : ℕ} → n ≡ m → k < m → k < n
 within e h = omega arith
 
 -- one store more
-pub steps-more : (at : ℕ → ℕ) (f : ℕ → List Float → Float) (s₀ s t : List Float) (i : ℕ) (x : Float) → s ≡ steps at f s₀ i → x ≡ f i s → t ≡ set s (at i) x → t ≡ steps at f s₀ (i + 1)
+pub steps-more : (at : ℕ → ℕ) (f : ℕ → List Float → Float) (s₀ s t : List Float) (i : ℕ) (x : Float) → s ≡ steps at f s₀ i → x ≡ f i s → t
+    ≡ set s (at i) x → t ≡ steps at f s₀ (i + 1)
 unfolding steps
 steps-more at f s₀ s t i x es ex et = rw (et, ex, add-one i, es)
 

@@ -49,8 +49,10 @@ pub no-run : (g : Graph) (factors : List Float) (s : Stores) → s ≡ again g f
 unfolding again
 no-run g factors s = refl
 
-pub one-run : (g : Graph) (factors : List Float) (s : Stores) (n : ℕ) (messages marginals : List Float) (work : ℕ) (r : Ran) (messages′ marginals′ : List Float) → work ≡ work-numbers
-    → stores messages marginals ≡ again g factors s n → stages.verdict r messages′ marginals′ ≡ solver.run g factors messages work marginals → stores messages′ marginals′ ≡ again g factors s (n + 1)
+pub one-run : (g : Graph) (factors : List Float) (s : Stores) (n : ℕ) (messages marginals : List Float) (work : ℕ) (r : Ran)
+    (messages′ marginals′ : List Float) → work ≡ work-numbers
+    → stores messages marginals ≡ again g factors s n → stages.verdict r messages′ marginals′ ≡ solver.run g factors messages work marginals
+    → stores messages′ marginals′ ≡ again g factors s (n + 1)
 unfolding again
 one-run g factors s n messages marginals work r messages′ marginals′ ew es e =
     rw (add-one n)
@@ -60,10 +62,12 @@ one-run g factors s n messages marginals work r messages′ marginals′ ew es e
 pub all-runs : (g : Graph) (factors : List Float) (s : Stores) (times n : ℕ) (t : Stores) → n ≡ times → t ≡ again g factors s n → t ≡ again g factors s times
 all-runs g factors s times n t en es = es ∙ ap (again g factors s) en
 
-pub eliminated-is : (bytes slots kept cleared : List ℕ) (messages : List Float) (read : Read) (factors messages′ : List Float) (d : Direct) (r : ℕ) → read ≡ readAll bytes (zeros factor-room) .answer
+pub eliminated-is : (bytes slots kept cleared : List ℕ) (messages : List Float) (read : Read) (factors messages′ : List Float) (d : Direct) (r : ℕ)
+    → read ≡ readAll bytes (zeros factor-room) .answer
     → factors ≡ readAll bytes (zeros factor-room) .store → d ≡ answerOf (verdict (read .graph) slots kept cleared factors (length messages) work-numbers)
     → messages′ ≡ storeOf messages (verdict (read .graph) slots kept cleared factors (length messages) work-numbers) → r ≡ numberIn d
-    → (r ≡ numberIn (answerOf (eliminated (readJob bytes) slots kept cleared (length messages)))) × (messages′ ≡ storeOf messages (eliminated (readJob bytes) slots kept cleared (length messages)))
+    → (r ≡ numberIn (answerOf (eliminated (readJob bytes) slots kept cleared (length messages)))) ×
+    (messages′ ≡ storeOf messages (eliminated (readJob bytes) slots kept cleared (length messages)))
 unfolding eliminated
 eliminated-is bytes slots kept cleared messages read factors messages′ d r er ef ed em en = (en ∙ rw (ed, er, ef) refl, em ∙ rw (er, ef) refl)
 

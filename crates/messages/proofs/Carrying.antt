@@ -43,7 +43,8 @@ use Rattle.messages.proofs.Placing.{known, fits, headed, rows-are}
 use Rattle.messages.proofs.Reading.{values-length, slot-view}
 
 -- a message stands where it stood, if the store is as it was up to where it ends
-pub stored-stays : (g : Graph) (factors : List Float) (ms : List ClosedFactor) (start : ℕ) (store store′ : List Float) (i j to : ℕ) → i < j → start + needTo g ms j ≤ to
+pub stored-stays : (g : Graph) (factors : List Float) (ms : List ClosedFactor) (start : ℕ) (store store′ : List Float) (i j to : ℕ) → i < j
+    → start + needTo g ms j ≤ to
     → ((a b : ℕ) → b ≤ to → part store′ a b ≡ part store a b) → Stored g factors ms start store i → Stored g factors ms start store′ i
 stored-stays g factors ms start store store′ i j to h room same o =
     record {
@@ -56,7 +57,8 @@ stored-stays g factors ms start store store′ i j to h room same o =
       of-a = o .of-a;
       of-xi = o .of-xi;
       of-w = o .of-w;
-      stands = same (start + needTo g ms i) (start + needTo g ms i + numbersOf (o .rows) (widthAt g ms i)) (rw (o .of-rows) (omega (arith, need-rises g ms i j h))) ∙ o .stands;
+      stands = same (start + needTo g ms i) (start + needTo g ms i + numbersOf (o .rows) (widthAt g ms i))
+          (rw (o .of-rows) (omega (arith, need-rises g ms i j h))) ∙ o .stands;
     }
 
 -- ---- lists of outcomes
@@ -89,7 +91,8 @@ stop-on i (unbounded ∷ vs) rest h = absurd h
 stop-on i (message r a xi w ∷ vs) rest h = stop-on (i + 1) vs rest h ∙ ap (λ (n : ℕ). stopFrom n rest) (omega arith)
 
 -- the values of a pass from the j-th on
-values-split : (g : Graph) (factors : List Float) (ms : List ClosedFactor) (j n : ℕ) → j < n → (rest : List Outcome) × (valuesTo g factors ms n ≡ valuesTo g factors ms j ++ (valueAt g factors ms j ∷ rest))
+values-split : (g : Graph) (factors : List Float) (ms : List ClosedFactor) (j n : ℕ) → j < n
+    → (rest : List Outcome) × (valuesTo g factors ms n ≡ valuesTo g factors ms j ++ (valueAt g factors ms j ∷ rest))
 unfolding valuesTo
 values-split g factors ms j zero h = absurd (omega arith)
 values-split g factors ms j (suc n) h = go (decLt j n) (values-split g factors ms j n)
@@ -97,19 +100,31 @@ values-split g factors ms j (suc n) h = go (decLt j n) (values-split g factors m
     go : Dec (j < n) → (j < n → (rest : List Outcome) × (valuesTo g factors ms n ≡ valuesTo g factors ms j ++ (valueAt g factors ms j ∷ rest)))
         → (rest : List Outcome) × (valuesTo g factors ms n ++ (valueAt g factors ms n ∷ []) ≡ valuesTo g factors ms j ++ (valueAt g factors ms j ∷ rest))
     go (yes l) ih =
-        let r = ih l in
-        (r .0 ++ (valueAt g factors ms n ∷ []), ap (λ (vs : List Outcome). vs ++ (valueAt g factors ms n ∷ [])) (r .1) ∙ append-assoc (valuesTo g factors ms j) (valueAt g factors ms j ∷ r .0) (valueAt g factors ms n ∷ []))
+        let r = ih l in (
+          r .0 ++ (valueAt g factors ms n ∷ []),
+          ap (λ (vs : List Outcome). vs ++ (valueAt g factors ms n ∷ [])) (r .1)
+              ∙ append-assoc (valuesTo g factors ms j) (valueAt g factors ms j ∷ r .0) (valueAt g factors ms n ∷ []),
+        )
     go (no l) ih = let e : j ≡ n = omega arith in rw e ([], refl)
 
 -- ---- the store
 
-lay-next : (store l t m : List Float) (s to : ℕ) → s + length l ≤ length store → to ≡ s + length l → m ≡ lay store s l → splice m to (to + length t) t ≡ lay store s (l ++ t)
+lay-next : (store l t m : List Float) (s to : ℕ) → s + length l ≤ length store → to ≡ s + length l → m ≡ lay store s l → splice m to (to + length t) t
+    ≡ lay store s (l ++ t)
 lay-next store l t m s to room et em =
     let k : length (take s store ++ l) ≡ to = length-append (take s store) l ∙ omega (arith, length-take-le s store (omega arith)) in
     let n : to + length t - to ≡ length t = omega arith in
     let e : s + length (l ++ t) ≡ s + length l + length t = omega (arith, length-append l t) in
-    rw (em, n, take-at (take s store ++ l) (drop (s + length l) store) to k, drop-at (take s store ++ l) (drop (s + length l) store) to k, drop-drop (length t) (s + length l) store, e)
-    (sym (append-assoc (take s store ++ l) t (drop (s + length l + length t) store)) ∙ ap (λ (x : List Float). x ++ drop (s + length l + length t) store) (append-assoc (take s store) l t))
+    rw (
+      em,
+      n,
+      take-at (take s store ++ l) (drop (s + length l) store) to k,
+      drop-at (take s store ++ l) (drop (s + length l) store) to k,
+      drop-drop (length t) (s + length l) store,
+      e,
+    )
+    (sym (append-assoc (take s store ++ l) t (drop (s + length l + length t) store))
+    ∙ ap (λ (x : List Float). x ++ drop (s + length l + length t) store) (append-assoc (take s store) l t))
 
 -- ---- one message
 
@@ -123,7 +138,8 @@ pub record Carrying (g : Graph) (factors : List Float) (ms : List ClosedFactor) 
   pub long : length (finished (valuesTo g factors ms j)) ≡ needTo g ms j
   pub same : length messages ≡ length store
 
-pub carrying-none : (g : Graph) (factors : List Float) (ms : List ClosedFactor) (start : ℕ) (store : List Float) → start ≤ length store → Carrying g factors ms start store store start 0
+pub carrying-none : (g : Graph) (factors : List Float) (ms : List ClosedFactor) (start : ℕ) (store : List Float) → start ≤ length store
+    → Carrying g factors ms start store store start 0
 unfolding needTo valuesTo finished
 carrying-none g factors ms start store h =
     record {
@@ -136,8 +152,10 @@ carrying-none g factors ms start store h =
       same = refl;
     }
 
-module _ (g : Graph) (factors : List Float) (ms : List ClosedFactor) (c : Carriable g ms) (shift start : ℕ) (keys heads : List ℕ) (store messages : List Float) (to j work : ℕ)
-    (low : shift ≤ backward-shift) (l : j < length ms) (tables : Tables g keys heads) (placed : PlacedTo g ms shift start keys heads (length ms)) (sized : length (g .sizes) ≡ max-variables)
+module _ (g : Graph) (factors : List Float) (ms : List ClosedFactor) (c : Carriable g ms) (shift start : ℕ) (keys heads : List ℕ)
+    (store messages : List Float) (to j work : ℕ)
+    (low : shift ≤ backward-shift) (l : j < length ms) (tables : Tables g keys heads) (placed : PlacedTo g ms shift start keys heads (length ms))
+    (sized : length (g .sizes) ≡ max-variables)
     (hf : offset g (g .count) ≤ length factors) (hm : start + need g ms ≤ length store) (hw : work-numbers ≤ work)
     (p : Carrying g factors ms start store messages to j) (lists : Lists) (holds : Holds shift (at ms j) lists) where
   abbrev m : ClosedFactor
@@ -183,10 +201,12 @@ module _ (g : Graph) (factors : List Float) (ms : List ClosedFactor) (c : Carria
   views-are = go (m .content) (λ s h. h)
     where
       go : (content : List Slot) → ((s : Slot) → List·Memᴰ s content → List·Memᴰ s (m .content))
-          → map (λ number. readView factors messages keys (headOf heads number)) (map (numberOf shift) content) ≡ map (slotView g factors ms (valuesTo g factors ms j)) content
+          → map (λ number. readView factors messages keys (headOf heads number)) (map (numberOf shift) content)
+          ≡ map (slotView g factors ms (valuesTo g factors ms j)) content
       go [] h = refl
       go (s ∷ rest) h =
-          rw (slot-view g ms c shift start j keys heads low (omega arith) tables before factors messages (p .held) s (known g ms c shift start j keys heads low l tables before sized s (h s (List·Memᴰ·head refl))))
+          rw (slot-view g ms c shift start j keys heads low (omega arith) tables before factors messages (p .held) s
+          (known g ms c shift start j keys heads low l tables before sized s (h s (List·Memᴰ·head refl))))
           (ap (λ (r : List FactorView). slotView g factors ms (valuesTo g factors ms j) s ∷ r) (go rest (λ t k. h t (List·Memᴰ·tail k))))
 
   plain-value : eliminate (viewsOf factors messages keys heads slots) (m .kept) (m .cleared) (g .sizes) ≡ valueAt g factors ms j
@@ -205,7 +225,8 @@ module _ (g : Graph) (factors : List Float) (ms : List ClosedFactor) (c : Carria
       came : Came (valueAt g factors ms j) r
       came = at-rows (valueAt g factors ms j) r (ap answer (sym value-is) ∙ sym et ∙ er)
 
-      sizes-are : Sized (rowsByAll (layoutOf (m .kept) (m .cleared) (g .sizes)) keys heads slots (length slots)) (widthAt g ms j) r (came .a) (came .xi) (came .w)
+      sizes-are : Sized (rowsByAll (layoutOf (m .kept) (m .cleared) (g .sizes)) keys heads slots (length slots)) (widthAt g ms j) r (came .a)
+          (came .xi) (came .w)
       sizes-are = asked-sized sized asked r (came .a) (came .xi) (came .w) (plain-value ∙ came .is)
 
       rows-told : r ≡ rowsAt g ms j
@@ -251,7 +272,8 @@ module _ (g : Graph) (factors : List Float) (ms : List ClosedFactor) (c : Carria
           go : Dec (i < j) → Stored g factors ms start messages′ i
           go (yes b) =
               stored-stays g factors ms start messages messages′ i j to b (omega (arith, p .to-is))
-              (λ x y l. rw written (part-below messages to (to + length t) t (omega arith) (omega (arith, room, t-length, p .to-is)) (omega arith) x y l)) (p .held i b)
+              (λ x y l. rw written (part-below messages to (to + length t) t (omega arith) (omega (arith, room, t-length, p .to-is)) (omega arith) x y
+              l)) (p .held i b)
           go (no b) =
               let e : i ≡ j = omega arith in
               rw e
@@ -275,7 +297,8 @@ module _ (g : Graph) (factors : List Float) (ms : List ClosedFactor) (c : Carria
             to-is = omega (arith, p .to-is, need-more g ms j);
             all-made = rw values-more (made-more (valuesTo g factors ms j) r (came .a) (came .xi) (came .w) (p .all-made));
             held = held-more;
-            lies = written ∙ lay-next store (finished (valuesTo g factors ms j)) t messages start to (omega (arith, room, p .same, p .long)) (omega (arith, p .to-is, p .long)) (p .lies) ∙ ap (lay store start) (sym finished-more);
+            lies = written ∙ lay-next store (finished (valuesTo g factors ms j)) t messages start to (omega (arith, room, p .same, p .long))
+                (omega (arith, p .to-is, p .long)) (p .lies) ∙ ap (lay store start) (sym finished-more);
             long = rw finished-more (omega (arith, length-append (finished (valuesTo g factors ms j)) t, p .long, t-length, need-more g ms j));
             same = rw written (length-splice messages to (to + length t) t (omega arith) (omega (arith, room, t-length, p .to-is)) (omega arith)) ∙ p .same;
           }
@@ -287,20 +310,27 @@ module _ (g : Graph) (factors : List Float) (ms : List ClosedFactor) (c : Carria
       unfolding values
       refused =
           let r = values-split g factors ms j (length ms) l in
-          let e : valuesTo g factors ms (length ms) ≡ valuesTo g factors ms j ++ (o ∷ r .0) = r .1 ∙ ap (λ (v : Outcome). valuesTo g factors ms j ++ (v ∷ r .0)) eo in
+          let e : valuesTo g factors ms (length ms) ≡ valuesTo g factors ms j ++ (o ∷ r .0) = r .1
+          ∙ ap (λ (v : Outcome). valuesTo g factors ms j ++ (v ∷ r .0)) eo in
           let n : 0 + length (valuesTo g factors ms j) ≡ j = omega (arith, values-length g factors ms j) in
-          let f : finished (valuesTo g factors ms j ++ (o ∷ r .0)) ≡ finished (valuesTo g factors ms j) = finished-on (valuesTo g factors ms j) (o ∷ r .0) (p .all-made) ∙ ap (λ (x : List Float). finished (valuesTo g factors ms j) ++ x) (none-more (r .0)) ∙ append-nil (finished (valuesTo g factors ms j)) in (
+          let f : finished (valuesTo g factors ms j ++ (o ∷ r .0)) ≡ finished (valuesTo g factors ms j) = finished-on (valuesTo g factors ms j)
+          (o ∷ r .0) (p .all-made) ∙ ap (λ (x : List Float). finished (valuesTo g factors ms j) ++ x) (none-more (r .0))
+          ∙ append-nil (finished (valuesTo g factors ms j)) in (
             sym (ap (stopFrom 0) e ∙ stop-on 0 (valuesTo g factors ms j) (o ∷ r .0) (p .all-made) ∙ ap (λ (i : ℕ). stopFrom i (o ∷ r .0)) n ∙ stops j (r .0)),
             em ∙ ap (stored messages to) (value-is ∙ eo) ∙ keeps ∙ p .lies ∙ ap (lay store start) (sym (ap finished e ∙ f)),
           )
 
-    pub refused-pivot : told ≡ Pivot → (stopOf (Halted j ClearedPivot) ≡ stopFrom 0 (values g factors ms)) × (messages′ ≡ lay store start (finished (values g factors ms)))
+    pub refused-pivot : told ≡ Pivot → (stopOf (Halted j ClearedPivot) ≡ stopFrom 0 (values g factors ms)) ×
+        (messages′ ≡ lay store start (finished (values g factors ms)))
     unfolding stopFrom finished stored
-    refused-pivot e = refused ClearedPivot pivot (at-pivot (valueAt g factors ms j) (ap answer (sym value-is) ∙ sym et ∙ e)) (λ i rest. refl) (λ rest. refl) refl
+    refused-pivot e = refused ClearedPivot pivot (at-pivot (valueAt g factors ms j) (ap answer (sym value-is) ∙ sym et ∙ e)) (λ i rest. refl)
+        (λ rest. refl) refl
 
-    pub refused-unbounded : told ≡ Unbounded → (stopOf (Halted j ResultNotFinite) ≡ stopFrom 0 (values g factors ms)) × (messages′ ≡ lay store start (finished (values g factors ms)))
+    pub refused-unbounded : told ≡ Unbounded → (stopOf (Halted j ResultNotFinite) ≡ stopFrom 0 (values g factors ms)) ×
+        (messages′ ≡ lay store start (finished (values g factors ms)))
     unfolding stopFrom finished stored
-    refused-unbounded e = refused ResultNotFinite unbounded (at-unbounded (valueAt g factors ms j) (ap answer (sym value-is) ∙ sym et ∙ e)) (λ i rest. refl) (λ rest. refl) refl
+    refused-unbounded e = refused ResultNotFinite unbounded (at-unbounded (valueAt g factors ms j) (ap answer (sym value-is) ∙ sym et ∙ e))
+        (λ i rest. refl) (λ rest. refl) refl
 
 -- ---- the whole pass
 
@@ -311,15 +341,18 @@ no-stop i (pivot ∷ vs) h = absurd h
 no-stop i (unbounded ∷ vs) h = absurd h
 no-stop i (message r a xi w ∷ vs) h = no-stop (i + 1) vs h
 
-pub carried : (g : Graph) (factors : List Float) (ms : List ClosedFactor) (start : ℕ) (store messages : List Float) (to j : ℕ) → Carrying g factors ms start store messages to j → j ≡ length ms
-    → (stopOf Through ≡ stopFrom 0 (values g factors ms)) × (messages ≡ lay store start (finished (values g factors ms))) × AllStored g factors ms start messages
+pub carried : (g : Graph) (factors : List Float) (ms : List ClosedFactor) (start : ℕ) (store messages : List Float) (to j : ℕ)
+    → Carrying g factors ms start store messages to j → j ≡ length ms
+    → (stopOf Through ≡ stopFrom 0 (values g factors ms)) × (messages ≡ lay store start (finished (values g factors ms))) × AllStored g factors ms
+    start messages
 unfolding values need
 carried g factors ms start store messages to j p e =
     let q : Carrying g factors ms start store messages to (length ms) = rw e at p in
     (sym (no-stop 0 (valuesTo g factors ms (length ms)) (q .all-made)), q .lies, record { each = q .held; long = q .long })
 
 -- the head of a message tells its rows and its width
-pub head-tells : (g : Graph) (ms : List ClosedFactor) (c : Carriable g ms) (shift start j : ℕ) (keys heads : List ℕ) (h : Head) → j < length ms → PlacedTo g ms shift start keys heads (length ms) → h ≡ headOf heads (messageNumber shift j)
+pub head-tells : (g : Graph) (ms : List ClosedFactor) (c : Carriable g ms) (shift start j : ℕ) (keys heads : List ℕ) (h : Head) → j < length ms
+    → PlacedTo g ms shift start keys heads (length ms) → h ≡ headOf heads (messageNumber shift j)
     → (h .rows ≡ rowsAt g ms j) × (h .width ≡ widthAt g ms j) × (h .rows ≤ 32) × (h .width ≤ 32) × (h .rows * h .width ≤ 1024) × (h .rows * h .rows ≤ 1024)
 head-tells g ms c shift start j keys heads h l placed e =
     let r : h .rows ≡ rowsAt g ms j = ap (λ (x : Head). x .rows) (e ∙ placed j l .head) in
@@ -329,7 +362,8 @@ head-tells g ms c shift start j keys heads h l placed e =
     let small = products (h .rows) (h .width) hr hd in
     (r, d, hr, hd, small .0, small .1)
 
-pub next-told : (g : Graph) (ms : List ClosedFactor) (to r d j : ℕ) → r ≡ rowsAt g ms j → d ≡ widthAt g ms j → to + (r * d + r + r * r) ≡ to + numbersOf (rowsAt g ms j) (widthAt g ms j)
+pub next-told : (g : Graph) (ms : List ClosedFactor) (to r d j : ℕ) → r ≡ rowsAt g ms j → d ≡ widthAt g ms j → to + (r * d + r + r * r)
+    ≡ to + numbersOf (rowsAt g ms j) (widthAt g ms j)
 next-told g ms to r d j er ed = rw (er, ed) refl
 
 -- a pass that was halted is not through

@@ -27,12 +27,14 @@ module _ (l : Lists) (P : List ℕ → List ℕ → List ℕ → Type 0) where
       let c : l .count - 0 ≡ l .count = omega arith in
       rw (a, b, c) h
 
-  pub from-parts : P (take (l .keeps - 0) (l .kept)) (take (l .clears - 0) (l .cleared)) (take (l .count - 0) (l .slots)) → P (keptOf l) (clearedOf l) (slotsOf l)
+  pub from-parts : P (take (l .keeps - 0) (l .kept)) (take (l .clears - 0) (l .cleared)) (take (l .count - 0) (l .slots))
+      → P (keptOf l) (clearedOf l) (slotsOf l)
   from-parts h =
       let a : l .keeps - 0 ≡ l .keeps = omega arith in
       let b : l .clears - 0 ≡ l .clears = omega arith in
       let c : l .count - 0 ≡ l .count = omega arith in
-      subst (λ (n : ℕ). P (keptOf l) (clearedOf l) (take n (l .slots))) c (subst (λ (n : ℕ). P (keptOf l) (take n (l .cleared)) (take (l .count - 0) (l .slots))) b
+      subst (λ (n : ℕ). P (keptOf l) (clearedOf l) (take n (l .slots))) c
+      (subst (λ (n : ℕ). P (keptOf l) (take n (l .cleared)) (take (l .count - 0) (l .slots))) b
       (subst (λ (n : ℕ). P (take n (l .kept)) (take (l .clears - 0) (l .cleared)) (take (l .count - 0) (l .slots))) a h))
 
 -- what the placing comes to
@@ -47,7 +49,8 @@ pub within : (shift : ℕ) (m : ClosedFactor) (l : Lists) → Holds shift m l �
 within shift m l h = record { kept = omega (arith, h .few-kept); cleared = omega (arith, h .few-cleared); slots = omega (arith, h .few) }
 
 -- what the making of a message comes to
-abbrev pub EliminatedBy : (sizes : List ℕ) (factors messages : List Float) (keys heads : List ℕ) (to : ℕ) (r : Eliminated) (messages′ : List Float) (kept cleared slots : List ℕ) → Type 0
+abbrev pub EliminatedBy : (sizes : List ℕ) (factors messages : List Float) (keys heads : List ℕ) (to : ℕ) (r : Eliminated) (messages′ : List Float)
+    (kept cleared slots : List ℕ) → Type 0
 EliminatedBy sizes factors messages keys heads to r messages′ kept cleared slots =
     (r ≡ answer (eliminate (viewsOf factors messages keys heads slots) kept cleared sizes))
     × (messages′ ≡ stored messages to (eliminate (viewsOf factors messages keys heads slots) kept cleared sizes))

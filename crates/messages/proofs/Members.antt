@@ -54,14 +54,16 @@ member-count x (y ∷ l) = go (eqb y x) refl (member-count x l)
 pub placed-in : (x : ℕ) (cleared kept : List ℕ) → 1 ≤ count x cleared + count x kept → (member x cleared || member x kept) ≡ true
 placed-in x cleared kept h = go (member-count x cleared) (member-count x kept)
   where
-    go : ((member x cleared ≡ true) × In x cleared) ⊎ ((member x cleared ≡ false) × (count x cleared ≡ 0)) → ((member x kept ≡ true) × In x kept) ⊎ ((member x kept ≡ false) × (count x kept ≡ 0))
+    go : ((member x cleared ≡ true) × In x cleared) ⊎ ((member x cleared ≡ false) × (count x cleared ≡ 0))
+        → ((member x kept ≡ true) × In x kept) ⊎ ((member x kept ≡ false) × (count x kept ≡ 0))
         → (member x cleared || member x kept) ≡ true
     go (inl (a, b)) k = rw a refl
     go (inr (a, b)) (inl (c, d)) = rw (a, c) refl
     go (inr (a, b)) (inr (c, d)) = absurd (omega arith)
 
 -- two lists that have no key twice, all below n
-module _ (n : ℕ) (cleared kept : List ℕ) (apart : (x : ℕ) → count x cleared + count x kept ≤ 1) (low : (x : ℕ) → 1 ≤ count x cleared + count x kept → x < n) where
+module _ (n : ℕ) (cleared kept : List ℕ) (apart : (x : ℕ) → count x cleared + count x kept ≤ 1)
+    (low : (x : ℕ) → 1 ≤ count x cleared + count x kept → x < n) where
   pub below-cleared : Below n cleared
   below-cleared i h = low (getD cleared i 0) (omega (arith, at-in cleared i h))
 

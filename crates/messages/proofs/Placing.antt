@@ -63,14 +63,16 @@ rows-at g ms (suc n) c h = go (decLt c n) (rows-at g ms n c)
     go (yes l) ih = List·getD-append (rowsTo g ms n) (rowsAt g ms n ∷ []) 0 c (omega (arith, rows-length g ms n)) ∙ ih l
     go (no l) ih =
         let e : c ≡ n = omega arith in
-        rw e (ap (λ (i : ℕ). getD (rowsTo g ms n ++ (rowsAt g ms n ∷ [])) i 0) (sym (rows-length g ms n)) ∙ getD-append-seam (rowsTo g ms n) (rowsAt g ms n) [] 0)
+        rw e (ap (λ (i : ℕ). getD (rowsTo g ms n ++ (rowsAt g ms n ∷ [])) i 0) (sym (rows-length g ms n))
+        ∙ getD-append-seam (rowsTo g ms n) (rowsAt g ms n) [] 0)
 
 -- the rows by the heads, as a sum over the list
 no-sum : (f : ℕ → ℕ) → sum f (from 0 0) ≡ 0
 unfolding sum from
 no-sum f = refl
 
-rows-list : (m : Layout) (keys heads slots : List ℕ) (n : ℕ) → rowsByAll m keys heads slots n ≡ sum (λ i. rowsBy m keys (headOf heads (getD slots i 0))) (from 0 n)
+rows-list : (m : Layout) (keys heads slots : List ℕ) (n : ℕ) → rowsByAll m keys heads slots n
+    ≡ sum (λ i. rowsBy m keys (headOf heads (getD slots i 0))) (from 0 n)
 unfolding rowsByAll
 rows-list m keys heads slots zero = sym (no-sum (λ i. rowsBy m keys (headOf heads (getD slots i 0))))
 rows-list m keys heads slots (suc n) =
@@ -78,7 +80,8 @@ rows-list m keys heads slots (suc n) =
     ∙ ap (λ (i : ℕ). sum (λ i. rowsBy m keys (headOf heads (getD slots i 0))) (from 0 n) + rowsBy m keys (headOf heads (getD slots i 0))) (sym (zero-add n))
     ∙ sym (sum-from-snoc (λ i. rowsBy m keys (headOf heads (getD slots i 0))) 0 n)
 
-module _ (g : Graph) (ms : List ClosedFactor) (c : Carriable g ms) (shift start j : ℕ) (keys heads : List ℕ) (low : shift ≤ backward-shift) (l : j < length ms) (tables : Tables g keys heads)
+module _ (g : Graph) (ms : List ClosedFactor) (c : Carriable g ms) (shift start j : ℕ) (keys heads : List ℕ) (low : shift ≤ backward-shift)
+    (l : j < length ms) (tables : Tables g keys heads)
     (placed : PlacedTo g ms shift start keys heads j) (sized : length (g .sizes) ≡ max-variables) where
   abbrev m : ClosedFactor
   m = at ms j
@@ -94,12 +97,14 @@ module _ (g : Graph) (ms : List ClosedFactor) (c : Carriable g ms) (shift start 
   content-length = length-map (m .content) (numberOf shift)
 
   pub fits : (factors messages : List Float) → offset g (g .count) ≤ length factors → start + needTo g ms j ≤ length messages → (i : ℕ) → i < length slots
-      → HeadFits (m .kept) (m .cleared) (g .sizes) keys (length (storeOf (headOf heads (getD slots i 0) .slot) factors messages)) (headOf heads (getD slots i 0))
+      → HeadFits (m .kept) (m .cleared) (g .sizes) keys (length (storeOf (headOf heads (getD slots i 0) .slot) factors messages))
+      (headOf heads (getD slots i 0))
   fits factors messages hf hm i h =
       let s : Slot = getD (m .content) i (original 0) in
       let k : List·Memᴰ s (m .content) = at-mem (m .content) i (original 0) (omega (arith, content-length)) in
       rw (at-map (numberOf shift) (m .content) i (original 0) 0 (omega (arith, content-length)))
-      (slot-fits g ms c shift start j keys heads low (omega arith) tables placed (m .kept) (m .cleared) s (known s k) (c .tidy j l .keyed s k) factors messages hf hm)
+      (slot-fits g ms c shift start j keys heads low (omega arith) tables placed (m .kept) (m .cleared) s (known s k) (c .tidy j l .keyed s k) factors
+      messages hf hm)
 
   number-low : (s : Slot) → List·Memᴰ s (m .content) → numberOf shift s < max-slots
   unfolding numberOf
@@ -117,7 +122,9 @@ module _ (g : Graph) (ms : List ClosedFactor) (c : Carriable g ms) (shift start 
       record {
         few = omega (arith, content-length);
         headed = headed;
-        counted = λ i h. counted-head (m .kept) (m .cleared) (g .sizes) keys _ (headOf heads (getD slots i 0)) (fits stand-in room (omega (arith, length-replicate (offset g (g .count)) plus-zero)) (omega (arith, length-replicate (start + needTo g ms j) plus-zero)) i h);
+        counted = λ i h. counted-head (m .kept) (m .cleared) (g .sizes) keys _ (headOf heads (getD slots i 0))
+            (fits stand-in room (omega (arith, length-replicate (offset g (g .count)) plus-zero))
+            (omega (arith, length-replicate (start + needTo g ms j) plus-zero)) i h);
       }
     where
       stand-in : List Float
@@ -139,25 +146,32 @@ module _ (g : Graph) (ms : List ClosedFactor) (c : Carriable g ms) (shift start 
       f : Factor
       f = factorAt g i
 
-      go : (b : Bool) → f .prior ≡ b → cond b (cond (getD (layout .cleared) (getD keys (max-keys * i) 0) false) 0 (f .rows)) (f .rows) ≡ cond b (cond (member (keyAt f 0) (m .cleared)) 0 (f .rows)) (f .rows)
+      go : (b : Bool) → f .prior ≡ b → cond b (cond (getD (layout .cleared) (getD keys (max-keys * i) 0) false) 0 (f .rows)) (f .rows)
+          ≡ cond b (cond (member (keyAt f 0) (m .cleared)) 0 (f .rows)) (f .rows)
       go true p =
           let k : i < g .count = known (original i) h in
           let fit = valid-factor g (c .sound) i k in
           let t : f .touched ≡ 1 = prior-touched (g .sizes) (g .variables) f fit p in
           let z : max-keys * i + 0 ≡ max-keys * i = omega arith in
           let e : getD keys (max-keys * i) 0 ≡ keyAt f 0 = rw z at (tables .originals .entered i k .key 0 (omega arith)) in
-          rw (e, cleared-at (m .kept) (m .cleared) (g .sizes) sized (keyAt f 0) (omega (arith, fits-key (g .sizes) (g .variables) f fit 0 (omega arith), valid-variables g (c .sound)))) refl
+          rw (
+            e,
+            cleared-at (m .kept) (m .cleared) (g .sizes) sized (keyAt f 0)
+                (omega (arith, fits-key (g .sizes) (g .variables) f fit 0 (omega arith), valid-variables g (c .sound))),
+          ) refl
       go false p = refl
   slot-rows (closed i) h = rw (placed i (known (closed i) h) .head) (sym (rows-at g ms j i (known (closed i) h)))
 
   pub rows-sum : rowsByAll layout keys heads slots (length slots) ≡ sum (slotRows g (m .cleared) (rowsTo g ms j)) (m .content)
   rows-sum =
       rows-list layout keys heads slots (length slots)
-      ∙ sum-same (λ i. rowsBy layout keys (headOf heads (getD slots i 0))) (λ i. slotRows g (m .cleared) (rowsTo g ms j) (getD (m .content) i (original 0))) (from 0 (length slots)) each
+      ∙ sum-same (λ i. rowsBy layout keys (headOf heads (getD slots i 0)))
+      (λ i. slotRows g (m .cleared) (rowsTo g ms j) (getD (m .content) i (original 0))) (from 0 (length slots)) each
       ∙ ap (λ (n : ℕ). sum (λ i. slotRows g (m .cleared) (rowsTo g ms j) (getD (m .content) i (original 0))) (from 0 n)) content-length
       ∙ sum-table (slotRows g (m .cleared) (rowsTo g ms j)) (m .content) (original 0)
     where
-      each : (i : ℕ) → List·Memᴰ i (from 0 (length slots)) → rowsBy layout keys (headOf heads (getD slots i 0)) ≡ slotRows g (m .cleared) (rowsTo g ms j) (getD (m .content) i (original 0))
+      each : (i : ℕ) → List·Memᴰ i (from 0 (length slots)) → rowsBy layout keys (headOf heads (getD slots i 0))
+          ≡ slotRows g (m .cleared) (rowsTo g ms j) (getD (m .content) i (original 0))
       each i h =
           let b : i < length (m .content) = omega (arith, from-mem i 0 (length slots) h .1, content-length) in
           rw (at-map (numberOf shift) (m .content) i (original 0) 0 b) (slot-rows (getD (m .content) i (original 0)) (at-mem (m .content) i (original 0) b))
@@ -168,7 +182,8 @@ module _ (g : Graph) (ms : List ClosedFactor) (c : Carriable g ms) (shift start 
 
   -- ---- the message is placed
   module _ (few : length (m .content) ≤ max-slots) (keys′ heads′ : List ℕ) (ek : keys′ ≡ lay keys (firstKey shift j) (m .kept))
-      (eh : heads′ ≡ withHead heads (messageNumber shift j) false (start + needTo g ms j) (rowsAt g ms j) (widthAt g ms j) (firstKey shift j) (length (m .kept))) where
+      (eh : heads′ ≡ withHead heads (messageNumber shift j) false (start + needTo g ms j) (rowsAt g ms j) (widthAt g ms j) (firstKey shift j)
+      (length (m .kept))) where
     room : firstKey shift j + length (m .kept) ≤ length keys
     room = omega (arith, message-few g ms c j l, c .few, tables .long-keys)
 
@@ -189,7 +204,8 @@ module _ (g : Graph) (ms : List ClosedFactor) (c : Carriable g ms) (shift start 
         record {
           long-keys = lk ∙ tables .long-keys;
           long-heads = lh ∙ tables .long-heads;
-          originals = originals-stay g keys heads keys′ heads′ (c .sound) (tables .originals) lk lh (λ p h. before-more .of-keys p (omega arith)) (λ i h. before-more .of-heads i (omega arith));
+          originals = originals-stay g keys heads keys′ heads′ (c .sound) (tables .originals) lk lh (λ p h. before-more .of-keys p (omega arith))
+              (λ i h. before-more .of-heads i (omega arith));
         }
 
     slot-is : slotOf (messageNumber shift j) ≡ Closed (shift + j)
@@ -203,7 +219,8 @@ module _ (g : Graph) (ms : List ClosedFactor) (c : Carriable g ms) (shift start 
         go (yes b) =
             record {
               head = rw eh (head-else heads (messageNumber shift j) false _ _ _ _ _ long (messageNumber shift i) (λ e. omega arith)) ∙ placed i b .head;
-              key = λ k q. rw ek (lay-before keys (m .kept) (firstKey shift j) room 0 (firstKey shift i + k) (omega (arith, message-few g ms c i (omega arith)))) ∙ placed i b .key k q;
+              key = λ k q. rw ek (lay-before keys (m .kept) (firstKey shift j) room 0 (firstKey shift i + k)
+                  (omega (arith, message-few g ms c i (omega arith)))) ∙ placed i b .key k q;
             }
         go (no b) =
             let e : i ≡ j = omega arith in
@@ -224,13 +241,24 @@ pub record Progress (g : Graph) (ms : List ClosedFactor) (shift start : ℕ) (ke
   pub tables : Tables g keys heads
   pub placed : PlacedTo g ms shift start keys heads j
 
-pub progress-none : (g : Graph) (ms : List ClosedFactor) (shift start : ℕ) (keys heads : List ℕ) → Tables g keys heads → Progress g ms shift start keys heads keys heads start 0
+pub progress-none : (g : Graph) (ms : List ClosedFactor) (shift start : ℕ) (keys heads : List ℕ) → Tables g keys heads
+    → Progress g ms shift start keys heads keys heads start 0
 unfolding needTo
 progress-none g ms shift start keys heads t =
-    record { few = omega arith; next-is = omega arith; low = omega arith; before = record { of-keys = λ p h. refl; of-heads = λ i h. refl }; tables = t; placed = λ j h. absurd (omega arith) }
+    record {
+      few = omega arith;
+      next-is = omega arith;
+      low = omega arith;
+      before = record { of-keys = λ p h. refl; of-heads = λ i h. refl };
+      tables =
+          t;
+      placed = λ j h. absurd (omega arith);
+    }
 
-module _ (g : Graph) (ms : List ClosedFactor) (c : Carriable g ms) (shift start : ℕ) (keys₀ heads₀ keys heads : List ℕ) (next j : ℕ) (low : shift ≤ backward-shift) (l : j < length ms)
-    (sized : length (g .sizes) ≡ max-variables) (p : Progress g ms shift start keys₀ heads₀ keys heads next j) (lists : Lists) (holds : Holds shift (at ms j) lists) where
+module _ (g : Graph) (ms : List ClosedFactor) (c : Carriable g ms) (shift start : ℕ) (keys₀ heads₀ keys heads : List ℕ) (next j : ℕ)
+    (low : shift ≤ backward-shift) (l : j < length ms)
+    (sized : length (g .sizes) ≡ max-variables) (p : Progress g ms shift start keys₀ heads₀ keys heads next j) (lists : Lists)
+    (holds : Holds shift (at ms j) lists) where
   content-few : length (at ms j .content) ≤ pass-slots
   content-few =
       omega (arith, length-map (at ms j .content) (numberOf shift), ap length (holds .slots), length-take (lists .count) (lists .slots), holds .few)
@@ -251,16 +279,19 @@ module _ (g : Graph) (ms : List ClosedFactor) (c : Carriable g ms) (shift start 
       first-is : asked.firstOf (messageNumber shift j) ≡ firstKey shift j
       first-is = omega arith
 
-  pub progress-more : (r : ℕ) (keys′ heads′ : List ℕ) → PlacedBy (g .sizes) keys heads (messageNumber shift j) next r keys′ heads′ (keptOf lists) (clearedOf lists) (slotsOf lists)
+  pub progress-more : (r : ℕ) (keys′ heads′ : List ℕ) → PlacedBy (g .sizes) keys heads (messageNumber shift j) next r keys′ heads′ (keptOf lists)
+      (clearedOf lists) (slotsOf lists)
       → Progress g ms shift start keys₀ heads₀ keys′ heads′ r (j + 1)
   progress-more r keys′ heads′ by =
-      let q : PlacedBy (g .sizes) keys heads (messageNumber shift j) next r keys′ heads′ (at ms j .kept) (at ms j .cleared) (map (numberOf shift) (at ms j .content))
+      let q : PlacedBy (g .sizes) keys heads (messageNumber shift j) next r keys′ heads′ (at ms j .kept) (at ms j .cleared)
+      (map (numberOf shift) (at ms j .content))
       = rw (holds .kept, holds .cleared, holds .slots) at by in
       let e : asked.rowsBy (at ms j .kept) (at ms j .cleared) (map (numberOf shift) (at ms j .content)) (g .sizes) keys heads ≡ rowsAt g ms j
       = rows-are g ms c shift start j keys heads low l (p .tables) (p .placed) sized in
       let f : asked.firstOf (messageNumber shift j) ≡ firstKey shift j = omega arith in
       let ek : keys′ ≡ lay keys (firstKey shift j) (at ms j .kept) = q .1 .0 ∙ ap (λ (n : ℕ). lay keys n (at ms j .kept)) f in
-      let eh : heads′ ≡ withHead heads (messageNumber shift j) false (start + needTo g ms j) (rowsAt g ms j) (widthAt g ms j) (firstKey shift j) (length (at ms j .kept))
+      let eh : heads′ ≡ withHead heads (messageNumber shift j) false (start + needTo g ms j) (rowsAt g ms j) (widthAt g ms j) (firstKey shift j)
+      (length (at ms j .kept))
       = q .1 .1 ∙ rw (e, f, p .next-is) refl in
       let er : r ≡ next + numbersOf (rowsAt g ms j) (widthAt g ms j) = q .0 ∙ rw e refl in
       let small = products (rowsAt g ms j) (widthAt g ms j) (message-rows-most g ms c j l) (message-kept g ms c j l .total) in
@@ -274,7 +305,8 @@ module _ (g : Graph) (ms : List ClosedFactor) (c : Carriable g ms) (shift start 
         placed = placed-more g ms c shift start j keys heads low l (p .tables) (p .placed) sized (omega (arith, content-few)) keys′ heads′ ek eh;
       }
 
-pub progress-done : (g : Graph) (ms : List ClosedFactor) (shift start : ℕ) (keys₀ heads₀ keys heads : List ℕ) (next j : ℕ) → Progress g ms shift start keys₀ heads₀ keys heads next j → j ≡ length ms
+pub progress-done : (g : Graph) (ms : List ClosedFactor) (shift start : ℕ) (keys₀ heads₀ keys heads : List ℕ) (next j : ℕ)
+    → Progress g ms shift start keys₀ heads₀ keys heads next j → j ≡ length ms
     → (next ≡ start + need g ms) × (Before shift keys₀ heads₀ keys heads × (Tables g keys heads × PlacedTo g ms shift start keys heads (length ms)))
 unfolding need
 progress-done g ms shift start keys₀ heads₀ keys heads next j p e =

@@ -32,21 +32,26 @@ unfolding valuesTo
 values-at g factors ms zero j h = absurd (omega arith)
 values-at g factors ms (suc n) j h = go (decLt j n) (values-at g factors ms n j)
   where
-    go : Dec (j < n) → (j < n → getD (valuesTo g factors ms n) j pivot ≡ valueAt g factors ms j) → getD (valuesTo g factors ms n ++ (valueAt g factors ms n ∷ [])) j pivot ≡ valueAt g factors ms j
+    go : Dec (j < n) → (j < n → getD (valuesTo g factors ms n) j pivot ≡ valueAt g factors ms j)
+        → getD (valuesTo g factors ms n ++ (valueAt g factors ms n ∷ [])) j pivot ≡ valueAt g factors ms j
     go (yes l) ih = List·getD-append (valuesTo g factors ms n) (valueAt g factors ms n ∷ []) pivot j (omega (arith, values-length g factors ms n)) ∙ ih l
     go (no l) ih =
         let e : j ≡ n = omega arith in
-        rw e (ap (λ (i : ℕ). getD (valuesTo g factors ms n ++ (valueAt g factors ms n ∷ [])) i pivot) (sym (values-length g factors ms n)) ∙ getD-append-seam (valuesTo g factors ms n) (valueAt g factors ms n) [] pivot)
+        rw e (ap (λ (i : ℕ). getD (valuesTo g factors ms n ++ (valueAt g factors ms n ∷ [])) i pivot) (sym (values-length g factors ms n))
+        ∙ getD-append-seam (valuesTo g factors ms n) (valueAt g factors ms n) [] pivot)
 
 -- a message from its numbers
-parts : (keys : List ℕ) (r d : ℕ) (a xi w : List Float) → length a ≡ r * d → length xi ≡ r → length w ≡ r * r → viewOf false keys r d (numbersIn (message r a xi w)) ≡ messageView keys (message r a xi w)
+parts : (keys : List ℕ) (r d : ℕ) (a xi w : List Float) → length a ≡ r * d → length xi ≡ r → length w ≡ r * r
+    → viewOf false keys r d (numbersIn (message r a xi w)) ≡ messageView keys (message r a xi w)
 unfolding numbersIn messageView
 parts keys r d a xi w la lx lw = rw (first-part (r * d) r a xi w la lx lw, second-part (r * d) r a xi w la lx lw, third-part (r * d) r a xi w la lx lw) refl
 
-module _ (g : Graph) (ms : List ClosedFactor) (c : Carriable g ms) (shift start n : ℕ) (keys heads : List ℕ) (low : shift ≤ backward-shift) (few : n ≤ length ms) (tables : Tables g keys heads)
+module _ (g : Graph) (ms : List ClosedFactor) (c : Carriable g ms) (shift start n : ℕ) (keys heads : List ℕ) (low : shift ≤ backward-shift)
+    (few : n ≤ length ms) (tables : Tables g keys heads)
     (placed : PlacedTo g ms shift start keys heads n) (factors messages : List Float) (stored : (j : ℕ) → j < n → Stored g factors ms start messages j) where
   -- the slots of the messages that have been made, and of all originals
-  pub slot-view : (s : Slot) → Known g ms c shift start n keys heads low few tables placed s → readView factors messages keys (headOf heads (numberOf shift s)) ≡ slotView g factors ms (valuesTo g factors ms n) s
+  pub slot-view : (s : Slot) → Known g ms c shift start n keys heads low few tables placed s
+      → readView factors messages keys (headOf heads (numberOf shift s)) ≡ slotView g factors ms (valuesTo g factors ms n) s
   unfolding numberOf slotView
   slot-view (original i) l = original-view g (c .sound) keys heads (tables .originals) i l factors messages
   slot-view (closed j) l =

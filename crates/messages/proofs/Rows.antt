@@ -28,7 +28,8 @@ pub products : (r d : ℕ) → r ≤ 32 → d ≤ 32 → (r * d ≤ 1024) × (r 
 products r d hr hd = (mul-le-mul hr hd, mul-le-mul hr hr)
 
 -- the rows and the columns of a message that is placed
-pub placed-small : (kept cleared slots sizes keys heads : List ℕ) (r d : ℕ) → Listed kept sizes → r ≡ rowsBy kept cleared slots sizes keys heads → d ≡ dimOf sizes kept
+pub placed-small : (kept cleared slots sizes keys heads : List ℕ) (r d : ℕ) → Listed kept sizes → r ≡ rowsBy kept cleared slots sizes keys heads → d
+    ≡ dimOf sizes kept
     → (r ≤ 32) × (d ≤ 32) × (r * d ≤ 1024) × (r * r ≤ 1024)
 placed-small kept cleared slots sizes keys heads r d l er ed =
     let hd : d ≤ 32 = rw ed (l .total) in
@@ -36,7 +37,8 @@ placed-small kept cleared slots sizes keys heads r d l er ed =
     (hr, hd, products r d hr hd .0, products r d hr hd .1)
 
 -- what the placing of a message comes to
-pub placed-is : (kept cleared slots sizes keys heads : List ℕ) (number start r d : ℕ) (keys′ heads′ : List ℕ) → r ≡ rowsBy kept cleared slots sizes keys heads → d ≡ dimOf sizes kept
+pub placed-is : (kept cleared slots sizes keys heads : List ℕ) (number start r d : ℕ) (keys′ heads′ : List ℕ) → r
+    ≡ rowsBy kept cleared slots sizes keys heads → d ≡ dimOf sizes kept
     → keys′ ≡ lay keys (firstOf number) kept → heads′ ≡ withHead heads number false start r d (firstOf number) (length kept)
     → (start + (r * d + r + r * r) ≡ start + numbersOf (rowsBy kept cleared slots sizes keys heads) (dimOf sizes kept))
     × (keys′ ≡ lay keys (firstOf number) kept)

@@ -1,4 +1,5 @@
--- The slots of an elimination in the tables: each is an original or a message that has been placed, and fits where its keys are kept or cleared. Assumes nothing.
+-- The slots of an elimination in the tables: each is an original or a message that has been placed, and fits where its keys are kept or cleared.
+-- Assumes nothing.
 use mathlib.Core.Path.{_≡_, refl, sym, ap, _∙_, subst}
 use mathlib.Core.Bool.{false≢true}
 use mathlib.Core.List.{List}
@@ -42,7 +43,8 @@ unfolding needTo
 need-rises g ms i zero h = absurd (omega arith)
 need-rises g ms i (suc n) h = go (decLt i n) (need-rises g ms i n)
   where
-    go : Dec (i < n) → (i < n → needTo g ms i + numbersOf (rowsAt g ms i) (widthAt g ms i) ≤ needTo g ms n) → needTo g ms i + numbersOf (rowsAt g ms i) (widthAt g ms i) ≤ needTo g ms n + numbersOf (rowsAt g ms n) (widthAt g ms n)
+    go : Dec (i < n) → (i < n → needTo g ms i + numbersOf (rowsAt g ms i) (widthAt g ms i) ≤ needTo g ms n)
+        → needTo g ms i + numbersOf (rowsAt g ms i) (widthAt g ms i) ≤ needTo g ms n + numbersOf (rowsAt g ms n) (widthAt g ms n)
     go (yes l) ih = omega (arith, ih l)
     go (no l) ih = let e : i ≡ n = omega arith in rw e (omega arith)
 
@@ -54,17 +56,20 @@ module _ (g : Graph) (ms : List ClosedFactor) (c : Carriable g ms) (j : ℕ) (l 
 
   pub message-total : dimOf (g .sizes) (at ms j .cleared) + dimOf (g .sizes) (at ms j .kept) ≤ max-total
   message-total =
-      total-within g (c .sound) (at ms j .cleared) (at ms j .kept) (below-cleared (g .variables) _ _ (tidy .apart) (tidy .low)) (below-kept (g .variables) _ _ (tidy .apart) (tidy .low))
+      total-within g (c .sound) (at ms j .cleared) (at ms j .kept) (below-cleared (g .variables) _ _ (tidy .apart) (tidy .low))
+      (below-kept (g .variables) _ _ (tidy .apart) (tidy .low))
       (once (g .variables) _ _ (tidy .apart) (tidy .low))
 
   pub message-kept : Listed (at ms j .kept) (g .sizes)
   message-kept =
-      kept-listed g (c .sound) (at ms j .cleared) (at ms j .kept) (below-cleared (g .variables) _ _ (tidy .apart) (tidy .low)) (below-kept (g .variables) _ _ (tidy .apart) (tidy .low))
+      kept-listed g (c .sound) (at ms j .cleared) (at ms j .kept) (below-cleared (g .variables) _ _ (tidy .apart) (tidy .low))
+      (below-kept (g .variables) _ _ (tidy .apart) (tidy .low))
       (once (g .variables) _ _ (tidy .apart) (tidy .low))
 
   pub message-cleared : Listed (at ms j .cleared) (g .sizes)
   message-cleared =
-      cleared-listed g (c .sound) (at ms j .cleared) (at ms j .kept) (below-cleared (g .variables) _ _ (tidy .apart) (tidy .low)) (below-kept (g .variables) _ _ (tidy .apart) (tidy .low))
+      cleared-listed g (c .sound) (at ms j .cleared) (at ms j .kept) (below-cleared (g .variables) _ _ (tidy .apart) (tidy .low))
+      (below-kept (g .variables) _ _ (tidy .apart) (tidy .low))
       (once (g .variables) _ _ (tidy .apart) (tidy .low))
 
   pub message-few : length (at ms j .kept) ≤ max-variables
@@ -72,11 +77,17 @@ module _ (g : Graph) (ms : List ClosedFactor) (c : Carriable g ms) (j : ℕ) (l 
 
   pub message-rows-most : rowsAt g ms j ≤ max-total
   unfolding Rattle.messages.specs.Figure.rowsIn
-  message-rows-most = omega (arith, rows-few (Rattle.schedule.specs.Count.sum (slotRows g (at ms j .cleared) (rowsTo g ms j)) (at ms j .content)) (widthAt g ms j), message-kept .total)
+  message-rows-most = omega (
+    arith,
+    rows-few (Rattle.schedule.specs.Count.sum (slotRows g (at ms j .cleared) (rowsTo g ms j)) (at ms j .content))
+        (widthAt g ms j),
+    message-kept .total,
+  )
 
 -- ---- a slot
 
-module _ (g : Graph) (ms : List ClosedFactor) (c : Carriable g ms) (shift start n : ℕ) (keys heads : List ℕ) (low : shift ≤ backward-shift) (few : n ≤ length ms) (tables : Tables g keys heads)
+module _ (g : Graph) (ms : List ClosedFactor) (c : Carriable g ms) (shift start n : ℕ) (keys heads : List ℕ) (low : shift ≤ backward-shift)
+    (few : n ≤ length ms) (tables : Tables g keys heads)
     (placed : PlacedTo g ms shift start keys heads n) where
   -- an original of the graph, or a message that has been placed
   abbrev pub Known : Slot → Type 0
@@ -87,7 +98,8 @@ module _ (g : Graph) (ms : List ClosedFactor) (c : Carriable g ms) (shift start 
   keys-are j l =
       let k : List ℕ = at ms j .kept in
       let f : firstKey shift j + length k - firstKey shift j ≡ length k = omega arith in
-      let room : length k ≤ length (drop (firstKey shift j) keys) = rw (length-drop (firstKey shift j) keys) (omega (arith, message-few g ms c j (omega arith), c .few, tables .long-keys)) in
+      let room : length k ≤ length (drop (firstKey shift j) keys) = rw (length-drop (firstKey shift j) keys)
+      (omega (arith, message-few g ms c j (omega arith), c .few, tables .long-keys)) in
       rw f (ext-getD 0 (take (length k) (drop (firstKey shift j) keys)) k (length-take-le (length k) (drop (firstKey shift j) keys) room)
       (λ i h.
       let q : i < length k = omega (arith, length-take-le (length k) (drop (firstKey shift j) keys) room) in
@@ -124,13 +136,16 @@ module _ (g : Graph) (ms : List ClosedFactor) (c : Carriable g ms) (shift start 
     original-keys i l j h =
         let f = factorAt g i in
         rw (lt-ltb i (g .count) l, ← getD-take (f .touched) (f .keys) j 0 h)
-        (at-in (take (f .touched) (f .keys)) j (rw (length-take-le (f .touched) (f .keys) (omega (arith, tables .originals .entered i l .full, valid-touched g (c .sound) i l))) h))
+        (at-in (take (f .touched) (f .keys)) j (rw (length-take-le (f .touched) (f .keys)
+        (omega (arith, tables .originals .entered i l .full, valid-touched g (c .sound) i l))) h))
 
     pub slot-fits : (s : Slot) → Known s → ((x : ℕ) → In x (pass.keysOf (keysOf g) ms s) → 1 ≤ count x cleared + count x kept) → (factors messages : List Float)
         → offset g (g .count) ≤ length factors → start + needTo g ms n ≤ length messages
         → HeadFits kept cleared (g .sizes) keys (length (storeOf (headOf heads (numberOf shift s) .slot) factors messages)) (headOf heads (numberOf shift s))
     unfolding numberOf pass.keysOf
     slot-fits (original i) l has factors messages hf hm =
-        subst (λ (len : ℕ). HeadFits kept cleared (g .sizes) keys len (headOf heads i)) (ap (λ (h : Head). length (storeOf (h .slot) factors messages)) (sym (tables .originals .entered i l .head)))
-        (original-fits g (c .sound) keys heads (tables .originals) i l kept cleared (λ j h. placed-in (keyAt (factorAt g i) j) cleared kept (has (keyAt (factorAt g i) j) (original-keys i l j h))) (length factors) hf)
+        subst (λ (len : ℕ). HeadFits kept cleared (g .sizes) keys len (headOf heads i))
+        (ap (λ (h : Head). length (storeOf (h .slot) factors messages)) (sym (tables .originals .entered i l .head)))
+        (original-fits g (c .sound) keys heads (tables .originals) i l kept cleared
+        (λ j h. placed-in (keyAt (factorAt g i) j) cleared kept (has (keyAt (factorAt g i) j) (original-keys i l j h))) (length factors) hf)
     slot-fits (closed j) l has factors messages hf hm = rw (placed j l .head) (message-fits j (length messages) l has hm)

@@ -48,14 +48,17 @@ inside-nil t p = refl
 
 first-more : (p : Pass) (i : ℕ) → first p (i + 1) ≡ first p i ++ (msgAt p i ∷ [])
 first-more p i =
-    ap (first p) (add-one i) ∙ ap (map (msgAt p)) (from-snoc 0 i) ∙ map-append (msgAt p) (from 0 i) ((0 + i) ∷ []) ∙ ap (λ (n : ℕ). first p i ++ (msgAt p n ∷ [])) (zero-add i)
+    ap (first p) (add-one i) ∙ ap (map (msgAt p)) (from-snoc 0 i) ∙ map-append (msgAt p) (from 0 i) ((0 + i) ∷ [])
+    ∙ ap (λ (n : ℕ). first p i ++ (msgAt p n ∷ [])) (zero-add i)
 
-inside-more : (t : ℕ) (p : Pass) (i : ℕ) → inside t p (i + 1) ≡ inside t p i ++ joined (λ m. messagesIn (m .content)) (putIf (upTo t (msgAt p i)) (msgAt p i) [])
+inside-more : (t : ℕ) (p : Pass) (i : ℕ) → inside t p (i + 1)
+    ≡ inside t p i ++ joined (λ m. messagesIn (m .content)) (putIf (upTo t (msgAt p i)) (msgAt p i) [])
 inside-more t p i =
     ap (λ (l : List ClosedFactor). joined (λ m. messagesIn (m .content)) (keep (upTo t) l)) (first-more p i)
     ∙ ap (joined (λ m. messagesIn (m .content))) (keep-append (upTo t) (first p i) (msgAt p i ∷ []))
     ∙ joined-append (λ m. messagesIn (m .content)) (keep (upTo t) (first p i)) (keep (upTo t) (msgAt p i ∷ []))
-    ∙ ap (λ (l : List ClosedFactor). inside t p i ++ joined (λ m. messagesIn (m .content)) l) (keep-cons (upTo t) (msgAt p i) [] ∙ ap (putIf (upTo t (msgAt p i)) (msgAt p i)) (keep-nil (upTo t)))
+    ∙ ap (λ (l : List ClosedFactor). inside t p i ++ joined (λ m. messagesIn (m .content)) l)
+    (keep-cons (upTo t) (msgAt p i) [] ∙ ap (putIf (upTo t (msgAt p i)) (msgAt p i)) (keep-nil (upTo t)))
 
 step-at : (p : Pass) (i : ℕ) → (msgAt p i) .step ≡ getD (p .steps) i 0
 unfolding msgAt
@@ -65,16 +68,20 @@ content-at : (p : Pass) (i : ℕ) → (msgAt p i) .content ≡ part (getD (p .st
 unfolding msgAt
 content-at p i = refl
 
-inside-in : (t : ℕ) (p : Pass) (i : ℕ) → getD (p .steps) i 0 ≤ t → inside t p (i + 1) ≡ inside t p i ++ messagesIn (part (getD (p .starts) i 0) (getD (p .ends) i 0) (p .board .content))
+inside-in : (t : ℕ) (p : Pass) (i : ℕ) → getD (p .steps) i 0 ≤ t → inside t p (i + 1)
+    ≡ inside t p i ++ messagesIn (part (getD (p .starts) i 0) (getD (p .ends) i 0) (p .board .content))
 unfolding joined
 inside-in t p i h =
-    inside-more t p i ∙ ap (λ (b : Bool). inside t p i ++ joined (λ m. messagesIn (m .content)) (putIf b (msgAt p i) [])) (ap (λ (s : ℕ). leb s t) (step-at p i) ∙ le-leb (getD (p .steps) i 0) t h)
-    ∙ ap (λ (l : List ℕ). inside t p i ++ l) (append-nil (messagesIn ((msgAt p i) .content))) ∙ ap (λ (l : List Slot). inside t p i ++ messagesIn l) (content-at p i)
+    inside-more t p i ∙ ap (λ (b : Bool). inside t p i ++ joined (λ m. messagesIn (m .content)) (putIf b (msgAt p i) []))
+    (ap (λ (s : ℕ). leb s t) (step-at p i) ∙ le-leb (getD (p .steps) i 0) t h)
+    ∙ ap (λ (l : List ℕ). inside t p i ++ l) (append-nil (messagesIn ((msgAt p i) .content)))
+    ∙ ap (λ (l : List Slot). inside t p i ++ messagesIn l) (content-at p i)
 
 inside-off : (t : ℕ) (p : Pass) (i : ℕ) → t < getD (p .steps) i 0 → inside t p (i + 1) ≡ inside t p i
 unfolding joined
 inside-off t p i h =
-    inside-more t p i ∙ ap (λ (b : Bool). inside t p i ++ joined (λ m. messagesIn (m .content)) (putIf b (msgAt p i) [])) (ap (λ (s : ℕ). leb s t) (step-at p i) ∙ lt-leb (getD (p .steps) i 0) t h)
+    inside-more t p i ∙ ap (λ (b : Bool). inside t p i ++ joined (λ m. messagesIn (m .content)) (putIf b (msgAt p i) []))
+    (ap (λ (s : ℕ). leb s t) (step-at p i) ∙ lt-leb (getD (p .steps) i 0) t h)
     ∙ append-nil (inside t p i)
 
 module _ (t : ℕ) (p : Pass) where
@@ -93,7 +100,8 @@ module _ (t : ℕ) (p : Pass) where
       here = omega arith;
       upto = λ j l. is j (ℕ-discrete j i) l;
       low = λ j q. low j (or-e (has j upto) (has j s) (subst T (has-or j upto s) q));
-      within = subst (λ (l : List ℕ). Set l (bitOr within r)) (sym (inside-in t p i k)) (set-append (inside t p i) (messagesIn (part (getD (p .starts) i 0) (getD (p .ends) i 0) (p .board .content))) within r (a .within) n);
+      within = subst (λ (l : List ℕ). Set l (bitOr within r)) (sym (inside-in t p i k))
+          (set-append (inside t p i) (messagesIn (part (getD (p .starts) i 0) (getD (p .ends) i 0) (p .board .content))) within r (a .within) n);
     }
       where
         one : (j : ℕ) → has j s ≡ eqb j i

@@ -49,7 +49,8 @@ begun masks slots count = record {
   board = record { slots = slots; used = count; content = replicate pass-slots 0; filled = 0 };
 }
 
-module _ (keys live masks slots : List ℕ) (count : ℕ) (long : length keys ≡ max-factors) (long' : length live ≡ max-factors) (lv : Live live count) (lm : masks ≡ laid keys) (ls : Laid live count slots) where
+module _ (keys live masks slots : List ℕ) (count : ℕ) (long : length keys ≡ max-factors) (long' : length live ≡ max-factors) (lv : Live live count)
+    (lm : masks ≡ laid keys) (ls : Laid live count slots) where
   low : (i : ℕ) → i < count → getD slots i 0 < pass-slots
   low i h =
       omega (arith, lv .low i h, sym (getD-take count slots i 0 h) ∙ ap (λ (l : List ℕ). getD l i 0) (ls .first) ∙ getD-take count live i 0 h)
@@ -78,9 +79,11 @@ module _ (keys live masks slots : List ℕ) (count : ℕ) (long : length keys �
 
   masks-are : (K : ℕ → List ℕ) → Agrees keys K → (s : Slot) (j : ℕ) → has j (maskAt masks s) ≡ mem j (keysOf K [] s)
   unfolding maskAt keysOf laid
-  masks-are K h (original i) j = ap (λ (m : List ℕ). has j (getD (take max-factors m) i 0)) lm ∙ ap (λ (l : List ℕ). has j (getD l i 0)) (take-at keys (replicate max-variables 0) max-factors long) ∙ h i j
+  masks-are K h (original i) j = ap (λ (m : List ℕ). has j (getD (take max-factors m) i 0)) lm
+      ∙ ap (λ (l : List ℕ). has j (getD l i 0)) (take-at keys (replicate max-variables 0) max-factors long) ∙ h i j
   masks-are K h (closed i) j =
-      ap (λ (m : List ℕ). has j (getD (drop max-factors m) i 0)) lm ∙ ap (λ (l : List ℕ). has j (getD l i 0)) (drop-at keys (replicate max-variables 0) max-factors long)
+      ap (λ (m : List ℕ). has j (getD (drop max-factors m) i 0)) lm
+      ∙ ap (λ (l : List ℕ). has j (getD l i 0)) (drop-at keys (replicate max-variables 0) max-factors long)
       ∙ ap (has j) (zero-at max-variables i) ∙ has-zero j ∙ sym (mem-nil j)
 
   pub begins : Begins keys live count (begun masks slots count)
@@ -90,7 +93,8 @@ module _ (keys live masks slots : List ℕ) (count : ℕ) (long : length keys �
     keys = λ j. has-zero j ∙ sym (mem-nil j);
     below = λ j t. absurd (subst T (has-zero j) t);
     slots = sym (map-take slotOf count slots) ∙ ap (map slotOf) (ls .first)
-        ∙ originals (take count live) (λ i k. let l : i < count = omega (arith, length-take-le count live (omega (arith, lv .few))) in rw (getD-take count live i 0 l) (lv .low i l));
+        ∙ originals (take count live) (λ i k. let l : i < count = omega (arith, length-take-le count live (omega (arith, lv .few))) in rw
+        (getD-take count live i 0 l) (lv .low i l));
     messages = refl;
     masks = masks-are K h;
   }
@@ -116,6 +120,7 @@ along-more order n p₀ t p r long o h inv s K N m =
     (sym (length-reverse (take t order) ∙ length-take-le t order (omega (arith, o .few))))
     (s n K (after n K N (reverse (take t order))) (o .low t h) (inv K N m)))
 
-pub along-done : (keys live order : List ℕ) (count n : ℕ) (p₀ p : Pass) → n ≤ max-variables → Begins keys live count p₀ → Along order n p₀ n p → Passes keys (take count live) (take n order) n p
+pub along-done : (keys live order : List ℕ) (count n : ℕ) (p₀ p : Pass) → n ≤ max-variables → Begins keys live count p₀ → Along order n p₀ n p
+    → Passes keys (take count live) (take n order) n p
 unfolding full-pass
 along-done keys live order count n p₀ p f b inv K ag = inv K (take count live) (b n K f ag) .messages

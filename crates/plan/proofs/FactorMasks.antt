@@ -26,7 +26,8 @@ pub record MaskedTo (factors : List FactorKeys) (r : List ℕ) (i : ℕ) : Type 
 pub masked-none : (factors : List FactorKeys) → MaskedTo factors (replicate max-factors 0) 0
 masked-none factors = record { long = refl; done = λ k h. absurd (omega arith); rest = λ k h. zero-at max-factors k }
 
-pub masked-more : (factors : List FactorKeys) (r : List ℕ) (i m : ℕ) → i < max-factors → MaskedTo factors r i → Set (keysOf (getD factors i noKeys)) m → MaskedTo factors (set r i m) (i + 1)
+pub masked-more : (factors : List FactorKeys) (r : List ℕ) (i m : ℕ) → i < max-factors → MaskedTo factors r i → Set (keysOf (getD factors i noKeys)) m
+    → MaskedTo factors (set r i m) (i + 1)
 masked-more factors r i m h t s = record {
   long = length-set r i m ∙ t .long;
   done = λ k l. done k l (ℕ-discrete k i);
@@ -44,4 +45,5 @@ masked-done factors r number i t e k j = go (decLt k number)
   where
     go : Dec (k < number) → has j (getD r k 0) ≡ mem j (keysAt factors number k)
     go (yes h) = t .done k (omega arith) j ∙ ap (λ (b : Bool). mem j (ifSo b (keysOf (getD factors k noKeys)))) (sym (lt-ltb k number h))
-    go (no h) = ap (has j) (t .rest k (omega arith)) ∙ has-zero j ∙ sym (mem-nil j) ∙ ap (λ (b : Bool). mem j (ifSo b (keysOf (getD factors k noKeys)))) (sym (le-ltb k number (omega arith)))
+    go (no h) = ap (has j) (t .rest k (omega arith)) ∙ has-zero j ∙ sym (mem-nil j)
+        ∙ ap (λ (b : Bool). mem j (ifSo b (keysOf (getD factors k noKeys)))) (sym (le-ltb k number (omega arith)))

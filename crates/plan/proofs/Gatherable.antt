@@ -11,7 +11,8 @@ use lib.ListN.{length, take, length-append, List·getD-append, List·getD-eq-def
 use lib.Seq.{getD-append-seam, length-take-le}
 use Rattle.factor.specs.Limits.{max-variables, max-factors}
 use Rattle.schedule.specs.Count.{count, In, mem, keep, joined, from, rising}
-use Rattle.schedule.specs.Pass.{ClosedFactor, noMessage, at, State, keysOf, Walked, walk, touches, coupled, stays, append, sending, closing, step, after, full-pass}
+use Rattle.schedule.specs.Pass.{ClosedFactor, noMessage, at, State, keysOf, Walked, walk, touches, coupled, stays, append, sending, closing, step}
+use Rattle.schedule.specs.Pass.{after, full-pass}
 use Rattle.schedule.specs.Gather.{uncovered, gathering, gatherAt, gather}
 use Rattle.schedule.specs.Plan.{place}
 use Rattle.schedule.proofs.Counts.{count-nil, count-reverse, rising-in}
@@ -36,9 +37,15 @@ low-snoc n ms m h k i j q = go (decLt i (length ms)) (ℕ-discrete i (length ms)
   where
     go : Dec (i < length ms) → Dec (i ≡ length ms) → j < n
     go (yes l) d = h i j (subst (λ (x : ClosedFactor). In j (x .kept)) (List·getD-append ms (m ∷ []) noMessage i l) q)
-    go (no l) (yes e) = k j (subst (λ (x : ClosedFactor). In j (x .kept)) (getD-append-seam ms m [] noMessage) (subst (λ (y : ℕ). In j ((at (ms ++ (m ∷ [])) y) .kept)) e q))
+    go (no l) (yes e) = k j (subst (λ (x : ClosedFactor). In j (x .kept)) (getD-append-seam ms m [] noMessage)
+        (subst (λ (y : ℕ). In j ((at (ms ++ (m ∷ [])) y) .kept)) e q))
     go (no l) (no e) =
-        absurd (omega (arith, count-nil j, subst (λ (x : ClosedFactor). In j (x .kept)) (List·getD-eq-default (ms ++ (m ∷ [])) noMessage (omega (arith, length-append ms (m ∷ [])))) q))
+        absurd (omega (
+          arith,
+          count-nil j,
+          subst (λ (x : ClosedFactor). In j (x .kept))
+              (List·getD-eq-default (ms ++ (m ∷ [])) noMessage (omega (arith, length-append ms (m ∷ [])))) q,
+        ))
 
 low-sent : (n : ℕ) (K : ℕ → List ℕ) (t : ℕ) (st : State) (ak v : List ℕ) → LowKept n (st .messages) → LowKept n ((sending n K t st ak v) .messages)
 unfolding sending append
@@ -59,32 +66,39 @@ unfolding after step closing LowKept
 low-after n K N [] = λ i j q. absurd (omega (arith, count-nil j))
 low-after n K N (k ∷ P) =
     let st = after n K N P in
-    low-sent n K (length P) st (keep (stays k (coupled K (st .messages) (k ∷ st .active-keys) (st .active))) (k ∷ st .active-keys)) (rising n (λ j. mem j (k ∷ st .active-keys) && not (stays k (coupled K (st .messages) (k ∷ st .active-keys) (st .active)) j))) (low-after n K N P)
+    low-sent n K (length P) st (keep (stays k (coupled K (st .messages) (k ∷ st .active-keys) (st .active))) (k ∷ st .active-keys))
+    (rising n (λ j. mem j (k ∷ st .active-keys) && not (stays k (coupled K (st .messages) (k ∷ st .active-keys) (st .active)) j))) (low-after n K N P)
 
 pub low-pass : (n : ℕ) (K : ℕ → List ℕ) (N order : List ℕ) (i j : ℕ) → In j ((at (full-pass n K N order) i) .kept) → j < n
 unfolding full-pass LowKept
 low-pass n K N order = low-after n K N (reverse order)
 
 -- ---- the messages of a pass are a forest
-pub forest : (p : Pass) (n : ℕ) (K : ℕ → List ℕ) (N order : List ℕ) → messagesOf p ≡ full-pass n K N order → ((j : ℕ) → count j order ≡ count j (from 0 n)) → Forest p
+pub forest : (p : Pass) (n : ℕ) (K : ℕ → List ℕ) (N order : List ℕ) → messagesOf p ≡ full-pass n K N order
+    → ((j : ℕ) → count j order ≡ count j (from 0 n)) → Forest p
 unfolding full-pass
 forest p n K N order e each =
-    let run = running n K N (reverse order) (λ j. omega (arith, count-reverse j order, each j, from-once n j)) (λ j h. from-lt j n (omega (arith, count-reverse j order, each j))) in
+    let run = running n K N (reverse order) (λ j. omega (arith, count-reverse j order, each j, from-once n j))
+    (λ j h. from-lt j n (omega (arith, count-reverse j order, each j))) in
     record {
       older = subst Older (sym e) (run .older);
       small = λ j h. omega (
         arith,
         messages-length p,
         light (messagesOf p) (subst Older (sym e) (run .older))
-            (subst (λ (ms : List ClosedFactor). (j : ℕ) → j < length ms → (x : ℕ) → count x (Rattle.schedule.proofs.Trees.all Rattle.schedule.proofs.Runs.oneH ms j) ≤ count x (from 0 (length ms))) (sym e) (run .small)) j (omega (arith, messages-length p)),
+            (subst (λ (ms : List ClosedFactor). (j : ℕ) → j < length ms → (x : ℕ)
+            → count x (Rattle.schedule.proofs.Trees.all Rattle.schedule.proofs.Runs.oneH ms j) ≤ count x (from 0 (length ms))) (sym e) (run .small))
+            j (omega (arith, messages-length p)),
       );
     }
 
 -- ---- two passes
 module _ (fw bw : Pass) (live : List ℕ) (count' n : ℕ) (K : ℕ → List ℕ) (order : List ℕ)
-    (ef : messagesOf fw ≡ full-pass n K (take count' live) order) (eb : messagesOf bw ≡ full-pass n K (take count' live) (reverse order)) (long : length live ≡ max-factors) (lv : Live live count') (few : n ≤ max-variables)
+    (ef : messagesOf fw ≡ full-pass n K (take count' live) order) (eb : messagesOf bw ≡ full-pass n K (take count' live) (reverse order))
+    (long : length live ≡ max-factors) (lv : Live live count') (few : n ≤ max-variables)
     (rf : Ready n fw) (rb : Ready n bw)
-    (distinct : (f : ℕ) → count f (take count' live) ≤ 1) (registered : (f j : ℕ) → In j (K f) → j < n) (each : (j : ℕ) → count j order ≡ count j (from 0 n)) where
+    (distinct : (f : ℕ) → count f (take count' live) ≤ 1) (registered : (f j : ℕ) → In j (K f) → j < n)
+    (each : (j : ℕ) → count j order ≡ count j (from 0 n)) where
   pub gatherable : (k : ℕ) → k < n → Gatherable fw bw live count' (place k order) (n - 1 - place k order)
   unfolding gather gatherAt gathering uncovered
   gatherable k l = record {
@@ -110,7 +124,8 @@ module _ (fw bw : Pass) (live : List ℕ) (count' n : ℕ) (K : ℕ → List ℕ
 
       counts : (f : ℕ) → count f G ≡ count f (take count' live)
       counts f =
-          subst₂ (λ (a b : List ClosedFactor). count f ((gatherAt n K (take count' live) a b (place k order) (n - 1 - place k order) k) .leaves) ≡ count f (take count' live)) (sym ef) (sym eb)
+          subst₂ (λ (a b : List ClosedFactor). count f ((gatherAt n K (take count' live) a b (place k order) (n - 1 - place k order) k) .leaves)
+          ≡ count f (take count' live)) (sym ef) (sym eb)
           (at-each n K (take count' live) order distinct (λ f h j. registered f j) each k l .listed f)
 
   low-mem : (j : ℕ) (l : List ℕ) → T (mem j l) → In j l
@@ -120,6 +135,8 @@ module _ (fw bw : Pass) (live : List ℕ) (count' n : ℕ) (K : ℕ → List ℕ
   keyed = record {
     few = few;
     originals = λ i j t. registered i j (low-mem j (K i) t);
-    forward = λ i j t. low-pass n K (take count' live) order i j (subst (λ (ms : List ClosedFactor). In j ((at ms i) .kept)) ef (low-mem j ((at (messagesOf fw) i) .kept) t));
-    backward = λ i j t. low-pass n K (take count' live) (reverse order) i j (subst (λ (ms : List ClosedFactor). In j ((at ms i) .kept)) eb (low-mem j ((at (messagesOf bw) i) .kept) t));
+    forward = λ i j t. low-pass n K (take count' live) order i j (subst (λ (ms : List ClosedFactor). In j ((at ms i) .kept)) ef
+        (low-mem j ((at (messagesOf fw) i) .kept) t));
+    backward = λ i j t. low-pass n K (take count' live) (reverse order) i j
+        (subst (λ (ms : List ClosedFactor). In j ((at ms i) .kept)) eb (low-mem j ((at (messagesOf bw) i) .kept) t));
   }

@@ -31,7 +31,8 @@ not-both true b = refl
 not-both false b = refl
 
 -- the keys of a set but k
-last-is : (n : ℕ) (k touched own : ℕ) (ks : List ℕ) → n ≤ max-variables → own ≡ 2 ^ k → ((j : ℕ) → j < max-variables → has j touched ≡ mem j ks) → ((j : ℕ) → T (mem j ks) → j < n)
+last-is : (n : ℕ) (k touched own : ℕ) (ks : List ℕ) → n ≤ max-variables → own ≡ 2 ^ k → ((j : ℕ) → j < max-variables → has j touched ≡ mem j ks)
+    → ((j : ℕ) → T (mem j ks) → j < n)
     → keysIn (bitXor touched (bitAnd touched own)) ≡ keysLast n k ks
 unfolding keysIn keysLast
 last-is n k touched own ks f e h low =
@@ -70,7 +71,12 @@ module _ (fw bw : Pass) (live : List ℕ) (count r s : ℕ) (pre : Gatherable fw
   total = omega (arith, pre .room, length-append (A ++ B) U, length-append A B)
 
   pub listable : Listable fw f e
-  listable = record { forest = pre .forest; low = af .low; room = omega (arith, total, ap (λ (l : List ℕ). length (joined (leaves (messagesOf fw)) l)) (af .is)) }
+  listable = record {
+    forest = pre .forest;
+    low = af .low;
+    room = omega
+        (arith, total, ap (λ (l : List ℕ). length (joined (leaves (messagesOf fw)) l)) (af .is));
+  }
 
   module _ (one : Listing) (o1 : Listed fw f e one) where
     empty : itemsOf e ≡ []
@@ -106,12 +112,21 @@ module _ (fw bw : Pass) (live : List ℕ) (count r s : ℕ) (pre : Gatherable fw
         rest-items : drop (two .count) (itemsOf all) ≡ U
         rest-items = ap (drop (two .count)) all-items ∙ drop-at (A ++ B) U (two .count) (length-append A B ∙ sym two-count)
 
-        module _ (keys : List ℕ) (k fk bk uk own : ℕ) (hf : Kept fw f fk) (hb : Kept bw g bk) (hu : Union keys (two .count) (all .count) (all .items) uk) (eo : own ≡ 2 ^ k) where
+        module _ (keys : List ℕ) (k fk bk uk own : ℕ) (hf : Kept fw f fk) (hb : Kept bw g bk)
+            (hu : Union keys (two .count) (all .count) (all .items) uk) (eo : own ≡ 2 ^ k) where
           abbrev touched : ℕ
           touched = bitOr (bitOr fk bk) uk
 
           abbrev answer : Gathered
-          answer = record { forward = f; backward = g; items = all .items; covered = two .count; count = all .count; last = bitXor touched (bitAnd touched own) }
+          answer = record {
+            forward = f;
+            backward = g;
+            items = all .items;
+            covered = two .count;
+            count = all .count;
+            last = bitXor touched
+                (bitAnd touched own);
+          }
 
           module _ (n : ℕ) (K : ℕ → List ℕ) (ag' : Agrees keys K) (kd : Keyed n K fw bw) where
             abbrev FK : List ℕ
@@ -152,5 +167,7 @@ module _ (fw bw : Pass) (live : List ℕ) (count r s : ℕ) (pre : Gatherable fw
             unfolding gatheredOf gatherAt gathering uncovered
             gathers =
                 ap₂ (λ (x y : List ℕ). made x y (drop (two .count) (itemsOf all)) (itemsOf all) (keysIn (answer .last))) (af .is) (ag .is)
-                ∙ ap₂ (λ (x y : List ℕ). made (alive-messages r (messagesOf fw)) (alive-messages s (messagesOf bw)) x y (keysIn (answer .last))) rest-items all-items
-                ∙ ap (made (alive-messages r (messagesOf fw)) (alive-messages s (messagesOf bw)) U ((A ++ B) ++ U)) (last-is n k touched own ((FK ++ BK) ++ joined K U) (kd .few) eo are low)
+                ∙ ap₂ (λ (x y : List ℕ). made (alive-messages r (messagesOf fw)) (alive-messages s (messagesOf bw)) x y (keysIn (answer .last)))
+                rest-items all-items
+                ∙ ap (made (alive-messages r (messagesOf fw)) (alive-messages s (messagesOf bw)) U ((A ++ B) ++ U))
+                (last-is n k touched own ((FK ++ BK) ++ joined K U) (kd .few) eo are low)

@@ -40,7 +40,8 @@ Back order n r i = take i r ≡ reverse (drop (n - i) (take n order))
 pub back-none : (order r : List ℕ) (n : ℕ) → Back order n r 0
 back-none order r n = ap reverse (sym (drop-none (n - 0) n order (omega arith)))
 
-pub back-more : (order r : List ℕ) (n i : ℕ) → n ≤ length order → i < n → i < length r → Back order n r i → Back order n (set r i (getD order (n - 1 - i) 0)) (i + 1)
+pub back-more : (order r : List ℕ) (n i : ℕ) → n ≤ length order → i < n → i < length r → Back order n r i
+    → Back order n (set r i (getD order (n - 1 - i) 0)) (i + 1)
 back-more order r n i f h l inv =
     let e : suc (n - (i + 1)) ≡ n - i = omega arith in
     let d : n - (i + 1) ≡ n - 1 - i = omega arith in
@@ -129,7 +130,8 @@ module _ (keys live order : List ℕ) (number n : ℕ) (sound : Sound keys live 
     pub in-back : (back : List ℕ) → take n back ≡ reverse (take n order) → Order back n
     in-back back e = record {
       few = sound .few;
-      low = low-of back n (ap length e ∙ length-reverse (take n order) ∙ order-long) (λ j. ap (count j) e ∙ count-reverse j (take n order) ∙ sound .ordered .each j);
+      low = low-of back n (ap length e ∙ length-reverse (take n order) ∙ order-long)
+          (λ j. ap (count j) e ∙ count-reverse j (take n order) ∙ sound .ordered .each j);
     }
 
 -- Both passes of a sound graph, as the code has made them: the sizes of the arrays, the bounds, and what the messages are.
@@ -154,8 +156,10 @@ module _ (keys live order : List ℕ) (number n : ℕ) (fw bw : Pass) (both : Bo
   may-gather k r s h e d =
       subst (λ (x : ℕ). Gatherable fw bw live number r x) (sym (d ∙ ap (λ (x : ℕ). n - 1 - x) e))
       (subst (λ (x : ℕ). Gatherable fw bw live number x (n - 1 - place k along)) (sym e)
-      (gatherable fw bw live number n (own keys) along (both .forward (own keys) agreed) (both .backward (own keys) agreed) (both .long) (both .sound .ordered .originals) (both .sound .few)
-      (both .ready) (both .ready') (both .sound .ordered .distinct) (below keys live order number n (both .sound) (own keys) agreed) (both .sound .ordered .each) k h))
+      (gatherable fw bw live number n (own keys) along (both .forward (own keys) agreed) (both .backward (own keys) agreed) (both .long)
+      (both .sound .ordered .originals) (both .sound .few)
+      (both .ready) (both .ready') (both .sound .ordered .distinct) (below keys live order number n (both .sound) (own keys) agreed)
+      (both .sound .ordered .each) k h))
     where
       agreed : Agrees keys (own keys)
       agreed = agrees keys live order number n (both .sound)
@@ -175,23 +179,28 @@ module _ (keys live order : List ℕ) (number n : ℕ) (fw bw : Pass) (both : Bo
   unfolding from
   start at l = record { here = omega arith; size = l; is = λ K ag. refl; held = λ i h. absurd (omega arith) }
 
-  got : (k r s : ℕ) (g : Gathered) (K : ℕ → List ℕ) → Agrees keys K → r ≡ place k along → s ≡ n - 1 - r → Gathers fw bw keys N r s k g → gatheredOf g ≡ wanted K k
+  got : (k r s : ℕ) (g : Gathered) (K : ℕ → List ℕ) → Agrees keys K → r ≡ place k along → s ≡ n - 1 - r → Gathers fw bw keys N r s k g → gatheredOf g
+      ≡ wanted K k
   unfolding gather
   got k r s g K ag e d h =
       h n K ag
-      (keyed fw bw live number n K along (both .forward K ag) (both .backward K ag) (both .long) (both .sound .ordered .originals) (both .sound .few) (both .ready) (both .ready') (both .sound .ordered .distinct)
+      (keyed fw bw live number n K along (both .forward K ag) (both .backward K ag) (both .long) (both .sound .ordered .originals) (both .sound .few)
+      (both .ready) (both .ready') (both .sound .ordered .distinct)
       (below keys live order number n (both .sound) K ag) (both .sound .ordered .each))
       ∙ ap₂ (λ (x y : ℕ). gatherAt n K N (messagesOf fw) (messagesOf bw) x y k) e (d ∙ ap (λ (x : ℕ). n - 1 - x) e)
       ∙ ap₂ (λ (x y : List _). gatherAt n K N x y (place k along) (n - 1 - place k along) k) (both .forward K ag) (both .backward K ag)
 
-  pub more : (at : List Gathered) (k r s : ℕ) (g : Gathered) → Planning at k → k < n → r ≡ place k along → s ≡ n - 1 - r → Gathers fw bw keys N r s k g → Held g → Planning (set at k g) (k + 1)
+  pub more : (at : List Gathered) (k r s : ℕ) (g : Gathered) → Planning at k → k < n → r ≡ place k along → s ≡ n - 1 - r
+      → Gathers fw bw keys N r s k g → Held g → Planning (set at k g) (k + 1)
   more at k r s g t h e d q v = record {
     here = omega arith;
     size = length-set at k g ∙ t .size;
     is = λ K ag.
         ap (λ (m : ℕ). map gatheredOf (take m (set at k g))) (add-one k) ∙ ap (map gatheredOf) (take-suc-set at k g (omega (arith, t .size, both .sound .few)))
-        ∙ map-append gatheredOf (take k at) (g ∷ []) ∙ ap₂ (λ (x : List lists.Gathered) (y : lists.Gathered). x ++ (y ∷ [])) (t .is K ag) (got k r s g K ag e d q)
-        ∙ sym (ap (λ (m : ℕ). map (wanted K) (from 0 m)) (add-one k) ∙ ap (map (wanted K)) (from-snoc 0 k) ∙ map-append (wanted K) (from 0 k) ((0 + k) ∷ []) ∙ ap (λ (m : ℕ). map (wanted K) (from 0 k) ++ (wanted K m ∷ [])) (zero-add k));
+        ∙ map-append gatheredOf (take k at) (g ∷ []) ∙ ap₂ (λ (x : List lists.Gathered) (y : lists.Gathered). x ++ (y ∷ [])) (t .is K ag)
+        (got k r s g K ag e d q)
+        ∙ sym (ap (λ (m : ℕ). map (wanted K) (from 0 m)) (add-one k) ∙ ap (map (wanted K)) (from-snoc 0 k)
+        ∙ map-append (wanted K) (from 0 k) ((0 + k) ∷ []) ∙ ap (λ (m : ℕ). map (wanted K) (from 0 k) ++ (wanted K m ∷ [])) (zero-add k));
     held = λ i l. holds i l (ℕ-discrete i k);
   }
     where

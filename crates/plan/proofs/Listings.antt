@@ -39,7 +39,8 @@ module _ (l : Listing) (x : ℕ) (s : Space l) where
   }
 
   pub item-items : l .count < max-factors → itemsOf (with-item l x) ≡ itemsOf l ++ (x ∷ [])
-  item-items h = ap (λ (n : ℕ). take n (set (l .items) (l .count) x)) (add-one (l .count)) ∙ take-suc-set (l .items) (l .count) x (omega (arith, s .items .long))
+  item-items h = ap (λ (n : ℕ). take n (set (l .items) (l .count) x)) (add-one (l .count))
+      ∙ take-suc-set (l .items) (l .count) x (omega (arith, s .items .long))
 
   pub message-space : l .top < max-variables → x < max-variables → Space (with-message l x)
   message-space h k = record {

@@ -97,7 +97,8 @@ module _ {A : Type 0} where
 keep-same : (p q : ℕ → Bool) (a n : ℕ) → ((j : ℕ) → a ≤ j → j < a + n → p j ≡ q j) → keep p (from a n) ≡ keep q (from a n)
 unfolding keep from
 keep-same p q a zero h = refl
-keep-same p q a (suc n) h = ap₂ (λ (b : Bool) (l : List ℕ). putIf b a l) (h a (omega arith) (omega arith)) (keep-same p q (suc a) n (λ j k l. h j (omega arith) (omega arith)))
+keep-same p q a (suc n) h = ap₂ (λ (b : Bool) (l : List ℕ). putIf b a l) (h a (omega arith) (omega arith))
+    (keep-same p q (suc a) n (λ j k l. h j (omega arith) (omega arith)))
 
 pub rising-same : (n : ℕ) (p q : ℕ → Bool) → ((j : ℕ) → j < n → p j ≡ q j) → rising n p ≡ rising n q
 unfolding rising
@@ -106,7 +107,8 @@ rising-same n p q h = keep-same p q 0 n (λ j k l. h j (omega arith))
 from-append : (a m n : ℕ) → from a (m + n) ≡ from a m ++ from (a + m) n
 unfolding from
 from-append a zero n = ap₂ from (sym (add-zero a)) (zero-add n)
-from-append a (suc m) n = ap (from a) (suc-add m n) ∙ ap (λ (l : List ℕ). a ∷ l) (from-append (suc a) m n ∙ ap (λ (x : ℕ). from (suc a) m ++ from x n) (omega arith))
+from-append a (suc m) n = ap (from a) (suc-add m n) ∙ ap (λ (l : List ℕ). a ∷ l)
+    (from-append (suc a) m n ∙ ap (λ (x : ℕ). from (suc a) m ++ from x n) (omega arith))
 
 keep-none : (p : ℕ → Bool) (a n : ℕ) → ((x : ℕ) → a ≤ x → p x ≡ false) → keep p (from a n) ≡ []
 unfolding keep from
@@ -134,7 +136,8 @@ length-from a (suc n) = ap suc (length-from (suc a) n)
 pub map-from : {A : Type 0} (f g : ℕ → A) (a n : ℕ) → ((j : ℕ) → a ≤ j → j < a + n → f j ≡ g j) → map f (from a n) ≡ map g (from a n)
 unfolding from
 map-from f g a zero h = refl
-map-from {A} f g a (suc n) h = ap₂ (λ (x : A) (l : List A). x ∷ l) (h a (omega arith) (omega arith)) (map-from f g (suc a) n (λ j k l. h j (omega arith) (omega arith)))
+map-from {A} f g a (suc n) h = ap₂ (λ (x : A) (l : List A). x ∷ l) (h a (omega arith) (omega arith))
+    (map-from f g (suc a) n (λ j k l. h j (omega arith) (omega arith)))
 
 -- the numbers below j come first
 pub rising-split : (j n : ℕ) (p : ℕ → Bool) → j ≤ n → rising n p ≡ rising j p ++ keep p (from j (n - j))

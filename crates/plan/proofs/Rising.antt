@@ -63,7 +63,8 @@ filled-done size r i t h =
     sym (take-all size r (omega (arith, t .long))) ∙ subst (λ (m : ℕ). take m r ≡ from 0 m) e (t .is)
 
 -- Keys and originals rising name each key once, and no original twice.
-pub rising-ordered : (live order : List ℕ) (number n : ℕ) → live ≡ from 0 max-factors → order ≡ from 0 max-variables → number ≤ max-factors → n ≤ max-variables → Ordered live number order n
+pub rising-ordered : (live order : List ℕ) (number n : ℕ) → live ≡ from 0 max-factors → order ≡ from 0 max-variables → number ≤ max-factors
+    → n ≤ max-variables → Ordered live number order n
 rising-ordered live order number n el eo some few =
     rw (el, eo)
     (record {

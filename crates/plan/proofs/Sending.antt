@@ -81,7 +81,8 @@ module _ (p : Pass) (w : Board) (ks cleared t : ℕ) (ready : Ready t p) (low : 
       active = record {
         long = length-set (w .slots) (w .used) (max-factors + c) ∙ split .room .active .long;
         few = omega (arith, space);
-        low = λ k l. low-set (w .slots) (w .used) (max-factors + c) k pass-slots (omega (arith, space, split .room .active .long)) (omega (arith, few)) (λ q. split .room .active .low k (omega arith));
+        low = λ k l. low-set (w .slots) (w .used) (max-factors + c) k pass-slots (omega (arith, space, split .room .active .long))
+            (omega (arith, few)) (λ q. split .room .active .low k (omega arith));
       };
       contents = split .room .contents;
       room = omega (arith, few, ready .total, split .sum);
@@ -111,15 +112,21 @@ module _ (p : Pass) (w : Board) (ks cleared t : ℕ) (ready : Ready t p) (low : 
           omega (arith, getD-set-other (p .ends) c j (w .filled) 0 e, getD-set-other (p .starts) c j (p .board .filled) 0 e, ready .ordered j (omega arith))
 
       closed : (j : ℕ) → j < c + 1 → Dec (j ≡ c) → getD (set (p .ends) c (w .filled)) j 0 ≤ w .filled
-      closed j h (yes e) = omega (arith, ap (λ (i : ℕ). getD (set (p .ends) c (w .filled)) i 0) e, getD-set-same (p .ends) c (w .filled) 0 (omega (arith, few, ready .ends)))
+      closed j h (yes e) = omega (
+        arith,
+        ap (λ (i : ℕ). getD (set (p .ends) c (w .filled)) i 0) e,
+        getD-set-same (p .ends) c (w .filled) 0 (omega (arith, few, ready .ends)),
+      )
       closed j h (no e) = omega (arith, getD-set-other (p .ends) c j (w .filled) 0 e, ready .closed j (omega arith), split .more)
 
   -- the mask of a message
   new-mask : getD (drop max-factors (r .masks)) c 0 ≡ bitAnd (p .active) ks
-  new-mask = ap (λ (l : List ℕ). getD l c 0) (drop-set-add max-factors (p .masks) c (bitAnd (p .active) ks)) ∙ getD-set-same (drop max-factors (p .masks)) c (bitAnd (p .active) ks) 0 (omega (arith, few, length-drop max-factors (p .masks), ready .masks))
+  new-mask = ap (λ (l : List ℕ). getD l c 0) (drop-set-add max-factors (p .masks) c (bitAnd (p .active) ks))
+      ∙ getD-set-same (drop max-factors (p .masks)) c (bitAnd (p .active) ks) 0 (omega (arith, few, length-drop max-factors (p .masks), ready .masks))
 
   old-mask : (j : ℕ) → j ≢ c → getD (drop max-factors (r .masks)) j 0 ≡ getD (drop max-factors (p .masks)) j 0
-  old-mask j h = ap (λ (l : List ℕ). getD l j 0) (drop-set-add max-factors (p .masks) c (bitAnd (p .active) ks)) ∙ getD-set-other (drop max-factors (p .masks)) c j (bitAnd (p .active) ks) 0 h
+  old-mask j h = ap (λ (l : List ℕ). getD l j 0) (drop-set-add max-factors (p .masks) c (bitAnd (p .active) ks))
+      ∙ getD-set-other (drop max-factors (p .masks)) c j (bitAnd (p .active) ks) 0 h
 
   old-content : (a e : ℕ) → e ≤ p .board .filled → drop a (take e (w .content)) ≡ drop a (take e (p .board .content))
   old-content a e h =
@@ -129,12 +136,32 @@ module _ (p : Pass) (w : Board) (ks cleared t : ℕ) (ready : Ready t p) (low : 
   unfolding msgAt
   old-msg j h =
       let ne : j ≢ c = λ e. omega arith in
-      rw (getD-set-other (p .steps) c j t 0 ne, getD-set-other (p .starts) c j (p .board .filled) 0 ne, getD-set-other (p .ends) c j (w .filled) 0 ne, getD-set-other (p .cleared) c j cleared 0 ne, old-mask j ne, old-content (getD (p .starts) j 0) (getD (p .ends) j 0) (ready .closed j h))
+      rw (
+        getD-set-other (p .steps) c j t 0 ne,
+        getD-set-other (p .starts) c j (p .board .filled) 0 ne,
+        getD-set-other (p .ends) c j (w .filled) 0 ne,
+        getD-set-other (p .cleared) c j cleared 0 ne,
+        old-mask j ne,
+        old-content (getD (p .starts) j 0) (getD (p .ends) j 0) (ready .closed j h),
+      )
 
-  new-msg : msgAt r c ≡ record { step = t; content = map slotOf (drop (p .board .filled) (take (w .filled) (w .content))); kept = keysIn (bitAnd (p .active) ks); cleared = keysIn cleared }
+  new-msg : msgAt r c ≡ record {
+    step = t;
+    content = map slotOf (drop (p .board .filled) (take (w .filled) (w .content)));
+    kept = keysIn
+        (bitAnd (p .active) ks);
+    cleared = keysIn cleared;
+  }
   unfolding msgAt
   new-msg =
-      rw (getD-set-same (p .steps) c t 0 (omega (arith, few, ready .steps)), getD-set-same (p .starts) c (p .board .filled) 0 (omega (arith, few, ready .starts)), getD-set-same (p .ends) c (w .filled) 0 (omega (arith, few, ready .ends)), getD-set-same (p .cleared) c cleared 0 (omega (arith, few, ready .cleared)), new-mask)
+      rw (
+        getD-set-same (p .steps) c t 0 (omega (arith, few, ready .steps)),
+        getD-set-same (p .starts) c (p .board .filled) 0 (omega (arith, few, ready .starts)),
+        getD-set-same (p .ends) c (w .filled) 0
+            (omega (arith, few, ready .ends)),
+        getD-set-same (p .cleared) c cleared 0 (omega (arith, few, ready .cleared)),
+        new-mask,
+      )
 
   messages-snoc : messagesOf r ≡ messagesOf p ++ (msgAt r c ∷ [])
   unfolding messagesOf
@@ -153,7 +180,8 @@ module _ (p : Pass) (w : Board) (ks cleared t : ℕ) (ready : Ready t p) (low : 
     same-walk : walking (p .masks) cleared (p .board) ≡ W
     same-walk =
         ap₂ (λ (q : Slot → Bool) (l : List Slot). walk q (length l) l)
-        (fun-ext (λ s. meets-touches (maskAt (p .masks) s) cleared (keysOf K ms s) (keysIn cleared) (m .masks s) (λ j. sym (keysIn-mem n cleared j (m .few) (hb j)))))
+        (fun-ext (λ s. meets-touches (maskAt (p .masks) s) cleared (keysOf K ms s) (keysIn cleared) (m .masks s)
+        (λ j. sym (keysIn-mem n cleared j (m .few) (hb j)))))
         (m .slots)
 
     content-is : map slotOf (drop (p .board .filled) (take (w .filled) (w .content))) ≡ W .taken
@@ -180,7 +208,13 @@ module _ (p : Pass) (w : Board) (ks cleared t : ℕ) (ready : Ready t p) (low : 
     kept-is = keysIn-is n (bitAnd (p .active) ks) (λ j. mem j (st .active-keys) && mem j (joined (keysOf K ms) (W .taken))) (m .few) kept-below kept-has
 
     abbrev new : ClosedFactor
-    new = record { step = t; content = W .taken; kept = rising n (λ j. mem j (st .active-keys) && mem j (joined (keysOf K ms) (W .taken))); cleared = keysIn cleared }
+    new = record {
+      step = t;
+      content = W .taken;
+      kept = rising n (λ j. mem j (st .active-keys) && mem j (joined (keysOf K ms) (W .taken)));
+      cleared =
+          keysIn cleared;
+    }
 
     new-is : msgAt r c ≡ new
     new-is = new-msg ∙ ap₂ (λ (x : List Slot) (y : List ℕ). record { step = t; content = x; kept = y; cleared = keysIn cleared }) content-is kept-is
@@ -197,24 +231,29 @@ module _ (p : Pass) (w : Board) (ks cleared t : ℕ) (ready : Ready t p) (low : 
         go : Dec (j < c) → at (ms ++ (new ∷ [])) j ≡ at ms j
         go (yes l) = List·getD-append ms (new ∷ []) noMessage j (omega (arith, long))
         go (no l) =
-            List·getD-eq-default (ms ++ (new ∷ [])) noMessage (omega (arith, length-append ms (new ∷ []), long)) ∙ sym (List·getD-eq-default ms noMessage (omega (arith, long)))
+            List·getD-eq-default (ms ++ (new ∷ [])) noMessage (omega (arith, length-append ms (new ∷ []), long))
+            ∙ sym (List·getD-eq-default ms noMessage (omega (arith, long)))
 
     masks-are : (s : Slot) (j : ℕ) → has j (maskAt (r .masks) s) ≡ mem j (keysOf K (ms ++ (new ∷ [])) s)
     unfolding maskAt keysOf
     masks-are (original i) j =
-        ap (λ (l : List ℕ). has j (getD l i 0)) (take-set-le max-factors (p .masks) (max-factors + c) (bitAnd (p .active) ks) (omega arith)) ∙ m .masks (original i) j
+        ap (λ (l : List ℕ). has j (getD l i 0)) (take-set-le max-factors (p .masks) (max-factors + c) (bitAnd (p .active) ks) (omega arith))
+        ∙ m .masks (original i) j
     masks-are (closed i) j = go (ℕ-discrete i c)
       where
         go : Dec (i ≡ c) → has j (getD (drop max-factors (r .masks)) i 0) ≡ mem j ((at (ms ++ (new ∷ [])) i) .kept)
         go (yes e) =
-            ap (λ (k : ℕ). has j (getD (drop max-factors (r .masks)) k 0)) e ∙ ap (has j) new-mask ∙ sym (keysIn-mem n (bitAnd (p .active) ks) j (m .few) (kept-below j))
+            ap (λ (k : ℕ). has j (getD (drop max-factors (r .masks)) k 0)) e ∙ ap (has j) new-mask
+            ∙ sym (keysIn-mem n (bitAnd (p .active) ks) j (m .few) (kept-below j))
             ∙ ap (mem j) kept-is ∙ ap (λ (x : ClosedFactor). mem j (x .kept)) (sym at-new) ∙ ap (λ (k : ℕ). mem j ((at (ms ++ (new ∷ [])) k) .kept)) (sym e)
         go (no e) = ap (has j) (old-mask i e) ∙ m .masks (closed i) j ∙ ap (λ (x : ClosedFactor). mem j (x .kept)) (sym (at-old i e))
 
     slots-are : slotsOf (r .board) ≡ W .left ++ (closed (length ms) ∷ [])
     slots-are =
-        ap (λ (k : ℕ). take k (map slotOf (r .board .slots))) (add-one (w .used)) ∙ ap (take (suc (w .used))) (map-set slotOf (w .slots) (w .used) (max-factors + c))
-        ∙ take-suc-set (map slotOf (w .slots)) (w .used) (slotOf (max-factors + c)) (omega (arith, space, length-map (w .slots) slotOf, split .room .active .long))
+        ap (λ (k : ℕ). take k (map slotOf (r .board .slots))) (add-one (w .used))
+        ∙ ap (take (suc (w .used))) (map-set slotOf (w .slots) (w .used) (max-factors + c))
+        ∙ take-suc-set (map slotOf (w .slots)) (w .used) (slotOf (max-factors + c))
+        (omega (arith, space, length-map (w .slots) slotOf, split .room .active .long))
         ∙ ap₂ (λ (x : List Slot) (s : Slot). x ++ (s ∷ [])) (split .left ∙ ap (λ (x : Walked). x .left) same-walk) (slot-msg c ∙ ap closed (sym long))
 
     pub sends : Means n K r (sent n K t st (st .active-keys) (keysIn cleared))

@@ -60,7 +60,8 @@ module _ (m a : ℕ) (ks ak : List ℕ) (hm : Stands m ks) (ha : Stands a ak) wh
           go (inr s) = absurd (T-not (any (λ j. not (mem j ak)) ks) t (any-of (λ j. not (mem j ak)) (to-mem j h) (subst (λ (b : Bool). T (not b)) (ha j) s)))
 
       whole : T (not (any (λ j. not (mem j ak)) ks)) → bitAnd m a ≡ m
-      whole t = has-ext (bitAnd m a) m (λ j. has-and j m a ∙ same-test (has j m && has j a) (has j m) (λ s. and-l (has j m) (has j a) s) (λ s. and-i (has j m) (has j a) s (none t j s)))
+      whole t = has-ext (bitAnd m a) m (λ j. has-and j m a ∙ same-test (has j m && has j a) (has j m) (λ s. and-l (has j m) (has j a) s)
+          (λ s. and-i (has j m) (has j a) s (none t j s)))
 
       there : T (strays a m) → T (any (λ j. not (mem j ak)) ks)
       there t = go (sure (any (λ j. not (mem j ak)) ks))
@@ -70,7 +71,8 @@ module _ (m a : ℕ) (ks ak : List ℕ) (hm : Stands m ks) (ha : Stands a ak) wh
           go (inr s) = absurd (T-not (eqb (bitAnd m a) m) t (subst (λ (z : ℕ). T (eqb z m)) (sym (whole s)) (eqb-refl m)))
 
       hit : (e : ℕ) × List·Memᴰ e ks × T (not (mem e ak)) → bitAnd m a ≡ m → ⊥
-      hit (e, i, t) z = T-not (mem e ak) t (subst T (ha e) (and-r (has e m) (has e a) (subst T (has-and e m a) (subst (λ (x : ℕ). T (has e x)) (sym z) (of-mem e i)))))
+      hit (e, i, t) z = T-not (mem e ak) t (subst T (ha e) (and-r (has e m) (has e a)
+          (subst T (has-and e m a) (subst (λ (x : ℕ). T (has e x)) (sym z) (of-mem e i)))))
 
       back : T (any (λ j. not (mem j ak)) ks) → T (strays a m)
       back t = not-T (eqb (bitAnd m a) m) (λ e. hit (any-some (λ j. not (mem j ak)) ks t) (eqb→eq (bitAnd m a) m e))

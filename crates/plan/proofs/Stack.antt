@@ -81,7 +81,8 @@ module _ (p : Pass) (ready : Ready max-variables p) (forest : Forest p) where
         let none : stackOf r ≡ [] = ap (λ (n : ℕ). reverse (take n (r .stack))) e in
         record {
           space = t .space;
-          items = sym (append-nil (itemsOf r)) ∙ ap (λ (x : List ℕ). itemsOf r ++ x) (sym (joined-nil (all leafH ms))) ∙ ap (λ (x : List ℕ). itemsOf r ++ under-all x) (sym none)
+          items = sym (append-nil (itemsOf r)) ∙ ap (λ (x : List ℕ). itemsOf r ++ x) (sym (joined-nil (all leafH ms)))
+              ∙ ap (λ (x : List ℕ). itemsOf r ++ under-all x) (sym none)
               ∙ t .items ∙ ap (λ (x : List ℕ). itemsOf l ++ under-all x) one ∙ ap (λ (x : List ℕ). itemsOf l ++ x) (sym leaves-are);
         }
 
@@ -118,7 +119,8 @@ module _ (p : Pass) (ready : Ready max-variables p) (forest : Forest p) where
 
     weight : heavy ms (stackOf l) ≡ suc (heavy ms (reverseAux (messagesIn c) (stackOf (popped l))))
     weight =
-        ap (heavy ms) stack-is ∙ heavy-step ms (forest .older) m (stackOf (popped l)) ∙ ap (λ (x : List Slot). suc (heavy ms (reverseAux (messagesIn x) (stackOf (popped l))))) content-is
+        ap (heavy ms) stack-is ∙ heavy-step ms (forest .older) m (stackOf (popped l))
+        ∙ ap (λ (x : List Slot). suc (heavy ms (reverseAux (messagesIn x) (stackOf (popped l))))) content-is
 
     pub top-low : m < max-variables
     top-low = omega (arith, here, ready .few)
@@ -179,5 +181,11 @@ module _ (p : Pass) (ready : Ready max-variables p) (forest : Forest p) where
         where
           low : (x n : ℕ) → count x (messagesIn c) ≡ n → In x (stackOf r) → x < p .count
           low x zero e k =
-              t .low x (omega (arith, ap (count x) (v .stack), count-reverseAux x (messagesIn c) (stackOf (popped l)), ap (count x) stack-is, count-cons x m (stackOf (popped l))))
+              t .low x (omega (
+                arith,
+                ap (count x) (v .stack),
+                count-reverseAux x (messagesIn c) (stackOf (popped l)),
+                ap (count x) stack-is,
+                count-cons x m (stackOf (popped l)),
+              ))
           low x (suc n) e k = omega (arith, here, forest .older m x (omega (arith, ap (λ (y : List Slot). count x (messagesIn y)) content-is)))

@@ -45,7 +45,16 @@ sending-sent n K t st ak [] h = absurd (h refl)
 sending-sent n K t st ak (c ∷ cs) h = refl
 
 abbrev pub with-active : Pass → ℕ → Pass
-with-active p a = record { masks = p .masks; cleared = p .cleared; steps = p .steps; starts = p .starts; ends = p .ends; count = p .count; active = a; board = p .board }
+with-active p a = record {
+  masks = p .masks;
+  cleared = p .cleared;
+  steps = p .steps;
+  starts = p .starts;
+  ends = p .ends;
+  count = p .count;
+  active = a;
+  board = p .board;
+}
 
 module _ (p : Pass) (k t one cp : ℕ) (e : one ≡ 2 ^ k) where
   abbrev pub active : ℕ
@@ -57,7 +66,8 @@ module _ (p : Pass) (k t one cp : ℕ) (e : one ≡ 2 ^ k) where
   abbrev pub cleared : ℕ
   cleared = bitXor active left
 
-  module _ (cps : Coupled (p .masks) active (take (p .board .used) (p .board .slots)) cp) (n : ℕ) (K : ℕ → List ℕ) (st : State) (kn : k < n) (m : Means n K p st) where
+  module _ (cps : Coupled (p .masks) active (take (p .board .used) (p .board .slots)) cp) (n : ℕ) (K : ℕ → List ℕ) (st : State) (kn : k < n)
+      (m : Means n K p st) where
     abbrev ms : List ClosedFactor
     ms = st .messages
 
@@ -84,10 +94,12 @@ module _ (p : Pass) (k t one cp : ℕ) (e : one ≡ 2 ^ k) where
     unfolding coupled
     cp-has j =
         cps j
-        ∙ any-same (λ x. strays active (getD (p .masks) x 0) && has j (getD (p .masks) x 0)) (λ x. mem j (keysIf (outside ak (keysOf K ms (slotOf x))) (keysOf K ms (slotOf x)))) (take (p .board .used) (p .board .slots))
+        ∙ any-same (λ x. strays active (getD (p .masks) x 0) && has j (getD (p .masks) x 0))
+        (λ x. mem j (keysIf (outside ak (keysOf K ms (slotOf x))) (keysOf K ms (slotOf x)))) (take (p .board .used) (p .board .slots))
         (λ x.
         ap (λ (z : ℕ). strays active z && has j z) (sym (mask-at (p .masks) x))
-        ∙ ap₂ (λ (y z : Bool). y && z) (strays-outside (maskAt (p .masks) (slotOf x)) active (keysOf K ms (slotOf x)) ak (m .masks (slotOf x)) active-has) (m .masks (slotOf x) j)
+        ∙ ap₂ (λ (y z : Bool). y && z) (strays-outside (maskAt (p .masks) (slotOf x)) active (keysOf K ms (slotOf x)) ak (m .masks (slotOf x))
+        active-has) (m .masks (slotOf x) j)
         ∙ sym (mem-if j (outside ak (keysOf K ms (slotOf x))) (keysOf K ms (slotOf x))))
         ∙ sym (any-map (λ s. mem j (keysIf (outside ak (keysOf K ms s)) (keysOf K ms s))) slotOf (take (p .board .used) (p .board .slots)))
         ∙ ap (any (λ s. mem j (keysIf (outside ak (keysOf K ms s)) (keysOf K ms s)))) (map-take slotOf (p .board .used) (p .board .slots) ∙ m .slots)
@@ -132,7 +144,8 @@ module _ (p : Pass) (k t one cp : ℕ) (e : one ≡ 2 ^ k) where
     silent z = subst (λ (s : State). Means n K (with-active p left) s) (sym (step-is [] (ap keysIn z ∙ keysIn-zero))) middle
 
     some : cleared ≢ 0 → keysIn cleared ≢ []
-    some h q = let f = some-has cleared h in subst T (sym (keysIn-mem n cleared (f .0) (m .few) (cleared-below (f .0))) ∙ ap (mem (f .0)) q ∙ mem-nil (f .0)) (f .1)
+    some h q = let f = some-has cleared h in subst T (sym (keysIn-mem n cleared (f .0) (m .few) (cleared-below (f .0))) ∙ ap (mem (f .0)) q
+        ∙ mem-nil (f .0)) (f .1)
 
     -- the message is sent
     pub spoken : (r : Pass) → cleared ≢ 0 → Sends cleared t (with-active p left) r → Means n K r (step n K t k st)

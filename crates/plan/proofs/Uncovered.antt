@@ -24,7 +24,8 @@ use Rattle.plan.proofs.Listings.{with-item, item-space, item-items, ite
 use Rattle.plan.proofs.Unions.{in-set, off-set, joined-in, joined-off, joined-zero, keysIn-below}
 
 -- ---- the originals that are not listed
-module _ (live : List ℕ) (count : ℕ) (l₀ : Listing) (long : length live ≡ max-factors) (lv : Live live count) (room : Coverable live count l₀) (space₀ : Space l₀) where
+module _ (live : List ℕ) (count : ℕ) (l₀ : Listing) (long : length live ≡ max-factors) (lv : Live live count) (room : Coverable live count l₀)
+    (space₀ : Space l₀) where
   abbrev free : ℕ → Bool
   free x = not (mem x (itemsOf l₀))
 
@@ -46,7 +47,8 @@ module _ (live : List ℕ) (count : ℕ) (l₀ : Listing) (long : length live �
     cons : rest i ≡ putIf (free x) x (rest (i + 1))
     cons =
         ap (keep free) (drop-cons (take count live) i 0 (omega (arith, length-take-le count live (omega (arith, lv .few)))))
-        ∙ ap₂ (λ (y n : ℕ). keep free (y ∷ drop n (take count live))) (getD-take count live i 0 h) (sym (add-one i)) ∙ keep-cons free x (drop (i + 1) (take count live))
+        ∙ ap₂ (λ (y n : ℕ). keep free (y ∷ drop n (take count live))) (getD-take count live i 0 h) (sym (add-one i))
+        ∙ keep-cons free x (drop (i + 1) (take count live))
 
     module _ (z : bitAnd set s ≡ 0) where
       cons-free : rest i ≡ x ∷ rest (i + 1)
@@ -77,7 +79,8 @@ module _ (live : List ℕ) (count : ℕ) (l₀ : Listing) (long : length live �
     list-same z = record {
       here = omega arith;
       space = t .space;
-      items = ap (λ (r : List ℕ). itemsOf l ++ r) (sym (cons ∙ ap (λ (b : Bool). putIf (not b) x (rest (i + 1))) (sym (are x) ∙ in-set set x s e z))) ∙ t .items;
+      items = ap (λ (r : List ℕ). itemsOf l ++ r) (sym (cons ∙ ap (λ (b : Bool). putIf (not b) x (rest (i + 1))) (sym (are x) ∙ in-set set x s e z)))
+          ∙ t .items;
     }
 
   pub done : (l : Listing) (i : ℕ) → Covering l i → count ≤ i → Covered live count l₀ l
@@ -101,7 +104,12 @@ module _ (p : Pass) (set : ℕ) (l₀ : Listing) (few : p .count ≤ max-variabl
     pub items : itemsOf l ≡ itemsOf l₀ ++ under j
 
   pub begin : Leaving l₀ 0
-  begin = record { here = omega arith; space = space₀; items = sym (append-nil (itemsOf l₀)) ∙ ap (λ (r : List ℕ). itemsOf l₀ ++ r) (sym (joined-zero (leaves (messagesOf p)) (λ k. has k set))) }
+  begin = record {
+    here = omega arith;
+    space = space₀;
+    items = sym (append-nil (itemsOf l₀))
+        ∙ ap (λ (r : List ℕ). itemsOf l₀ ++ r) (sym (joined-zero (leaves (messagesOf p)) (λ k. has k set)));
+  }
 
   all-is : keysIn set ≡ rising (p .count) (λ k. has k set)
   all-is = keysIn-below (p .count) set few (ls .low)
@@ -111,7 +119,8 @@ module _ (p : Pass) (set : ℕ) (l₀ : Listing) (few : p .count ≤ max-variabl
       next : under (j + 1) ≡ under j ++ leaves (messagesOf p) j
       next = joined-in (leaves (messagesOf p)) (λ k. has k set) j (in-set set j s e z)
 
-      split : joined (leaves (messagesOf p)) (keysIn set) ≡ under (j + 1) ++ joined (leaves (messagesOf p)) (keep (λ k. has k set) (from (j + 1) (p .count - (j + 1))))
+      split : joined (leaves (messagesOf p)) (keysIn set) ≡ under (j + 1) ++ joined (leaves (messagesOf p))
+          (keep (λ k. has k set) (from (j + 1) (p .count - (j + 1))))
       split =
           ap (joined (leaves (messagesOf p))) (all-is ∙ rising-split (j + 1) (p .count) (λ k. has k set) (omega arith))
           ∙ joined-append (leaves (messagesOf p)) (rising (j + 1) (λ k. has k set)) (keep (λ k. has k set) (from (j + 1) (p .count - (j + 1))))
@@ -139,7 +148,8 @@ module _ (p : Pass) (set : ℕ) (l₀ : Listing) (few : p .count ≤ max-variabl
       leave-more r o = record {
         here = omega arith;
         space = o .space;
-        items = o .items ∙ ap (λ (x : List ℕ). x ++ leaves (messagesOf p) j) (t .items) ∙ append-assoc (itemsOf l₀) (under j) (leaves (messagesOf p) j) ∙ ap (λ (x : List ℕ). itemsOf l₀ ++ x) (sym next);
+        items = o .items ∙ ap (λ (x : List ℕ). x ++ leaves (messagesOf p) j) (t .items)
+            ∙ append-assoc (itemsOf l₀) (under j) (leaves (messagesOf p) j) ∙ ap (λ (x : List ℕ). itemsOf l₀ ++ x) (sym next);
       }
 
     pub leave-same : bitAnd set s ≡ 0 → Leaving l (j + 1)
@@ -152,5 +162,6 @@ module _ (p : Pass) (set : ℕ) (l₀ : Listing) (few : p .count ≤ max-variabl
   pub end : (l : Listing) (j : ℕ) → Leaving l j → p .count ≤ j → Listed p set l₀ l
   end l j t h = record {
     space = t .space;
-    items = t .items ∙ ap (λ (n : ℕ). itemsOf l₀ ++ under n) {y = p .count} (omega (arith, t .here)) ∙ ap (λ (x : List ℕ). itemsOf l₀ ++ joined (leaves (messagesOf p)) x) (sym all-is);
+    items = t .items ∙ ap (λ (n : ℕ). itemsOf l₀ ++ under n) {y = p .count} (omega (arith, t .here))
+        ∙ ap (λ (x : List ℕ). itemsOf l₀ ++ joined (leaves (messagesOf p)) x) (sym all-is);
   }

@@ -65,7 +65,8 @@ slot-high x h = ap (λ (b : Bool). pickSlot b x) (le-ltb x max-factors h)
 
 part-more : (content : List ℕ) (a i : ℕ) → a ≤ i → i < length content → part a (i + 1) content ≡ part a i content ++ (slotOf (getD content i 0) ∷ [])
 part-more content a i h l =
-    ap (λ (n : ℕ). part a n content) (add-one i) ∙ ap (map slotOf) (part-snoc content a i 0 h l) ∙ map-append slotOf (drop a (take i content)) (getD content i 0 ∷ [])
+    ap (λ (n : ℕ). part a n content) (add-one i) ∙ ap (map slotOf) (part-snoc content a i 0 h l)
+    ∙ map-append slotOf (drop a (take i content)) (getD content i 0 ∷ [])
 
 -- the messages among the slots
 module _ (content : List ℕ) (a i r : ℕ) (h : a ≤ i) (l : i < length content) (inv : Set (messagesIn (part a i content)) r) where
@@ -82,7 +83,8 @@ module _ (content : List ℕ) (a i r : ℕ) (h : a ≤ i) (l : i < length conten
 
   pub inner-orig : x < max-factors → Set (messagesIn (part a (i + 1) content)) r
   inner-orig k =
-      subst (λ (t : List ℕ). Set t r) (sym (messages ∙ ap (λ (t : Slot). messagesIn (part a i content) ++ messagesIn (t ∷ [])) (slot-low x k) ∙ append-nil (messagesIn (part a i content)))) inv
+      subst (λ (t : List ℕ). Set t r) (sym (messages ∙ ap (λ (t : Slot). messagesIn (part a i content) ++ messagesIn (t ∷ [])) (slot-low x k)
+      ∙ append-nil (messagesIn (part a i content)))) inv
 
 pub inner-none : (content : List ℕ) (a : ℕ) → Set (messagesIn (part a a content)) 0
 inner-none content a = subst (λ (l : List ℕ). Set (messagesIn (map slotOf l)) 0) (sym (drop-none a a content (omega arith))) set-none
@@ -174,7 +176,8 @@ KeptTo p set j r = (i : ℕ) → i < max-variables → has i r ≡ mem i (joined
 pub kept-none : (p : Pass) (set : ℕ) → KeptTo p set 0 0
 kept-none p set i h = has-zero i ∙ sym (mem-nil i) ∙ ap (mem i) (sym (joined-zero (keptAt p) (λ k. has k set)))
 
-pub kept-in : (p : Pass) (set j r : ℕ) → j < p .count → has j set ≡ true → KeptTo p set j r → KeptTo p set (j + 1) (bitOr r (getD (p .masks) (max-factors + j) 0))
+pub kept-in : (p : Pass) (set j r : ℕ) → j < p .count → has j set ≡ true → KeptTo p set j r
+    → KeptTo p set (j + 1) (bitOr r (getD (p .masks) (max-factors + j) 0))
 kept-in p set j r h e inv i l =
     has-or i r (getD (p .masks) (max-factors + j) 0)
     ∙ ap₂ (λ (x y : Bool). x || y) (inv i l) (low-mem (getD (p .masks) (max-factors + j) 0) i l ∙ ap (mem i) (sym (kept-mask p j h)))

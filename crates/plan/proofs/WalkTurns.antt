@@ -95,12 +95,14 @@ module _ (masks : List ℕ) (cleared : ℕ) where
             active = record {
               long = length-set (b .slots) i (getD (b .slots) u 0) ∙ t .room .active .long;
               few = omega (arith, t .room .active .few);
-              low = λ k l. low-set (b .slots) i (getD (b .slots) u 0) k pass-slots (omega (arith, t .room .active .few, t .room .active .long)) (t .room .active .low u (omega arith)) (λ q. t .room .active .low k (omega arith));
+              low = λ k l. low-set (b .slots) i (getD (b .slots) u 0) k pass-slots (omega (arith, t .room .active .few, t .room .active .long))
+                  (t .room .active .low u (omega arith)) (λ q. t .room .active .low k (omega arith));
             };
             contents = record {
               long = length-set (b .content) f (getD (b .slots) i 0) ∙ t .room .contents .long;
               few = omega (arith, t .room .room);
-              low = λ k l. low-set (b .content) f (getD (b .slots) i 0) k pass-slots (omega (arith, t .room .room, t .room .contents .long)) (t .room .active .low i h) (λ q. t .room .contents .low k (omega arith));
+              low = λ k l. low-set (b .content) f (getD (b .slots) i 0) k pass-slots (omega (arith, t .room .room, t .room .contents .long))
+                  (t .room .active .low i h) (λ q. t .room .contents .low k (omega arith));
             };
             room = omega (arith, t .room .room);
           };
@@ -115,7 +117,8 @@ module _ (masks : List ℕ) (cleared : ℕ) where
           whole =
               ap (λ (n : ℕ). state passes S C n (b .used) (b .filled) (b₀ .filled)) (add-one i)
               ∙ sym
-              (keep-turn passes S C i (b .filled) (b₀ .filled) (slotOf 0) (b .used) h (omega (arith, t .room .active .few, length-map (b .slots) slotOf, t .room .active .long))
+              (keep-turn passes S C i (b .filled) (b₀ .filled) (slotOf 0) (b .used) h
+              (omega (arith, t .room .active .few, length-map (b .slots) slotOf, t .room .active .long))
               (test-at (b .slots) i ∙ ap not (eq-eqb (bitAnd m cleared) 0 n)))
               ∙ t .whole;
           before = t .before;
@@ -133,7 +136,8 @@ module _ (masks : List ℕ) (cleared : ℕ) where
       let e : i ≡ b .used = omega (arith, t .here) in
       let w : walking masks cleared b₀ ≡ ahead (drop (b₀ .filled) (take (b .filled) C)) (take (b .used) S) (record { taken = []; left = [] }) =
       sym (t .whole) ∙ ap (λ (n : ℕ). state passes S C n (b .used) (b .filled) (b₀ .filled)) e
-      ∙ ap (λ (l : List Slot). ahead (drop (b₀ .filled) (take (b .filled) C)) (take (b .used) S) (walk passes (length l) l)) (drop-none (b .used) (b .used) S (omega arith)) in
+      ∙ ap (λ (l : List Slot). ahead (drop (b₀ .filled) (take (b .filled) C)) (take (b .used) S) (walk passes (length l) l))
+      (drop-none (b .used) (b .used) S (omega arith)) in
       record {
         taken = sym (ap (λ (x : Walked). x .taken) w ∙ append-nil (drop (b₀ .filled) (take (b .filled) C)));
         left = sym (ap (λ (x : Walked). x .left) w ∙ append-nil (take (b .used) S));

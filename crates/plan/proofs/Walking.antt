@@ -51,14 +51,16 @@ module _ (p : Slot → Bool) (S C : List Slot) (i f f₀ : ℕ) (d : Slot) where
       ∙ walk-on-taken p (drop f₀ (take f C)) (take i S) (getD S i d) (drop (suc i) (take (suc u) S)) e
       ∙ ap (λ (r : List Slot). ahead (drop f₀ (take f C) ++ (getD S i d ∷ [])) (take i S) (walk p (length r) r)) (sym (filled-drop S i u d h k))
       ∙ ap₂ (λ (x y : List Slot). ahead x y (walk p (length (drop i (take u (set S i (getD S u d))))) (drop i (take u (set S i (getD S u d))))))
-      (sym (drop-append-le f₀ (take f C) (getD S i d ∷ []) (omega (arith, length-take-le f C (omega arith)))) ∙ ap (drop f₀) (sym (take-suc-set C f (getD S i d) m)))
+      (sym (drop-append-le f₀ (take f C) (getD S i d ∷ []) (omega (arith, length-take-le f C (omega arith))))
+      ∙ ap (drop f₀) (sym (take-suc-set C f (getD S i d) m)))
       (sym (take-set-le i S i (getD S u d) (omega arith)))
 
   pub keep-turn : (u : ℕ) → i < u → u ≤ length S → p (getD S i d) ≡ false → state p S C i u f f₀ ≡ state p S C (suc i) u f f₀
   keep-turn u h k e =
       ap (λ (r : List Slot). ahead (drop f₀ (take f C)) (take i S) (walk p (length r) r)) (rest-cons S i u d h k)
       ∙ walk-on-left p (drop f₀ (take f C)) (take i S) (getD S i d) (drop (suc i) (take u S)) e
-      ∙ ap (λ (x : List Slot). ahead (drop f₀ (take f C)) x (walk p (length (drop (suc i) (take u S))) (drop (suc i) (take u S)))) (sym (take-suc S i d (omega arith)))
+      ∙ ap (λ (x : List Slot). ahead (drop f₀ (take f C)) x (walk p (length (drop (suc i) (take u S))) (drop (suc i) (take u S))))
+      (sym (take-suc S i d (omega arith)))
 
 -- the mask of a slot by its number
 pub mask-at : (masks : List ℕ) (x : ℕ) → maskAt masks (slotOf x) ≡ getD masks x 0

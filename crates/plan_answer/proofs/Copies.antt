@@ -42,21 +42,49 @@ codes (x ∷ l) = rw (code-slot x, codes l) refl
 
 -- the message j of a pass, from its laid content and its masks
 pub message-is : (p : Pass) (j : ℕ) (content : List ℕ) (kept cleared : ℕ) → Ready max-variables p → j < p .count
-    → content ≡ drop (getD (p .starts) j 0) (take (getD (p .ends) j 0) (p .board .content)) ++ drop (getD (p .ends) j 0 - getD (p .starts) j 0) (replicate pass-slots 0)
+    → content ≡ drop (getD (p .starts) j 0) (take (getD (p .ends) j 0) (p .board .content)) ++ drop (getD (p .ends) j 0 - getD (p .starts) j 0)
+    (replicate pass-slots 0)
     → kept ≡ getD (p .masks) (max-factors + j) 0 → kept < 2 ^ 32 → cleared ≡ getD (p .cleared) j 0 → cleared < 2 ^ 32
-    → _≡_ {A = Message} (record { step = getD (p .steps) j 0; content = content; slots = getD (p .ends) j 0 - getD (p .starts) j 0; kept = kept; cleared = cleared }) (messageOf (at (messagesOf p) j))
+    → _≡_ {A = Message} (record {
+      step = getD (p .steps) j 0;
+      content = content;
+      slots = getD (p .ends) j 0 - getD (p .starts) j 0;
+      kept = kept;
+      cleared = cleared;
+    }) (messageOf (at (messagesOf p) j))
 unfolding messageOf msgAt
 message-is p j content kept cleared ready h e ek hk ec hc =
     let a = getD (p .starts) j 0 in
     let b = getD (p .ends) j 0 in
     let l = drop a (take b (p .board .content)) in
-    let n : length l ≡ b - a = length-slice a b (p .board .content) (omega (arith, ready .closed j h, ready .room .contents .few, ready .room .contents .long)) in
-    rw (at-msg p j h, e, padded-is 0 pass-slots (b - a) l n, codes l, length-map l slotOf, n, getD-drop max-factors (p .masks) j 0, ← ek, ← ec, set-members kept hk, set-members cleared hc)
+    let n : length l ≡ b - a = length-slice a b (p .board .content)
+    (omega (arith, ready .closed j h, ready .room .contents .few, ready .room .contents .long)) in
+    rw (
+      at-msg p j h,
+      e,
+      padded-is 0 pass-slots (b - a) l n,
+      codes l,
+      length-map l slotOf,
+      n,
+      getD-drop max-factors (p .masks) j 0,
+      ← ek,
+      ← ec,
+      set-members kept hk,
+      set-members cleared hc,
+    )
 
 -- what a key gathers, from its laid leaves
 pub key-plan-is : (q : Gathered) (leaves : List ℕ) → Held q → q .forward < 2 ^ 32 → q .backward < 2 ^ 32 → q .last < 2 ^ 32
     → leaves ≡ drop 0 (take (q .count) (q .items)) ++ drop (q .count - 0) (replicate max-factors 0)
-    → _≡_ {A = KeyPlan} (record { forward = q .forward; backward = q .backward; leaves = leaves; covered = q .covered; count = q .count; last = q .last }) (keyPlanOf (gatheredOf q))
+    → _≡_ {A = KeyPlan} (record {
+      forward = q .forward;
+      backward = q .backward;
+      leaves = leaves;
+      covered = q .covered;
+      count = q .count;
+      last =
+          q .last;
+    }) (keyPlanOf (gatheredOf q))
 unfolding keyPlanOf gatheredOf
 key-plan-is q leaves held f b l e =
     let z : q .count - 0 ≡ q .count = omega arith in
@@ -74,7 +102,9 @@ key-at at n k h = ap gatheredOf (sym (getD-take n at k noGathered h)) ∙ sym (L
 
 -- the whole plan, from the tables of both passes and of the keys
 pub answer-is : (n : ℕ) (p : arrays.Plan) (forward backward : List Message) (at : List KeyPlan)
-    → forward ≡ spec.messageTable (messagesOf (p .forward)) → backward ≡ spec.messageTable (messagesOf (p .backward)) → at ≡ spec.keyTable (map gatheredOf (take n (p .at)))
-    → _≡_ {A = Plan} (record { forward = forward; forwards = p .forward .count; backward = backward; backwards = p .backward .count; at = at }) (answerOf (planOf n p))
+    → forward ≡ spec.messageTable (messagesOf (p .forward)) → backward ≡ spec.messageTable (messagesOf (p .backward)) → at
+    ≡ spec.keyTable (map gatheredOf (take n (p .at)))
+    → _≡_ {A = Plan} (record { forward = forward; forwards = p .forward .count; backward = backward; backwards = p .backward .count; at = at })
+    (answerOf (planOf n p))
 unfolding answerOf planOf
 answer-is n p forward backward at ef eb ea = rw (ef, eb, ea, messages-length (p .forward), messages-length (p .backward))

@@ -11,8 +11,10 @@ use Rattle.plan_answer.specs.Answer.{padded}
 
 module _ {A : Type 0} where
   -- one place more
-  grown : (done before : List A) (i : ℕ) (x : A) → length done ≡ i → i < length before → set (done ++ drop i before) i x ≡ done ++ (x ∷ []) ++ drop (i + 1) before
-  grown done before i x e h = rw (add-one i, drop-cons before i x h) (set-at done (getD before i x) (drop (suc i) before) x i e ∙ sym (append-snoc done x (drop (suc i) before)))
+  grown : (done before : List A) (i : ℕ) (x : A) → length done ≡ i → i < length before → set (done ++ drop i before) i x
+      ≡ done ++ (x ∷ []) ++ drop (i + 1) before
+  grown done before i x e h = rw (add-one i, drop-cons before i x h)
+      (set-at done (getD before i x) (drop (suc i) before) x i e ∙ sym (append-snoc done x (drop (suc i) before)))
 
   -- no turn yet
   pub part-none : (source before : List A) (from : ℕ) → before ≡ drop from (take from source) ++ drop (from - from) before
@@ -20,7 +22,8 @@ module _ {A : Type 0} where
 
   -- one turn more, from the place `from` of the source on
   pub part-more : (source before array : List A) (from i : ℕ) (d : A) → from ≤ i → i < length source → i - from < length before
-      → array ≡ drop from (take i source) ++ drop (i - from) before → set array (i - from) (getD source i d) ≡ drop from (take (i + 1) source) ++ drop (i + 1 - from) before
+      → array ≡ drop from (take i source) ++ drop (i - from) before → set array (i - from) (getD source i d)
+      ≡ drop from (take (i + 1) source) ++ drop (i + 1 - from) before
   part-more source before array from i d l h r e =
       let n : i + 1 - from ≡ i - from + 1 = omega arith in
       rw (e, n, add-one i, part-snoc source from i d l h)
@@ -42,7 +45,9 @@ module _ {A B : Type 0} (f : B → A) where
       → array ≡ map f (take i source) ++ drop i before → x ≡ f (getD source i d) → set array i x ≡ map f (take (i + 1) source) ++ drop (i + 1) before
   map-more source before array i d x l h e ex =
       rw (e, ex, add-one i, take-suc source i d l, map-append f (take i source) (getD source i d ∷ []))
-      (rw (add-one i) at (grown (map f (take i source)) before i (f (getD source i d)) (length-map (take i source) f ∙ length-take-le i source (omega arith)) h))
+      (rw (add-one i) at (grown (map f (take i source)) before i (f (getD source i d))
+      (length-map (take i source) f ∙ length-take-le i source (omega arith)) h))
 
-  pub map-done : (source : List B) (blank : A) (n i : ℕ) → i ≡ length source → map f (take i source) ++ drop i (replicate n blank) ≡ padded blank n (map f source)
+  pub map-done : (source : List B) (blank : A) (n i : ℕ) → i ≡ length source → map f (take i source) ++ drop i (replicate n blank)
+      ≡ padded blank n (map f source)
   map-done source blank n i e = rw (take-all i source (omega arith)) (padded-is blank n i (map f source) (length-map source f ∙ sym e))

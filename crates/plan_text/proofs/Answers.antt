@@ -28,7 +28,8 @@ arraysText made = planText (planOf (made .keys) (made .plan))
 
 module _ (g : Graph) (made : Arranged) (is : read made ≡ planned g) where
   -- the text is laid, or the buffer is too short for it
-  pub laid : (out : List ℕ) (w v : Written) (after : List ℕ) → made .outcome ≡ Made → w ≡ v → Lays out (arraysText made) w after → (endedAs Made v ≡ shown g out) × (after ≡ shownIn g out)
+  pub laid : (out : List ℕ) (w v : Written) (after : List ℕ) → made .outcome ≡ Made → w ≡ v → Lays out (arraysText made) w after
+      → (endedAs Made v ≡ shown g out) × (after ≡ shownIn g out)
   unfolding shown shownIn read
   laid out w v after e f p = (
     sym (ap₂ endedAs e (sym (p .0) ∙ f)) ∙ ap (λ a. shownOf a out) is,

@@ -76,7 +76,8 @@ module _ {A : Type 0} (line : ℕ → A → List ℕ) where
   unfolding numbered
   taken-none g l = refl
 
-  pub taken-more : {B : Type 0} (g : B → A) (l : List B) (k : ℕ) (d : B) → k < length l → numbered line 0 (map g (take k l)) ++ line k (g (getD l k d)) ≡ numbered line 0 (map g (take (k + 1) l))
+  pub taken-more : {B : Type 0} (g : B → A) (l : List B) (k : ℕ) (d : B) → k < length l
+      → numbered line 0 (map g (take k l)) ++ line k (g (getD l k d)) ≡ numbered line 0 (map g (take (k + 1) l))
   taken-more g l k d h =
       let n : 0 + length (map g (take k l)) ≡ k = omega (arith, length-map (take k l) g, length-take-le k l (omega arith)) in
       sym (ap (λ (i : ℕ). numbered line 0 (map g (take i l))) (add-one k)

@@ -44,12 +44,15 @@ use Rattle.job.specs.Job.{reading-stage}
 use Rattle.job.proofs.Endings.{Lays}
 use Rattle.job.proofs.Refusals.{number-most}
 use Rattle.plan_text.specs.Shown.{text-room}
-use Rattle.plan_text.specs.Text.{forwardWord, backwardWord, keyWord, stepWord, contentWord, keptWord, clearedWord, originalsWord, leavesWord, lastWord, slotText, namedText, listText, contentText, messageText, keyText, numbered, planText}
+use Rattle.plan_text.specs.Text.{forwardWord, backwardWord, keyWord, stepWord, contentWord, keptWord, clearedWord, originalsWord, leavesWord}
+use Rattle.plan_text.specs.Text.{lastWord, slotText, namedText, listText, contentText, messageText, keyText, numbered, planText}
 use Rattle.plan_text.proofs.Answers.{arraysText}
-use Rattle.plan_text.proofs.Growing.{joined-nil, joined-one, joined-map, member-more, part-none, part-more, given-none, given-more, taken-none, taken-more}
+use Rattle.plan_text.proofs.Growing.{joined-nil, joined-one, joined-map, member-more, part-none, part-more, given-none, given-more, taken-none}
+use Rattle.plan_text.proofs.Growing.{taken-more}
 
 -- a text that grows by a piece a turn
-grown-most : (t s : ℕ → List ℕ) (most n : ℕ) → [] ≡ t 0 → ((k : ℕ) → k < n → t k ++ s k ≡ t (k + 1)) → ((k : ℕ) → k < n → length (s k) ≤ most) → length (t n) ≤ most * n
+grown-most : (t s : ℕ → List ℕ) (most n : ℕ) → [] ≡ t 0 → ((k : ℕ) → k < n → t k ++ s k ≡ t (k + 1)) → ((k : ℕ) → k < n → length (s k) ≤ most)
+    → length (t n) ≤ most * n
 grown-most t s most zero e more few = omega (arith, ap length e)
 grown-most t s most (suc n) e more few =
     omega (
@@ -76,13 +79,15 @@ slot-most s l = by (ltb s max-factors) refl
     by false e = rw (slot-high s (ltb-false s max-factors e)) (omega (arith, few-digits 1 (s - max-factors) (omega arith)))
 
 -- entries of an array, from one place to another
-part-most : (f : ℕ → List ℕ) (l : List ℕ) (most a b : ℕ) → a ≤ b → b ≤ length l → ((i : ℕ) → i < b → length (f (getD l i 0)) ≤ most) → length (joined f (drop a (take b l))) ≤ most * (b - a)
+part-most : (f : ℕ → List ℕ) (l : List ℕ) (most a b : ℕ) → a ≤ b → b ≤ length l → ((i : ℕ) → i < b → length (f (getD l i 0)) ≤ most)
+    → length (joined f (drop a (take b l))) ≤ most * (b - a)
 part-most f l most a b o h few =
     let e : a + (b - a) ≡ b = omega arith in
     let z : a ≡ a + 0 = omega arith in
     rw e at (grown-most (λ k. joined f (drop a (take (a + k) l))) (λ k. f (getD l (a + k) 0)) most (b - a)
     (part-none f l a ∙ ap (λ (k : ℕ). joined f (drop a (take k l))) z)
-    (λ k i. let y : a + k + 1 ≡ a + (k + 1) = omega arith in part-more f l a (a + k) (omega arith) (omega arith) ∙ ap (λ (j : ℕ). joined f (drop a (take j l))) y)
+    (λ k i. let y : a + k + 1 ≡ a + (k + 1) = omega arith in part-more f l a (a + k) (omega arith) (omega arith)
+    ∙ ap (λ (j : ℕ). joined f (drop a (take j l))) y)
     (λ k i. few (a + k) (omega arith)))
 
 member-most : (b : Bool) (k : ℕ) → k < 100 → length (joined fieldText (putIf b k [])) ≤ 3
@@ -95,7 +100,8 @@ set-most word set =
     omega (
       arith,
       length-append word (joined fieldText (rising max-variables (λ i. has i set))),
-      grown-most (λ k. joined fieldText (rising k (λ i. has i set))) (λ k. joined fieldText (putIf (has k set) k [])) 3 max-variables (sym (joined-zero fieldText (λ i. has i set))) (λ k l. member-more fieldText (λ i. has i set) k) (λ k l. member-most (has k set) k (omega arith)),
+      grown-most (λ k. joined fieldText (rising k (λ i. has i set))) (λ k. joined fieldText (putIf (has k set) k [])) 3 max-variables
+          (sym (joined-zero fieldText (λ i. has i set))) (λ k l. member-more fieldText (λ i. has i set) k) (λ k l. member-most (has k set) k (omega arith)),
     )
 
 named-most : (word : List ℕ) (x : ℕ) → x < 100 → length (namedText word x) ≤ length word + 3
@@ -130,22 +136,26 @@ content-most content a b used o u h =
 abbrev pub LowSteps : Pass → Type 0
 LowSteps p = (j : ℕ) → j < p .count → getD (p .steps) j 0 < 100
 
-message-most : (name : List ℕ) (p : Pass) (j : ℕ) → length name ≤ 8 → Ready max-variables p → LowSteps p → j < p .count → length (messageText name j (msgAt p j)) ≤ 617
+message-most : (name : List ℕ) (p : Pass) (j : ℕ) → length name ≤ 8 → Ready max-variables p → LowSteps p → j < p .count
+    → length (messageText name j (msgAt p j)) ≤ 617
 unfolding messageText msgAt
 message-most name p j few ready low l =
     simp length-append (omega (
       arith,
       named-most name j (omega (arith, ready .few)),
       named-most stepWord (getD (p .steps) j 0) (low j l),
-      content-most (p .board .content) (getD (p .starts) j 0) (getD (p .ends) j 0) (p .board .filled) (ready .ordered j l) (ready .closed j l) (ready .room .contents),
+      content-most (p .board .content) (getD (p .starts) j 0) (getD (p .ends) j 0) (p .board .filled) (ready .ordered j l) (ready .closed j l)
+          (ready .room .contents),
       set-most keptWord (getD (drop max-factors (p .masks)) j 0),
       set-most clearedWord (getD (p .cleared) j 0),
     ))
 
-pass-most : (name : List ℕ) (p : Pass) → length name ≤ 8 → Ready max-variables p → LowSteps p → length (numbered (messageText name) 0 (messagesOf p)) ≤ 617 * p .count
+pass-most : (name : List ℕ) (p : Pass) → length name ≤ 8 → Ready max-variables p → LowSteps p
+    → length (numbered (messageText name) 0 (messagesOf p)) ≤ 617 * p .count
 unfolding messagesOf
 pass-most name p few ready low =
-    grown-most (λ j. numbered (messageText name) 0 (map (msgAt p) (from 0 j))) (λ j. messageText name j (msgAt p j)) 617 (p .count) (given-none (messageText name) (msgAt p)) (λ j l. given-more (messageText name) (msgAt p) j) (λ j l. message-most name p j few ready low l)
+    grown-most (λ j. numbered (messageText name) 0 (map (msgAt p) (from 0 j))) (λ j. messageText name j (msgAt p j)) 617 (p .count)
+    (given-none (messageText name) (msgAt p)) (λ j l. given-more (messageText name) (msgAt p) j) (λ j l. message-most name p j few ready low l)
 
 key-most : (k : ℕ) (q : Gathered) → k < max-variables → Held q → length (keyText k (gatheredOf q)) ≤ 718
 unfolding keyText gatheredOf
@@ -162,32 +172,46 @@ key-most k q l held =
 
 keys-most : (n : ℕ) (p : Plan) → n ≤ max-variables → Bounded n p → length (numbered keyText 0 (map gatheredOf (take n (p .at)))) ≤ 718 * n
 keys-most n p few b =
-    grown-most (λ k. numbered keyText 0 (map gatheredOf (take k (p .at)))) (λ k. keyText k (gatheredOf (getD (p .at) k noGathered))) 718 n (taken-none keyText gatheredOf (p .at)) (λ k l. taken-more keyText gatheredOf (p .at) k noGathered (omega (arith, b .long))) (λ k l. key-most k (getD (p .at) k noGathered) (omega arith) (b .held k l))
+    grown-most (λ k. numbered keyText 0 (map gatheredOf (take k (p .at)))) (λ k. keyText k (gatheredOf (getD (p .at) k noGathered))) 718 n
+    (taken-none keyText gatheredOf (p .at)) (λ k l. taken-more keyText gatheredOf (p .at) k noGathered (omega (arith, b .long)))
+    (λ k l. key-most k (getD (p .at) k noGathered) (omega arith) (b .held k l))
 
 -- 32 messages a pass and 32 keys
-pub plan-most : (n : ℕ) (p : Plan) → n ≤ max-variables → Bounded n p → LowSteps (p .forward) → LowSteps (p .backward) → length (planText (planOf n p)) ≤ text-room
+pub plan-most : (n : ℕ) (p : Plan) → n ≤ max-variables → Bounded n p → LowSteps (p .forward) → LowSteps (p .backward)
+    → length (planText (planOf n p)) ≤ text-room
 unfolding planText planOf
 plan-most n p few b fw bw =
     let f : Ready max-variables (p .forward) = ready-later n max-variables (p .forward) (p .forward .active) few (b .forward) in
     let g : Ready max-variables (p .backward) = ready-later n max-variables (p .backward) (p .backward .active) few (b .backward) in
-    simp length-append (omega (arith, f .few, g .few, pass-most forwardWord (p .forward) (omega arith) f fw, pass-most backwardWord (p .backward) (omega arith) g bw, keys-most n p few b))
+    simp length-append (omega (
+      arith,
+      f .few,
+      g .few,
+      pass-most forwardWord (p .forward) (omega arith) f fw,
+      pass-most backwardWord (p .backward) (omega arith) g bw,
+      keys-most n p few b,
+    ))
 
 -- ---- the plan of a graph
 
-order-steps : (n : ℕ) (K : ℕ → List ℕ) (N order : List ℕ) → ((j : ℕ) → count j order ≡ count j (from 0 n)) → (j : ℕ) → j < length (full-pass n K N order) → at (full-pass n K N order) j .step < length order
+order-steps : (n : ℕ) (K : ℕ → List ℕ) (N order : List ℕ) → ((j : ℕ) → count j order ≡ count j (from 0 n)) → (j : ℕ)
+    → j < length (full-pass n K N order) → at (full-pass n K N order) j .step < length order
 unfolding full-pass
 order-steps n K N order each =
-    let run = running n K N (reverse order) (λ j. omega (arith, count-reverse j order, each j, from-once n j)) (λ j h. from-lt j n (omega (arith, count-reverse j order, each j))) in
+    let run = running n K N (reverse order) (λ j. omega (arith, count-reverse j order, each j, from-once n j))
+    (λ j h. from-lt j n (omega (arith, count-reverse j order, each j))) in
     λ j l. omega (arith, run .steps j l, length-reverse order)
 
-low-steps : (p : Pass) (ms : List ClosedFactor) (most : ℕ) → messagesOf p ≡ ms → most ≤ max-variables → ((j : ℕ) → j < length ms → at ms j .step < most) → LowSteps p
+low-steps : (p : Pass) (ms : List ClosedFactor) (most : ℕ) → messagesOf p ≡ ms → most ≤ max-variables
+    → ((j : ℕ) → j < length ms → at ms j .step < most) → LowSteps p
 unfolding msgAt messagesOf
 low-steps p ms most e few low j l =
     let n : length ms ≡ p .count = sym (ap length e) ∙ length-map (from 0 (p .count)) (msgAt p) ∙ length-from 0 (p .count) in
     let s : at ms j .step ≡ getD (p .steps) j 0 = sym (ap (λ x. at x j .step) e) ∙ ap (λ (m : ClosedFactor). m .step) (at-msg p j l) in
     omega (arith, low j (omega arith))
 
-pub arranged-most : (g : Graph) (made : Arranged) → read made ≡ planned g → valid g ≡ true → Bounded (made .keys) (made .plan) → length (arraysText made) ≤ text-room
+pub arranged-most : (g : Graph) (made : Arranged) → read made ≡ planned g → valid g ≡ true → Bounded (made .keys) (made .plan)
+    → length (arraysText made) ≤ text-room
 unfolding planned read planOf graphPlan lists.plan
 arranged-most g made is v b =
     let n = g .variables in
@@ -196,8 +220,15 @@ arranged-most g made is v b =
     let e : read made ≡ a = is ∙ rw v refl in
     let k : made .keys ≡ n = ap (λ (x : Answer). x .keys) e in
     plan-most (made .keys) (made .plan) (omega arith) b
-    (low-steps (made .plan .forward) _ n (ap (λ (x : Answer). x .plan .forward) e) few (λ j l. omega (arith, order-steps n (keysOf g) (from 0 (g .count)) (from 0 n) (λ i. refl) j l, length-from 0 n)))
-    (low-steps (made .plan .backward) _ n (ap (λ (x : Answer). x .plan .backward) e) few (λ j l. omega (arith, order-steps n (keysOf g) (from 0 (g .count)) (reverse (from 0 n)) (λ i. count-reverse i (from 0 n)) j l, length-reverse (from 0 n), length-from 0 n)))
+    (low-steps (made .plan .forward) _ n (ap (λ (x : Answer). x .plan .forward) e) few
+    (λ j l. omega (arith, order-steps n (keysOf g) (from 0 (g .count)) (from 0 n) (λ i. refl) j l, length-from 0 n)))
+    (low-steps (made .plan .backward) _ n (ap (λ (x : Answer). x .plan .backward) e) few
+    (λ j l. omega (
+      arith,
+      order-steps n (keysOf g) (from 0 (g .count)) (reverse (from 0 n)) (λ i. count-reverse i (from 0 n)) j l,
+      length-reverse (from 0 n),
+      length-from 0 n,
+    )))
 
 -- ---- what a job shows
 
@@ -205,5 +236,6 @@ pub refusal-within : (why : Refusal) (place : ℕ) → place < 2 ^ 64 → length
 refusal-within why place l = omega (arith, refusal-most (numberOf why) reading-stage place (omega (arith, number-most why)) (omega arith) l)
 
 -- an equal text is laid alike, and is as long
-pub all-same : (out s t : List ℕ) (r : Written) (after : List ℕ) → s ≡ t → Lays out s r after → length s ≤ text-room → (r ≡ written out t) × ((after ≡ laidIn out t) × (length t ≤ text-room))
+pub all-same : (out s t : List ℕ) (r : Written) (after : List ℕ) → s ≡ t → Lays out s r after → length s ≤ text-room
+    → (r ≡ written out t) × ((after ≡ laidIn out t) × (length t ≤ text-room))
 all-same out s t r after e p l = rw (← e) (p .0, (p .1, l))

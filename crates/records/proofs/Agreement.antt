@@ -16,7 +16,8 @@ use Rattle.graph.specs.Registration.{countsFit}
 use Rattle.graph.proofs.Validity.{valid-size, size-most}
 use Rattle.graph.specs.declared.Graph.{Graph}
 use Rattle.records.specs.Bytes.{float-bytes, byteAt, cut, wordAt, numberAt, listed, keysAt, numbersAt}
-use Rattle.records.specs.Records.{Request, header-bytes, most-given, longest, variableAt, priorNumbers, priorAt, meaning, flagKnown, given, varianceAt, observedNumbers, observed, observationAt, markOf, marked, recordAt}
+use Rattle.records.specs.Records.{Request, header-bytes, most-given, longest, variableAt, priorNumbers, priorAt, meaning, flagKnown, given}
+use Rattle.records.specs.Records.{varianceAt, observedNumbers, observed, observationAt, markOf, marked, recordAt}
 use Rattle.records.specs.declared.kinds.Flag.{Flag}
 use Rattle.records.specs.declared.kinds.Flag.the-variants.{Identity, Given, Unknown}
 use Rattle.records.specs.declared.kinds.Mark.{Mark}
@@ -67,7 +68,8 @@ module _ (b c : List ℕ) (most : ℕ) (same : Agree b c most) where
   unfolding priorNumbers
   prior-numbers-as store key s at l = rw (same .ends (at + 8 * (s + s * s)) l, numbers-as at s (omega arith), numbers-as (at + 8 * s) (s * s) (omega arith))
 
-  prior-as : (g : Graph) (store : List Float) (at : ℕ) → valid g ≡ true → at + 1 + float-bytes * (max-size + max-size * max-size) ≤ most → priorAt g store b at ≡ priorAt g store c at
+  prior-as : (g : Graph) (store : List Float) (at : ℕ) → valid g ≡ true → at + 1 + float-bytes * (max-size + max-size * max-size) ≤ most
+      → priorAt g store b at ≡ priorAt g store c at
   unfolding priorAt
   prior-as g store at v l =
       rw (same .bytes at (omega arith))
@@ -82,23 +84,32 @@ module _ (b c : List ℕ) (most : ℕ) (same : Agree b c most) where
   variance-as Given at rows l = numbers-as at (rows * rows) l
   variance-as Unknown at rows l = refl
 
-  observed-numbers-as : (store : List Float) (keys : List ℕ) (rows : ℕ) (flag : Flag) (n at : ℕ) → at + 8 * (n + rows + given flag rows) ≤ most → observedNumbers store b keys rows flag n at ≡ observedNumbers store c keys rows flag n at
+  observed-numbers-as : (store : List Float) (keys : List ℕ) (rows : ℕ) (flag : Flag) (n at : ℕ) → at + 8 * (n + rows + given flag rows) ≤ most
+      → observedNumbers store b keys rows flag n at ≡ observedNumbers store c keys rows flag n at
   unfolding observedNumbers
   observed-numbers-as store keys rows flag n at l =
-      rw (same .ends (at + 8 * (n + rows + given flag rows)) l, numbers-as at n (omega arith), numbers-as (at + 8 * n) rows (omega arith), variance-as flag (at + 8 * (n + rows)) rows (omega arith))
+      rw (
+        same .ends (at + 8 * (n + rows + given flag rows)) l,
+        numbers-as at n (omega arith),
+        numbers-as (at + 8 * n) rows (omega arith),
+        variance-as flag (at + 8 * (n + rows)) rows (omega arith),
+      )
 
-  observed-as : (g : Graph) (store : List Float) (keys : List ℕ) (rows : ℕ) (flag : Flag) (at : ℕ) → valid g ≡ true → countsFit (length keys) rows ≡ true → at + float-bytes * most-given ≤ most
+  observed-as : (g : Graph) (store : List Float) (keys : List ℕ) (rows : ℕ) (flag : Flag) (at : ℕ) → valid g ≡ true → countsFit (length keys) rows
+      ≡ true → at + float-bytes * most-given ≤ most
       → observed g store b keys rows flag at ≡ observed g store c keys rows flag at
   unfolding observed
   observed-as g store keys rows flag at v h4 l =
       else-as (not (rising keys)) (not (rising keys)) _ _ _ refl
       (λ h3. else-as (not (known (g .variables) keys)) (not (known (g .variables) keys)) _ _ _ refl
       (λ h11.
-      let n : aNumbers (g .sizes) (observationOf keys rows) ≤ max-rows * max-total = numbers-most g keys rows (observationOf keys rows) _ v h4 (not-false _ h3) (not-false _ h11) refl refl in
+      let n : aNumbers (g .sizes) (observationOf keys rows) ≤ max-rows * max-total = numbers-most g keys rows (observationOf keys rows) _ v h4
+      (not-false _ h3) (not-false _ h11) refl refl in
       let y : rows ≤ max-rows = most-rows _ _ h4 in
       observed-numbers-as store keys rows flag (aNumbers (g .sizes) (observationOf keys rows)) at (omega (arith, mul-le-mul y y, given-most flag rows))))
 
-  observation-as : (g : Graph) (store : List Float) (at : ℕ) → valid g ≡ true → at + header-bytes + max-keys + float-bytes * most-given ≤ most → observationAt g store b at ≡ observationAt g store c at
+  observation-as : (g : Graph) (store : List Float) (at : ℕ) → valid g ≡ true → at + header-bytes + max-keys + float-bytes * most-given ≤ most
+      → observationAt g store b at ≡ observationAt g store c at
   unfolding observationAt
   observation-as g store at v l =
       rw (same .bytes at (omega arith), same .bytes (at + 1) (omega arith), same .bytes (at + 2) (omega arith))
@@ -107,11 +118,14 @@ module _ (b c : List ℕ) (most : ℕ) (same : Agree b c most) where
       (λ _. else-as (not (countsFit (byteAt c at) (byteAt c (at + 1)))) (not (countsFit (byteAt c at) (byteAt c (at + 1)))) _ _ _ refl
       (λ h4.
       let k : byteAt c at ≤ max-keys = few-keys _ _ (not-false _ h4) in
-      let y : countsFit (length (keysAt c (at + 3) (byteAt c at))) (byteAt c (at + 1)) ≡ true = rw (listed-length (λ i. byteAt c (at + 3 + i)) (byteAt c at)) (not-false _ h4) in
+      let y : countsFit (length (keysAt c (at + 3) (byteAt c at))) (byteAt c (at + 1))
+      ≡ true = rw (listed-length (λ i. byteAt c (at + 3 + i)) (byteAt c at)) (not-false _ h4) in
       else-as (cut b (at + 3) (byteAt c at)) (cut c (at + 3) (byteAt c at)) _ _ _ (same .ends (at + 3 + byteAt c at) (omega arith))
-      (λ _. rw (keys-as (at + 3) (byteAt c at) (omega arith)) (observed-as g store (keysAt c (at + 3) (byteAt c at)) (byteAt c (at + 1)) (meaning (byteAt c (at + 2))) (at + 3 + byteAt c at) v y (omega arith)))))))
+      (λ _. rw (keys-as (at + 3) (byteAt c at) (omega arith)) (observed-as g store (keysAt c (at + 3) (byteAt c at)) (byteAt c (at + 1))
+      (meaning (byteAt c (at + 2))) (at + 3 + byteAt c at) v y (omega arith)))))))
 
-  marked-as : (m : Mark) (g : Graph) (store : List Float) (at : ℕ) → valid g ≡ true → at + header-bytes + max-keys + float-bytes * most-given ≤ most → marked m g store b at ≡ marked m g store c at
+  marked-as : (m : Mark) (g : Graph) (store : List Float) (at : ℕ) → valid g ≡ true → at + header-bytes + max-keys + float-bytes * most-given ≤ most
+      → marked m g store b at ≡ marked m g store c at
   marked-as mark.Variable g store at v l = variable-as at (omega arith)
   marked-as mark.Prior g store at v l = prior-as g store at v (omega arith)
   marked-as mark.Observation g store at v l = observation-as g store at v l
@@ -121,4 +135,5 @@ module _ (b c : List ℕ) (most : ℕ) (same : Agree b c most) where
   unfolding recordAt
   record-as g store at v l =
       rw (same .bytes at (omega arith), same .bytes (at + 1) (omega arith))
-      (else-as (cut b at 2) (cut c at 2) _ _ _ (same .ends (at + 2) (omega arith)) (λ _. marked-as (markOf (byteAt c at) (byteAt c (at + 1))) g store (at + 2) v (omega arith)))
+      (else-as (cut b at 2) (cut c at 2) _ _ _ (same .ends (at + 2) (omega arith))
+      (λ _. marked-as (markOf (byteAt c at) (byteAt c (at + 1))) g store (at + 2) v (omega arith)))

@@ -16,7 +16,8 @@ use Rattle.graph.specs.declared.Graph.{Graph}
 use Rattle.graph.specs.declared.refusal.Refusal.{Refusal}
 use Rattle.graph.proofs.Checking.{few-keys}
 use Rattle.records.specs.Bytes.{float-bytes, byteAt, cut, keysAt}
-use Rattle.records.specs.Records.{Request, ask, refuse, mark-bytes, variable-bytes, header-bytes, factor-frame, variableAt, priorNumbers, priorAt, meaning, flagKnown, given, observedNumbers, observed, observationAt, markOf, marked, recordAt}
+use Rattle.records.specs.Records.{Request, ask, refuse, mark-bytes, variable-bytes, header-bytes, factor-frame, variableAt, priorNumbers}
+use Rattle.records.specs.Records.{priorAt, meaning, flagKnown, given, observedNumbers, observed, observationAt, markOf, marked, recordAt}
 use Rattle.records.specs.declared.kinds.Flag.{Flag}
 use Rattle.records.specs.declared.kinds.Mark.{Mark}
 use Rattle.records.specs.declared.kinds.Mark.the-variants as mark
@@ -37,8 +38,10 @@ module _ (g : Graph) (store : List Float) (bytes : List ℕ) (start : ℕ) where
   -- nothing, because it is turned back, or a call
   pub data Asks : Request → Type 0 where
     nothing : (why : Refusal) → Asks (refuse why)
-    variable-asked : (name : Symbol) (size : ℕ) → Present (start + mark-bytes) variable-bytes → Asks (ask (variable name size) (start + mark-bytes + variable-bytes))
-    prior-asked : (key : ℕ) (mean variance : List Float) (from : ℕ) → Present from (priorBytes key) → Asks (ask (register (prior key mean variance) store) (from + priorBytes key))
+    variable-asked : (name : Symbol) (size : ℕ) → Present (start + mark-bytes) variable-bytes
+        → Asks (ask (variable name size) (start + mark-bytes + variable-bytes))
+    prior-asked : (key : ℕ) (mean variance : List Float) (from : ℕ) → Present from (priorBytes key)
+        → Asks (ask (register (prior key mean variance) store) (from + priorBytes key))
     observation-asked : (keys : List ℕ) (rows : ℕ) (flag : Flag) (a mean variance : List Float) (from : ℕ) → Present from (observationBytes keys rows flag)
         → Asks (ask (register (observation keys rows a mean variance) store) (from + observationBytes keys rows flag))
 
@@ -73,7 +76,8 @@ module _ (g : Graph) (store : List Float) (bytes : List ℕ) (start : ℕ) where
       (λ _. else-asks (not (flagKnown (meaning (byteAt bytes (at + 2))))) _ _
       (λ _. else-asks (not (countsFit count (byteAt bytes (at + 1)))) _ _
       (λ h4. else-asks (cut bytes (at + header-bytes) count) _ _
-      (λ _. observed-asks (keysAt bytes (at + header-bytes) count) (byteAt bytes (at + 1)) (meaning (byteAt bytes (at + 2))) (at + header-bytes + count) (omega arith) (omega (arith, few-keys _ _ (not-false _ h4)))))))
+      (λ _. observed-asks (keysAt bytes (at + header-bytes) count) (byteAt bytes (at + 1)) (meaning (byteAt bytes (at + 2)))
+      (at + header-bytes + count) (omega arith) (omega (arith, few-keys _ _ (not-false _ h4)))))))
   marked-asks mark.Unmarked = nothing _
 
   pub asks : Asks (recordAt g store bytes start)

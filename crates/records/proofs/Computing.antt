@@ -4,7 +4,8 @@ use mathlib.Core.List.{List}
 use lib.Ieee.{Float}
 use Rattle.graph.proofs.Computing.{computedCall}
 use Rattle.records.specs.Bytes.{wordAt, numberAt, listed}
-use Rattle.records.specs.Records.{variableAt, priorNumbers, priorAt, meaning, observedNumbers, observed, observationAt, markOf, recordAt, Reading, readFrom, readAll}
+use Rattle.records.specs.Records.{variableAt, priorNumbers, priorAt, meaning, observedNumbers, observed, observationAt, markOf, recordAt}
+use Rattle.records.specs.Records.{Reading, readFrom, readAll}
 
 unfoldable pub computedReading : List ℕ → List Float → Reading
 unfolding readAll readFrom recordAt markOf variableAt priorAt priorNumbers observationAt observed observedNumbers meaning wordAt numberAt listed computedCall

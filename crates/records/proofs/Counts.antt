@@ -15,6 +15,8 @@ use Rattle.graph.specs.Registration.{countsFit}
 use Rattle.graph.specs.declared.Graph.{Graph}
 
 -- A has at most so many rows and columns
-pub numbers-most : (g : Graph) (keys : List ℕ) (rows : ℕ) (f : Factor) (n : ℕ) → valid g ≡ true → countsFit (length keys) rows ≡ true → rising keys ≡ true → known (g .variables) keys ≡ true → f ≡ observationOf keys rows → n ≡ aNumbers (g .sizes) f → n ≤ max-rows * max-total
+pub numbers-most : (g : Graph) (keys : List ℕ) (rows : ℕ) (f : Factor) (n : ℕ) → valid g ≡ true → countsFit (length keys) rows ≡ true → rising keys
+    ≡ true → known (g .variables) keys ≡ true → f ≡ observationOf keys rows → n ≡ aNumbers (g .sizes) f → n ≤ max-rows * max-total
 unfolding aNumbers
-numbers-most g keys rows f n v h4 h3 h11 ef en = rw (en, ef) (mul-le-mul (most-rows _ _ h4) (width-most g v (observationOf keys rows) (counted-fits g keys rows h4 h3 h11)))
+numbers-most g keys rows f n v h4 h3 h11 ef en = rw (en, ef) (mul-le-mul (most-rows _ _ h4)
+    (width-most g v (observationOf keys rows) (counted-fits g keys rows h4 h3 h11)))

@@ -36,7 +36,8 @@ module _ {A : Type 0} (f : ℕ → A) where
   fill-none out = refl
 
   -- one entry more
-  pub fill-more : (out₀ out : List A) (i : ℕ) (x : A) → i < length out₀ → out ≡ listed f i ++ drop i out₀ → x ≡ f i → set out i x ≡ listed f (i + 1) ++ drop (i + 1) out₀
+  pub fill-more : (out₀ out : List A) (i : ℕ) (x : A) → i < length out₀ → out ≡ listed f i ++ drop i out₀ → x ≡ f i → set out i x
+      ≡ listed f (i + 1) ++ drop (i + 1) out₀
   fill-more out₀ out i x l e v =
       ap (λ (s : List A). set s i x) (e ∙ ap (λ (s : List A). listed f i ++ s) (drop-cons out₀ i x l))
       ∙ set-at (listed f i) _ (drop (suc i) out₀) x i (listed-length i)

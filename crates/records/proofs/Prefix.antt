@@ -31,15 +31,18 @@ ends-as b c at e = by (ltb c (at + 1)) refl
   where
     by : (t : Bool) → ltb c (at + 1) ≡ t → ltb at b ≡ ltb at c
     by true h = let l : c < at + 1 = ltb-true _ _ h in let m : b < at + 1 = ltb-true _ _ (e ∙ h) in le-ltb at b (omega arith) ∙ sym (le-ltb at c (omega arith))
-    by false h = let l : at + 1 ≤ c = ltb-false _ _ h in let m : at + 1 ≤ b = ltb-false _ _ (e ∙ h) in lt-ltb at b (omega arith) ∙ sym (lt-ltb at c (omega arith))
+    by false h = let l : at + 1 ≤ c = ltb-false _ _ h in let m : at + 1 ≤ b = ltb-false _ _ (e ∙ h) in lt-ltb at b (omega arith)
+        ∙ sym (lt-ltb at c (omega arith))
 
 module _ (b c : List ℕ) (room most : ℕ) (much : enough room ≤ most) (same : Agree b c most) where
   -- how a step goes on, in both
-  onward-as : (next : Next) (g : Graph) (s : List Float) (place : ℕ) (f h : ℕ → Reading) → ((n : ℕ) → next ≡ At n → f n ≡ h n) → onward next g s place f ≡ onward next g s place h
+  onward-as : (next : Next) (g : Graph) (s : List Float) (place : ℕ) (f h : ℕ → Reading) → ((n : ℕ) → next ≡ At n → f n ≡ h n)
+      → onward next g s place f ≡ onward next g s place h
   onward-as (At n) g s place f h e = e n refl
   onward-as (Stop why) g s place f h e = refl
 
-  ended : (turns : ℕ) (at place : ℕ) (bytes : List ℕ) (g : Graph) (store : List Float) → ltb at (length bytes) ≡ false → readFrom turns bytes at place g store ≡ reading g Whole store
+  ended : (turns : ℕ) (at place : ℕ) (bytes : List ℕ) (g : Graph) (store : List Float) → ltb at (length bytes) ≡ false
+      → readFrom turns bytes at place g store ≡ reading g Whole store
   unfolding readFrom
   ended zero at place bytes g store e = refl
   ended (suc turns) at place bytes g store e = rw e
@@ -60,10 +63,12 @@ module _ (b c : List ℕ) (room most : ℕ) (much : enough room ≤ most) (same 
         (ap (λ (x : Reading). cond (ltb at (length c)) x (reading g Whole store)) (onward-as (stepOf g (recordAt g store c at) .next) rest left place _ _ h))
 
   -- so far, the records of both are the same
-  far : (at : ℕ) (g : Graph) (store : List Float) → Reached g → length store ≤ room → offset g (g .count) ≤ length store → at ≤ most-read g → at + longest ≤ most
+  far : (at : ℕ) (g : Graph) (store : List Float) → Reached g → length store ≤ room → offset g (g .count) ≤ length store → at ≤ most-read g
+      → at + longest ≤ most
   far at g store r st held bound = omega (arith, valid-variables g (good-of g r .1), valid-count g (good-of g r .1))
 
-  from-here : (m n at place : ℕ) (g : Graph) (store : List Float) → Reached g → length store ≤ room → offset g (g .count) ≤ length store → at ≤ most-read g → length b ≤ at + m → length c ≤ at + n
+  from-here : (m n at place : ℕ) (g : Graph) (store : List Float) → Reached g → length store ≤ room → offset g (g .count) ≤ length store
+      → at ≤ most-read g → length b ≤ at + m → length c ≤ at + n
       → readFrom m b at place g store ≡ readFrom n c at place g store
   from-here zero n at place g store r st held bound lb lc =
       let f : at + longest ≤ most = far at g store r st held bound in
@@ -84,7 +89,8 @@ module _ (b c : List ℕ) (room most : ℕ) (much : enough room ≤ most) (same 
       let l : at < x = record-next c g store at x e .0 in
       let p : x + most-read g ≤ at + most-read (rest at place g store) = record-bounded g (good-of g r) store held at c x e .0 in
       let o : offset (rest at place g store) (rest at place g store .count) ≤ length store = record-bounded g (good-of g r) store held at c x e .1 in
-      from-here m n x (place + 1) (rest at place g store) (left at place g store) (step-reached g (recordAt g store c at) r) (omega arith) (omega arith) (omega arith) (omega arith) (omega arith))
+      from-here m n x (place + 1) (rest at place g store) (left at place g store) (step-reached g (recordAt g store c at) r) (omega arith)
+      (omega arith) (omega arith) (omega arith) (omega arith))
 
   pub as-whole : (store : List Float) → length store ≤ room → readAll b store ≡ readAll c store
   unfolding readAll offset sum
@@ -102,5 +108,6 @@ taken bytes most = record { bytes = λ i l. getD-take most bytes i 0 l; ends = �
     by false e m l = ap (λ (s : List ℕ). ltb (length s) m) (take-all most bytes (ltb-false _ _ e))
 
 -- the first `enough` bytes, or any more of them, decide the answer and the store
-pub first-decide : (bytes : List ℕ) (room most : ℕ) (store : List Float) → enough room ≤ most → length store ≤ room → readAll (take most bytes) store ≡ readAll bytes store
+pub first-decide : (bytes : List ℕ) (room most : ℕ) (store : List Float) → enough room ≤ most → length store ≤ room → readAll (take most bytes) store
+    ≡ readAll bytes store
 first-decide bytes room most store much st = as-whole (take most bytes) bytes room most much (taken bytes most) store st

@@ -45,7 +45,8 @@ module _ (g : Graph) (v : valid g ≡ true) (name : Symbol) (size : ℕ) where
 
   numbers-kept : (i : ℕ) → i < g .count → numbers (withVariable g name size .sizes) (factorAt g i) ≡ numbers (g .sizes) (factorAt g i)
   unfolding numbers aNumbers
-  numbers-kept i l = ap (λ (x : ℕ). cond (factorAt g i .prior) 0 (factorAt g i .rows * x) + factorAt g i .rows + factorAt g i .rows * factorAt g i .rows) (width-kept i l)
+  numbers-kept i l = ap (λ (x : ℕ). cond (factorAt g i .prior) 0 (factorAt g i .rows * x) + factorAt g i .rows + factorAt g i .rows * factorAt g
+      i .rows) (width-kept i l)
 
   variable-offset : offset (withVariable g name size) (g .count) ≡ offset g (g .count)
   unfolding offset
@@ -80,7 +81,8 @@ module _ (g : Graph) (ok : Good g) (len : ℕ) (held : offset g (g .count) ≤ l
       let k : offset (withVariable g name size) (g .count) ≡ offset g (g .count) = variable-offset g (ok .1) name size in
       (omega arith, omega arith))
 
-  taken-grown : (f : Factor) (a mean variance store xi w : List Float) → next ≤ start + factor-frame + float-bytes * numbers (g .sizes) f → length store ≡ len → Taken g f a mean variance store xi w → Grown (settle g f (accept (a ++ xi ++ w)))
+  taken-grown : (f : Factor) (a mean variance store xi w : List Float) → next ≤ start + factor-frame + float-bytes * numbers (g .sizes) f
+      → length store ≡ len → Taken g f a mean variance store xi w → Grown (settle g f (accept (a ++ xi ++ w)))
   unfolding Grown
   taken-grown f a mean variance store xi w took s t n e =
       let z : next ≡ n = cc in
@@ -88,15 +90,19 @@ module _ (g : Graph) (ok : Good g) (len : ℕ) (held : offset g (g .count) ≤ l
       let room = t .passed .room in
       (omega arith, omega arith)
 
-  prior-grown : (key : ℕ) (mean variance store : List Float) → next ≤ start + factor-frame + float-bytes * numbers (g .sizes) (priorOf key (sizeAt g key)) → length store ≡ len → Grown (addPrior g key mean variance store)
+  prior-grown : (key : ℕ) (mean variance store : List Float) → next ≤ start + factor-frame + float-bytes * numbers (g .sizes)
+      (priorOf key (sizeAt g key)) → length store ≡ len → Grown (addPrior g key mean variance store)
   unfolding addPrior
   prior-grown key mean variance store took s =
       prior-cases g key mean variance store (λ v. Grown (settle g (priorOf key (sizeAt g key)) v)) turned (λ xi w t. taken-grown _ _ _ _ _ _ _ took s t)
 
-  observation-grown : (keys : List ℕ) (rows : ℕ) (a mean variance store : List Float) → next ≤ start + factor-frame + float-bytes * numbers (g .sizes) (observationOf keys rows) → length store ≡ len → Grown (addObservation g keys rows a mean variance store)
+  observation-grown : (keys : List ℕ) (rows : ℕ) (a mean variance store : List Float)
+      → next ≤ start + factor-frame + float-bytes * numbers (g .sizes) (observationOf keys rows) → length store ≡ len
+      → Grown (addObservation g keys rows a mean variance store)
   unfolding addObservation
   observation-grown keys rows a mean variance store took s =
-      observation-cases g keys rows a mean variance store (λ v. Grown (settle g (observationOf keys rows) v)) turned (λ xi w t. taken-grown _ _ _ _ _ _ _ took s t)
+      observation-cases g keys rows a mean variance store (λ v. Grown (settle g (observationOf keys rows) v)) turned
+      (λ xi w t. taken-grown _ _ _ _ _ _ _ took s t)
 
 -- ---- so does an accepted record
 
@@ -110,7 +116,8 @@ observation-numbers sizes keys rows = refl
 
 module _ (g : Graph) (ok : Good g) (store : List Float) (held : offset g (g .count) ≤ length store) (start : ℕ) where
   Bounded : Request → Type 0
-  Bounded q = (n : ℕ) → stepOf g q .next ≡ At n → (n + most-read g ≤ start + most-read (stepOf g q .graph)) × (offset (stepOf g q .graph) (stepOf g q .graph .count) ≤ length store)
+  Bounded q = (n : ℕ) → stepOf g q .next ≡ At n → (n + most-read g ≤ start + most-read (stepOf g q .graph)) ×
+      (offset (stepOf g q .graph) (stepOf g q .graph .count) ≤ length store)
 
   module _ (bytes : List ℕ) where
     asks-bounded : {q : Request} → Asks g store bytes start q → Bounded q
@@ -120,9 +127,11 @@ module _ (g : Graph) (ok : Good g) (store : List Float) (held : offset g (g .cou
     asks-bounded (prior-asked key mean variance from w) =
         prior-grown g ok (length store) held start _ key mean variance store (omega (arith, w .near, prior-numbers (g .sizes) key (sizeAt g key))) refl
     asks-bounded (observation-asked keys rows flag a mean variance from w) =
-        observation-grown g ok (length store) held start _ keys rows a mean variance store (omega (arith, w .near, observation-numbers (g .sizes) keys rows, given-most flag rows)) refl
+        observation-grown g ok (length store) held start _ keys rows a mean variance store
+        (omega (arith, w .near, observation-numbers (g .sizes) keys rows, given-most flag rows)) refl
 
     pub record-bounded : (n : ℕ) → stepOf g (recordAt g store bytes start) .next ≡ At n
-        → (n + most-read g ≤ start + most-read (stepOf g (recordAt g store bytes start) .graph)) × (offset (stepOf g (recordAt g store bytes start) .graph) (stepOf g (recordAt g store bytes start) .graph .count) ≤ length store)
+        → (n + most-read g ≤ start + most-read (stepOf g (recordAt g store bytes start) .graph)) ×
+        (offset (stepOf g (recordAt g store bytes start) .graph) (stepOf g (recordAt g store bytes start) .graph .count) ≤ length store)
     unfolding Bounded
     record-bounded = asks-bounded (asks g store bytes start)

@@ -34,7 +34,8 @@ module _ (bytes : List ℕ) (g : Graph) (store : List Float) (at n : ℕ) where
   goes-on (nothing why) e = absurd (let z : _≡_ {A = ℕ} 0 1 = cc in omega arith)
   goes-on (variable-asked name size w) e = ends w (next-is (answered g (variable name size) .outcome) _ n e)
   goes-on (prior-asked key mean variance from w) e = ends w (next-is (answered g (register (prior key mean variance) store) .outcome) _ n e)
-  goes-on (observation-asked keys rows flag a mean variance from w) e = ends w (next-is (answered g (register (observation keys rows a mean variance) store) .outcome) _ n e)
+  goes-on (observation-asked keys rows flag a mean variance from w) e = ends w
+      (next-is (answered g (register (observation keys rows a mean variance) store) .outcome) _ n e)
 
   pub record-next : stepOf g (recordAt g store bytes at) .next ≡ At n → (at < n) × (n ≤ length bytes)
   record-next e = goes-on (asks g store bytes at) e
@@ -47,7 +48,8 @@ step-reached g (refuse why) r = r
 
 -- ---- a turn of the reading
 
-module _ (bytes : List ℕ) (at place : ℕ) (g : Graph) (store : List Float) (all : Reading) (e : all ≡ readFrom (length bytes - place) bytes at place g store) where
+module _ (bytes : List ℕ) (at place : ℕ) (g : Graph) (store : List Float) (all : Reading)
+    (e : all ≡ readFrom (length bytes - place) bytes at place g store) where
   -- no bytes are left
   pub all-read : length bytes ≤ at → all ≡ reading g Whole store
   unfolding readFrom
@@ -57,7 +59,8 @@ module _ (bytes : List ℕ) (at place : ℕ) (g : Graph) (store : List Float) (a
       by zero = refl
       by (suc turns) = rw (le-ltb at (length bytes) l)
 
-  module _ (left : at < length bytes) (counted : place ≤ at) (step : Step) (s : List Float) (es : step ≡ stepOf g (recordAt g store bytes at)) (et : s ≡ storeAfter g store (recordAt g store bytes at)) where
+  module _ (left : at < length bytes) (counted : place ≤ at) (step : Step) (s : List Float) (es : step ≡ stepOf g (recordAt g store bytes at))
+      (et : s ≡ storeAfter g store (recordAt g store bytes at)) where
     one-turn : all ≡ onward (step .next) (step .graph) s place (λ next. readFrom (length bytes - (place + 1)) bytes next (place + 1) (step .graph) s)
     unfolding readFrom
     one-turn = let n : length bytes - place ≡ suc (length bytes - (place + 1)) = omega arith in e ∙ rw (n, lt-ltb at (length bytes) left, es, et)

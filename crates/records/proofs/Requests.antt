@@ -31,7 +31,8 @@ pub as-it-was : (g : Graph) (store : List Float) (bytes : List ℕ) (at : ℕ) �
 unfolding variableAt
 as-it-was g store bytes at = by (cut bytes at 9)
   where
-    by : (b : Bool) → store ≡ storeAfter g store (cond b (refuse BadRecord) (ask (variable (wordAt bytes at, wordAt bytes (at + 4)) (byteAt bytes (at + 8))) (at + 9)))
+    by : (b : Bool) → store ≡ storeAfter g store (cond b (refuse BadRecord)
+        (ask (variable (wordAt bytes at, wordAt bytes (at + 4)) (byteAt bytes (at + 8))) (at + 9)))
     by true = refl
     by false = refl
 

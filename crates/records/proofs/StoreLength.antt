@@ -26,12 +26,23 @@ numbers-are : (sizes : List ℕ) (f : Factor) → numbers sizes f ≡ aNumbers s
 unfolding numbers
 numbers-are sizes f = refl
 
-taken-kept : (g : Graph) (store : List Float) (f : Factor) (a mean variance xi w : List Float) → Taken g f a mean variance store xi w → length (stored g store (accept (a ++ xi ++ w))) ≡ length store
+taken-kept : (g : Graph) (store : List Float) (f : Factor) (a mean variance xi w : List Float) → Taken g f a mean variance store xi w
+    → length (stored g store (accept (a ++ xi ++ w))) ≡ length store
 taken-kept g store f a mean variance xi w t =
     let p = t .passed in
     let s = exchanged-long (f .rows) mean variance xi w (t .weighing) in
     lay-length store (a ++ xi ++ w) (offset g (g .count))
-    (omega (arith, length-append (a ++ xi) w, length-append a xi, numbers-are (g .sizes) f, s .0, s .1, a-long g f _ _ _ (p .lengths), mean-long g f _ _ _ (p .lengths), p .room))
+    (omega (
+      arith,
+      length-append (a ++ xi) w,
+      length-append a xi,
+      numbers-are (g .sizes) f,
+      s .0,
+      s .1,
+      a-long g f _ _ _ (p .lengths),
+      mean-long g f _ _ _ (p .lengths),
+      p .room,
+    ))
 
 comes-kept : {g : Graph} {keys : List ℕ} {store s : List Float} {x : Added} → Comes g keys store x s → length s ≡ length store
 comes-kept (turned why) = refl

@@ -46,5 +46,6 @@ pub settles : (m g r u l : ℕ) → 2 ^ 52 ≤ m → m < 2 ^ 54
 settles m g r u l hm km er hr eu hu el hl =
     rooted m (joined g + bit (joined g * 2 + 1) l) hm km
     (one-of-two (m * 2 ^ 54) (joined g) l
-    (whole m (upper g) (lower g) r u l (omega (arith, product-le (g / 2 ^ 27) (g / 2 ^ 27))) (omega (arith, product-le (g / 2 ^ 27) g)) (omega (arith, product-le g g)))
+    (whole m (upper g) (lower g) r u l (omega (arith, product-le (g / 2 ^ 27) (g / 2 ^ 27))) (omega (arith, product-le (g / 2 ^ 27) g))
+    (omega (arith, product-le g g)))
     hl)

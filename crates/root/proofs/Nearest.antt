@@ -47,7 +47,8 @@ abbrev At : Float → ℕ → Type 0
 At v b = Nearest v (ofBits binary64 b) × (toBits binary64 (ofBits binary64 b) ≡ b)
 
 -- q is the root's 54 leading digits
-with-digits : (v : Float) (m e i q : ℕ) → T (positive v) → inUnits v ≡ m * 2 ^ e → m < 2 ^ 53 → i ≤ 1600 → Found (inUnits v * 2 ^ 1074) i q → At v (pattern i ((q + 1) / 2))
+with-digits : (v : Float) (m e i q : ℕ) → T (positive v) → inUnits v ≡ m * 2 ^ e → m < 2 ^ 53 → i ≤ 1600 → Found (inUnits v * 2 ^ 1074) i q
+    → At v (pattern i ((q + 1) / 2))
 with-digits v m e i q p en sm range f = (record { given = p; above-zero = positive-at; low = lower; high = higher }, there)
   where
     b : ℕ
@@ -66,10 +67,12 @@ with-digits v m e i q p en sm range f = (record { given = p; above-zero = positi
     positive-at = subst T (sym (is-positive (ofBits binary64 b) (b % 2 ^ 52 + 2 ^ 52) (b / 2 ^ 52 - 1) (omega arith) (normal b small (omega arith)))) tt
 
     lower : both (before (ofBits binary64 b)) (ofBits binary64 b) * both (before (ofBits binary64 b)) (ofBits binary64 b) < 4 * (inUnits v * 2 ^ 1074)
-    lower = subst (λ (x : ℕ). (units (x - 1) + units b) * (units (x - 1) + units b) < 4 * (inUnits v * 2 ^ 1074)) (sym there) (low (inUnits v * 2 ^ 1074) m e i q ((q + 1) / 2) ew sm f (omega arith) (omega arith) range)
+    lower = subst (λ (x : ℕ). (units (x - 1) + units b) * (units (x - 1) + units b) < 4 * (inUnits v * 2 ^ 1074)) (sym there)
+        (low (inUnits v * 2 ^ 1074) m e i q ((q + 1) / 2) ew sm f (omega arith) (omega arith) range)
 
     higher : 4 * (inUnits v * 2 ^ 1074) < both (ofBits binary64 b) (after (ofBits binary64 b)) * both (ofBits binary64 b) (after (ofBits binary64 b))
-    higher = subst (λ (x : ℕ). 4 * (inUnits v * 2 ^ 1074) < (units b + units (x + 1)) * (units b + units (x + 1))) (sym there) (high (inUnits v * 2 ^ 1074) m e i q ((q + 1) / 2) ew sm f (omega arith) (omega arith) range)
+    higher = subst (λ (x : ℕ). 4 * (inUnits v * 2 ^ 1074) < (units b + units (x + 1)) * (units b + units (x + 1))) (sym there)
+        (high (inUnits v * 2 ^ 1074) m e i q ((q + 1) / 2) ew sm f (omega arith) (omega arith) range)
 
 -- n has at most 2098 digits, so that its root drops few enough
 i-le : (n m e : ℕ) → n ≡ m * 2 ^ e → m < 2 ^ 53 → e ≤ 2045 → (size n + 1075) / 2 - 54 ≤ 1600
@@ -87,7 +90,8 @@ nearest v fit p =
     let en = units-are v (k .m) (k .e) (k .is) in
     let pn = units-pos v p (k .m) (k .e) (k .is) in
     let f = found n i pn refl in
-    subst (λ (x : ℕ). At v x) (sym (bits-of n i (isqrt 54 (n * 2 ^ 1074 / 2 ^ (2 * i))) pn f)) (with-digits v (k .m) (k .e) i (isqrt 54 (n * 2 ^ 1074 / 2 ^ (2 * i))) p en (k .few) (i-le n (k .m) (k .e) en (k .few) (k .far)) f)
+    subst (λ (x : ℕ). At v x) (sym (bits-of n i (isqrt 54 (n * 2 ^ 1074 / 2 ^ (2 * i))) pn f))
+    (with-digits v (k .m) (k .e) i (isqrt 54 (n * 2 ^ 1074 / 2 ^ (2 * i))) p en (k .few) (i-le n (k .m) (k .e) en (k .few) (k .far)) f)
 
 -- what is right to tell, by whether v has a root
 tells : (v : Float) {b : Bool} → positive v ≡ b → cond b (shown.pattern (rootBits (inUnits v))) shown.refusal ≡ rightTold v

@@ -19,7 +19,12 @@ no-tie m a q t s l o e = ⊎-elim high low (split a t)
     once x d = omega (arith, mul-le-mul-left x (pow-pos d))
 
     high : a ≤ t → ⊥
-    high h = omega (arith, mul-le-mul-left q one, once (q * q) (t - a), eq-of-mul-eq-mul-right (2 ^ a) (pow-pos a) m (q * q * 2 ^ (t - a)) (e ∙ apart (q * q) (t - a) a t (omega arith)))
+    high h = omega (
+      arith,
+      mul-le-mul-left q one,
+      once (q * q) (t - a),
+      eq-of-mul-eq-mul-right (2 ^ a) (pow-pos a) m (q * q * 2 ^ (t - a)) (e ∙ apart (q * q) (t - a) a t (omega arith)),
+    )
 
     parity : (u x : ℕ) → q ≡ 2 * u + 1 → x * 2 ≡ q * q → ⊥
     parity u x eq ex = omega (arith, ap (λ (z : ℕ). z * z) eq)

@@ -19,7 +19,8 @@ units-at k m h l u = ⊎-elim whole part (eq-or-lt-of-le u)
   where
     is : (d y : ℕ) → (k * 2 ^ 52 + m) % 2 ^ 52 + 2 ^ 52 ≡ d → (k * 2 ^ 52 + m) / 2 ^ 52 ≡ suc y → units (k * 2 ^ 52 + m) ≡ d * 2 ^ y
     is d y ed ey =
-        units-are (ofBits binary64 (k * 2 ^ 52 + m)) ((k * 2 ^ 52 + m) % 2 ^ 52 + 2 ^ 52) ((k * 2 ^ 52 + m) / 2 ^ 52 - 1) (normal (k * 2 ^ 52 + m) h (omega arith))
+        units-are (ofBits binary64 (k * 2 ^ 52 + m)) ((k * 2 ^ 52 + m) % 2 ^ 52 + 2 ^ 52) ((k * 2 ^ 52 + m) / 2 ^ 52 - 1)
+        (normal (k * 2 ^ 52 + m) h (omega arith))
         ∙ ap (λ (x : ℕ). x * 2 ^ ((k * 2 ^ 52 + m) / 2 ^ 52 - 1)) ed
         ∙ ap (λ (x : ℕ). d * 2 ^ x) (omega arith)
 

@@ -179,7 +179,8 @@ unfolding keep count
 keep-yes p x [] t = refl
 keep-yes p x (y ∷ l) t = go (p y) refl (hit-cases x y) (keep-yes p x l t)
   where
-    go : (b : Bool) → p y ≡ b → ((x ≡ y) × (hit x y ≡ 1)) ⊎ ((x ≢ y) × (hit x y ≡ 0)) → count x (keep p l) ≡ count x l → count x (putIf b y (keep p l)) ≡ hit x y + count x l
+    go : (b : Bool) → p y ≡ b → ((x ≡ y) × (hit x y ≡ 1)) ⊎ ((x ≢ y) × (hit x y ≡ 0)) → count x (keep p l) ≡ count x l
+        → count x (putIf b y (keep p l)) ≡ hit x y + count x l
     go true q h ih = omega arith
     go false q (inl e) ih = absurd (rw (e .0, q) at t)
     go false q (inr e) ih = omega arith
@@ -209,7 +210,8 @@ unfolding from count
 from-in x a zero h k = absurd (omega arith)
 from-in x a (suc n) h k = go (hit-cases x a) (λ i j. from-in x (suc a) n i j)
   where
-    go : ((x ≡ a) × (hit x a ≡ 1)) ⊎ ((x ≢ a) × (hit x a ≡ 0)) → (suc a ≤ x → x < suc a + n → count x (from (suc a) n) ≡ 1) → hit x a + count x (from (suc a) n) ≡ 1
+    go : ((x ≡ a) × (hit x a ≡ 1)) ⊎ ((x ≢ a) × (hit x a ≡ 0)) → (suc a ≤ x → x < suc a + n → count x (from (suc a) n) ≡ 1)
+        → hit x a + count x (from (suc a) n) ≡ 1
     go (inl e) f = omega (arith, from-below x (suc a) n (omega arith))
     go (inr e) f = omega (arith, f (omega arith) (omega arith))
 

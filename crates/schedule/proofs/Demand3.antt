@@ -16,7 +16,8 @@ use Rattle.schedule.specs.Pass.{ClosedFactor, at, after, full-pass}
 use Rattle.schedule.specs.Gather.{alive-messages, leaves, Gathered, keysLast, uncovered, gathering, gatherAt, gather}
 use Rattle.schedule.specs.Plan.{place, plan}
 use Rattle.schedule.specs.Once.{behind, clearedBy, Once}
-use Rattle.schedule.proofs.Counts.{sure, hit-other, hit-cases, count-cons, count-append, count-reverse, count-joined, from-in, from-above, mem-in, in-mem, sum-some, sum-member}
+use Rattle.schedule.proofs.Counts.{sure, hit-other, hit-cases, count-cons, count-append, count-reverse, count-joined, from-in, from-above}
+use Rattle.schedule.proofs.Counts.{mem-in, in-mem, sum-some, sum-member}
 use Rattle.schedule.proofs.Runs.{from-lt}
 use Rattle.schedule.proofs.Sums.{sum-perm, length-sum, length-from}
 use Rattle.schedule.proofs.Meanings.{covered-not, uncovered-all, uncovered-in, own-never, last-once, last-none}
@@ -25,7 +26,8 @@ use Rattle.schedule.proofs.Sides.{gatheredLeaves, Side, a-side}
 module _ (n : ℕ) (K : ℕ → List ℕ) (N : List ℕ) (P Q : List ℕ) (k : ℕ) (fw bw : List ClosedFactor) (akF goneF akB goneB : List ℕ)
     (F : Side K N P k fw akF goneF) (B : Side K N Q k bw akB goneB)
     (distinct : (f : ℕ) → count f N ≤ 1) (registered : (f : ℕ) → In f N → (j : ℕ) → In j (K f) → j < n)
-    (order : (j : ℕ) → count j P + hit j k + count j Q ≡ count j (from 0 n)) (order-once : (j : ℕ) → count j (from 0 n) ≤ 1) (order-all : (j : ℕ) → j < n → count j (from 0 n) ≡ 1) where
+    (order : (j : ℕ) → count j P + hit j k + count j Q ≡ count j (from 0 n)) (order-once : (j : ℕ) → count j (from 0 n) ≤ 1)
+    (order-all : (j : ℕ) → j < n → count j (from 0 n) ≡ 1) where
   abbrev LF : List ℕ
   LF = gatheredLeaves fw (length P)
 
@@ -72,18 +74,38 @@ module _ (n : ℕ) (K : ℕ → List ℕ) (N : List ℕ) (P Q : List ℕ) (k : �
       go (inr t) a b = let z : count f lv ≡ 0 = omega (arith, nltb→le 0 (count f lv) t) in omega (arith, count-append f lv un, uncovered-all lv N f z)
       go (inl t) (inl a) (inl b) = absurd (apart f (ltb→lt 0 (count f LF) a) (ltb→lt 0 (count f LB) b))
       go (inl t) (inl a) (inr b) =
-          omega (arith, count-append f lv un, covered-not lv N f (ltb→lt 0 (count f lv) t), lv-count f, F .part f, distinct f, ltb→lt 0 (count f LF) a, nltb→le 0 (count f LB) b)
+          omega (
+            arith,
+            count-append f lv un,
+            covered-not lv N f (ltb→lt 0 (count f lv) t),
+            lv-count f,
+            F .part f,
+            distinct f,
+            ltb→lt 0 (count f LF) a,
+            nltb→le 0 (count f LB) b,
+          )
       go (inl t) (inr a) d =
-          omega (arith, count-append f lv un, covered-not lv N f (ltb→lt 0 (count f lv) t), lv-count f, B .part f, distinct f, ltb→lt 0 (count f lv) t, nltb→le 0 (count f LF) a)
+          omega (
+            arith,
+            count-append f lv un,
+            covered-not lv N f (ltb→lt 0 (count f lv) t),
+            lv-count f,
+            B .part f,
+            distinct f,
+            ltb→lt 0 (count f lv) t,
+            nltb→le 0 (count f LF) a,
+          )
 
   in-un : (f : ℕ) → In f N → count f lv ≡ 0 → In f un
   in-un f h z = omega (arith, uncovered-all lv N f z)
 
-  in-ks : (j : ℕ) → count j ks ≡ count j (joined (λ c. (at fw c) .kept) (alive-messages (length P) fw)) + count j (joined (λ c. (at bw c) .kept) (alive-messages (length Q) bw)) + count j (joined K un)
+  in-ks : (j : ℕ) → count j ks ≡ count j (joined (λ c. (at fw c) .kept) (alive-messages (length P) fw)) + count j
+      (joined (λ c. (at bw c) .kept) (alive-messages (length Q) bw)) + count j (joined K un)
   in-ks j =
       omega (
         arith,
-        count-append j (joined (λ c. (at fw c) .kept) (alive-messages (length P) fw) ++ joined (λ c. (at bw c) .kept) (alive-messages (length Q) bw)) (joined K un),
+        count-append j (joined (λ c. (at fw c) .kept) (alive-messages (length P) fw) ++ joined (λ c. (at bw c) .kept) (alive-messages (length Q) bw))
+            (joined K un),
         count-append j (joined (λ c. (at fw c) .kept) (alive-messages (length P) fw)) (joined (λ c. (at bw c) .kept) (alive-messages (length Q) bw)),
       )
 
@@ -105,25 +127,38 @@ module _ (n : ℕ) (K : ℕ → List ℕ) (N : List ℕ) (P Q : List ℕ) (k : �
     where
       go : (f : ℕ) × In f N × In j (K f) × ((i : ℕ) × In i (K f) × (count i (k ∷ P) ≡ 0)) → In j ks
       go (f, a, q, (i, u, z)) =
-          beside f j a q (λ t. omega (arith, F .upto f t i u)) (λ s. omega (arith, B .upto f s j q, count-cons j k Q, hit-other j k ne, at-F j, order j, order-once j))
+          beside f j a q (λ t. omega (arith, F .upto f t i u)) (λ s. omega
+          (arith, B .upto f s j q, count-cons j k Q, hit-other j k ne, at-F j, order j, order-once j))
 
   from-B : (j : ℕ) → In j akB → j ≢ k → In j ks
   from-B j h ne = go (B .why j h ne)
     where
       go : (f : ℕ) × In f N × In j (K f) × ((i : ℕ) × In i (K f) × (count i (k ∷ Q) ≡ 0)) → In j ks
       go (f, a, q, (i, u, z)) =
-          beside f j a q (λ s. omega (arith, F .upto f s j q, count-cons j k P, hit-other j k ne, at-B j, order j, order-once j)) (λ t. omega (arith, B .upto f t i u))
+          beside f j a q (λ s. omega (arith, F .upto f s j q, count-cons j k P, hit-other j k ne, at-B j, order j, order-once j))
+          (λ t. omega (arith, B .upto f t i u))
 
   -- a key of what is gathered, other than k, is active on a side
   to-active : (j : ℕ) → In j ks → j ≢ k → 1 ≤ count j akF + count j akB
-  to-active j h ne = go (count j (joined (λ c. (at fw c) .kept) (alive-messages (length P) fw))) refl (count j (joined (λ c. (at bw c) .kept) (alive-messages (length Q) bw))) refl
+  to-active j h ne = go (count j (joined (λ c. (at fw c) .kept) (alive-messages (length P) fw))) refl
+      (count j (joined (λ c. (at bw c) .kept) (alive-messages (length Q) bw))) refl
     where
       by : (f : ℕ) × List·Memᴰ f un × (1 ≤ count j (K f)) → 1 ≤ count j akF + count j akB
       by (f, m, q) =
           let u = uncovered-in lv N f (mem-in m) in
-          omega (arith, F .rest f (u .0) (omega (arith, lv-count f, u .1)) j q, B .rest f (u .0) (omega (arith, lv-count f, u .1)) j q, at-F j, at-B j, hit-other j k ne, order j, order-all j (registered f (u .0) j q))
+          omega (
+            arith,
+            F .rest f (u .0) (omega (arith, lv-count f, u .1)) j q,
+            B .rest f (u .0) (omega (arith, lv-count f, u .1)) j q,
+            at-F j,
+            at-B j,
+            hit-other j k ne,
+            order j,
+            order-all j (registered f (u .0) j q),
+          )
 
-      go : (x : ℕ) → count j (joined (λ c. (at fw c) .kept) (alive-messages (length P) fw)) ≡ x → (y : ℕ) → count j (joined (λ c. (at bw c) .kept) (alive-messages (length Q) bw)) ≡ y → 1 ≤ count j akF + count j akB
+      go : (x : ℕ) → count j (joined (λ c. (at fw c) .kept) (alive-messages (length P) fw)) ≡ x → (y : ℕ)
+          → count j (joined (λ c. (at bw c) .kept) (alive-messages (length Q) bw)) ≡ y → 1 ≤ count j akF + count j akB
       go (suc x) e y d = omega (arith, F .inner j (omega arith))
       go zero e (suc y) d = omega (arith, B .inner j (omega arith))
       go zero e zero d = by (sum-some (λ f. count j (K f)) un (omega (arith, in-ks j, count-joined j K un)))
@@ -135,7 +170,8 @@ module _ (n : ℕ) (K : ℕ → List ℕ) (N : List ℕ) (P Q : List ℕ) (k : �
       lt-n : 1 ≤ count j akF + count j akB → j < n
       lt-n h = from-lt j n (omega (arith, at-F j, at-B j, hit-other j k ne, order j))
 
-      go : T (mem j ks) ⊎ T (not (mem j ks)) → T (mem j akF) ⊎ T (not (mem j akF)) → T (mem j akB) ⊎ T (not (mem j akB)) → count j last ≡ count j akF + count j akB
+      go : T (mem j ks) ⊎ T (not (mem j ks)) → T (mem j akF) ⊎ T (not (mem j akF)) → T (mem j akB) ⊎ T (not (mem j akB)) → count j last
+          ≡ count j akF + count j akB
       go d (inl a) b =
           let h : In j akF = ltb→lt 0 (count j akF) a in
           omega (arith, last-once n k ks j (lt-n (omega arith)) (from-F j h ne) ne, at-F j, at-B j, hit-other j k ne, order j, order-once j)
@@ -231,33 +267,41 @@ module _ (n : ℕ) (K : ℕ → List ℕ) (N order : List ℕ) (distinct : (f : 
   long = omega (arith, length-sum order, sum-perm (λ x. 1) order (from 0 n) each, length-sum (from 0 n), length-from 0 n)
 
   reversed : (k : ℕ) (pre q : List ℕ) → order ≡ pre ++ (k ∷ q) → reverse order ≡ reverse q ++ (k ∷ reverse pre)
-  reversed k pre q e = ap reverse e ∙ reverse-append pre (k ∷ q) ∙ ap (λ (l : List ℕ). l ++ reverse pre) (reverse-cons k q) ∙ append-assoc (reverse q) (k ∷ []) (reverse pre)
+  reversed k pre q e = ap reverse e ∙ reverse-append pre (k ∷ q) ∙ ap (λ (l : List ℕ). l ++ reverse pre) (reverse-cons k q)
+      ∙ append-assoc (reverse q) (k ∷ []) (reverse pre)
 
   -- the two sides of the order at k
   sides-meet : (k : ℕ) (pre q : List ℕ) → order ≡ pre ++ (k ∷ q) → length pre ≡ place k order → (fw bw : List ClosedFactor)
-      → (akF outF : List ℕ) × Side K N (reverse pre) k fw akF outF → (akB outB : List ℕ) × Side K N q k bw akB outB → Once n K N k fw bw (gather n K N fw bw (place k order) k)
+      → (akF outF : List ℕ) × Side K N (reverse pre) k fw akF outF → (akB outB : List ℕ) × Side K N q k bw akB outB
+      → Once n K N k fw bw (gather n K N fw bw (place k order) k)
   unfolding gather gatherAt
   sides-meet k pre q e d fw bw (akF, outF, F) (akB, outB, B) =
-      subst₂ (λ (r s : ℕ). Once n K N k fw bw (gatherAt n K N fw bw r s k)) (length-reverse pre ∙ d) (omega (arith, ap length e, length-append pre (k ∷ q), long))
+      subst₂ (λ (r s : ℕ). Once n K N k fw bw (gatherAt n K N fw bw r s k)) (length-reverse pre ∙ d)
+      (omega (arith, ap length e, length-append pre (k ∷ q), long))
       (met n K N (reverse pre) q k fw bw akF outF akB outB F B distinct registered
       (λ j. omega (arith, count-reverse j pre, ap (count j) e, count-append j pre (k ∷ q), count-cons j k q, each j))
       (from-once n) (λ j l. from-in j 0 n (omega arith) (omega arith)))
 
   -- the claim at a key, of the two passes
-  pub at-each : (k : ℕ) → k < n → Once n K N k (full-pass n K N order) (full-pass n K N (reverse order)) (gather n K N (full-pass n K N order) (full-pass n K N (reverse order)) (place k order) k)
+  pub at-each : (k : ℕ) → k < n → Once n K N k (full-pass n K N order) (full-pass n K N (reverse order))
+      (gather n K N (full-pass n K N order) (full-pass n K N (reverse order)) (place k order) k)
   unfolding full-pass
   at-each k l = go (found-at k order (omega (arith, each k, from-in k 0 n (omega arith) (omega arith))))
     where
       go : (pre : List ℕ) × (q : List ℕ) × (order ≡ pre ++ (k ∷ q)) × (length pre ≡ place k order)
-          → Once n K N k (full-pass n K N order) (full-pass n K N (reverse order)) (gather n K N (full-pass n K N order) (full-pass n K N (reverse order)) (place k order) k)
+          → Once n K N k (full-pass n K N order) (full-pass n K N (reverse order))
+          (gather n K N (full-pass n K N order) (full-pass n K N (reverse order)) (place k order) k)
       go (pre, q, e, d) =
           sides-meet k pre q e d (full-pass n K N order) (full-pass n K N (reverse order))
-          (subst (λ (o : List ℕ). (ak out : List ℕ) × Side K N (reverse pre) k ((after n K N o) .messages) ak out) (sym (reversed k pre q e)) (a-side n K N (reverse q) (reverse pre) k (λ j. omega (arith, ap (count j) (reversed k pre q e), count-reverse j order, each j, from-once n j))
+          (subst (λ (o : List ℕ). (ak out : List ℕ) × Side K N (reverse pre) k ((after n K N o) .messages) ak out) (sym (reversed k pre q e))
+          (a-side n K N (reverse q) (reverse pre) k (λ j. omega (arith, ap (count j) (reversed k pre q e), count-reverse j order, each j, from-once n j))
           (λ j h. from-lt j n (omega (arith, ap (count j) (reversed k pre q e), count-reverse j order, each j)))))
-          (subst (λ (o : List ℕ). (ak out : List ℕ) × Side K N q k ((after n K N o) .messages) ak out) (sym (reverse-reverse order ∙ e)) (a-side n K N pre q k (λ j. omega (arith, ap (count j) e, each j, from-once n j)) (λ j h. from-lt j n (omega (arith, ap (count j) e, each j)))))
+          (subst (λ (o : List ℕ). (ak out : List ℕ) × Side K N q k ((after n K N o) .messages) ak out) (sym (reverse-reverse order ∙ e))
+          (a-side n K N pre q k (λ j. omega (arith, ap (count j) e, each j, from-once n j)) (λ j h. from-lt j n (omega (arith, ap (count j) e, each j)))))
 
   -- what the plan has gathered at a key
-  pub gathered-at : (k : ℕ) → k < n → (d : Gathered) → getD ((plan n K N order) .at-key) k d ≡ gather n K N (full-pass n K N order) (full-pass n K N (reverse order)) (place k order) k
+  pub gathered-at : (k : ℕ) → k < n → (d : Gathered) → getD ((plan n K N order) .at-key) k d
+      ≡ gather n K N (full-pass n K N order) (full-pass n K N (reverse order)) (place k order) k
   unfolding plan
   gathered-at k l d = nth at 0 n k l d ∙ ap at (zero-add k)
     where
@@ -266,7 +310,8 @@ module _ (n : ℕ) (K : ℕ → List ℕ) (N order : List ℕ) (distinct : (f : 
 
   -- Demand 3 of the plan, at each registered key: for any order that names each registered key once, and any list of live originals
   -- that names none twice and whose keys are registered.
-  pub demand3 : (k : ℕ) → k < n → (d : Gathered) → Once n K N k ((plan n K N order) .forward) ((plan n K N order) .backward) (getD ((plan n K N order) .at-key) k d)
+  pub demand3 : (k : ℕ) → k < n → (d : Gathered) → Once n K N k ((plan n K N order) .forward) ((plan n K N order) .backward)
+      (getD ((plan n K N order) .at-key) k d)
   unfolding plan
   demand3 k l d = subst (λ (g : Gathered). Once n K N k (full-pass n K N order) (full-pass n K N (reverse order)) g) (sym (gathered-at k l d)) (at-each k l)
 
@@ -290,8 +335,10 @@ module _ (n : ℕ) (K : ℕ → List ℕ) (N order : List ℕ) (distinct : (f : 
       bw = full-pass n K N (reverse order)
 
   -- P9 for every graph: an original without keys is a leaf under no message, so it is uncovered at every key.
-  keyless-meets : (f k : ℕ) → ((j : ℕ) → In j (K f) → ⊥) → In f N → (pre q : List ℕ) → order ≡ pre ++ (k ∷ q) → length pre ≡ place k order → (fw bw : List ClosedFactor)
-      → (akF outF : List ℕ) × Side K N (reverse pre) k fw akF outF → (akB outB : List ℕ) × Side K N q k bw akB outB → In f ((gather n K N fw bw (place k order) k) .originals)
+  keyless-meets : (f k : ℕ) → ((j : ℕ) → In j (K f) → ⊥) → In f N → (pre q : List ℕ) → order ≡ pre ++ (k ∷ q) → length pre ≡ place k order
+      → (fw bw : List ClosedFactor)
+      → (akF outF : List ℕ) × Side K N (reverse pre) k fw akF outF → (akB outB : List ℕ) × Side K N q k bw akB outB
+      → In f ((gather n K N fw bw (place k order) k) .originals)
   unfolding gather gatherAt gathering
   keyless-meets f k none live pre q e d fw bw (akF, outF, F) (akB, outB, B) =
       let s : length q ≡ n - 1 - place k order = omega (arith, ap length e, length-append pre (k ∷ q), long) in
@@ -315,16 +362,20 @@ module _ (n : ℕ) (K : ℕ → List ℕ) (N order : List ℕ) (distinct : (f : 
       not-in (yes a) = absurd (no-leaf a)
       not-in (no a) = omega arith
 
-  keyless-at : (f k : ℕ) → k < n → ((j : ℕ) → In j (K f) → ⊥) → In f N → In f ((gather n K N (full-pass n K N order) (full-pass n K N (reverse order)) (place k order) k) .originals)
+  keyless-at : (f k : ℕ) → k < n → ((j : ℕ) → In j (K f) → ⊥) → In f N
+      → In f ((gather n K N (full-pass n K N order) (full-pass n K N (reverse order)) (place k order) k) .originals)
   unfolding full-pass
   keyless-at f k l none live = go (found-at k order (omega (arith, each k, from-in k 0 n (omega arith) (omega arith))))
     where
-      go : (pre : List ℕ) × (q : List ℕ) × (order ≡ pre ++ (k ∷ q)) × (length pre ≡ place k order) → In f ((gather n K N (full-pass n K N order) (full-pass n K N (reverse order)) (place k order) k) .originals)
+      go : (pre : List ℕ) × (q : List ℕ) × (order ≡ pre ++ (k ∷ q)) × (length pre ≡ place k order)
+          → In f ((gather n K N (full-pass n K N order) (full-pass n K N (reverse order)) (place k order) k) .originals)
       go (pre, q, e, d) =
           keyless-meets f k none live pre q e d (full-pass n K N order) (full-pass n K N (reverse order))
-          (subst (λ (o : List ℕ). (ak out : List ℕ) × Side K N (reverse pre) k ((after n K N o) .messages) ak out) (sym (reversed k pre q e)) (a-side n K N (reverse q) (reverse pre) k (λ j. omega (arith, ap (count j) (reversed k pre q e), count-reverse j order, each j, from-once n j))
+          (subst (λ (o : List ℕ). (ak out : List ℕ) × Side K N (reverse pre) k ((after n K N o) .messages) ak out) (sym (reversed k pre q e))
+          (a-side n K N (reverse q) (reverse pre) k (λ j. omega (arith, ap (count j) (reversed k pre q e), count-reverse j order, each j, from-once n j))
           (λ j h. from-lt j n (omega (arith, ap (count j) (reversed k pre q e), count-reverse j order, each j)))))
-          (subst (λ (o : List ℕ). (ak out : List ℕ) × Side K N q k ((after n K N o) .messages) ak out) (sym (reverse-reverse order ∙ e)) (a-side n K N pre q k (λ j. omega (arith, ap (count j) e, each j, from-once n j)) (λ j h. from-lt j n (omega (arith, ap (count j) e, each j)))))
+          (subst (λ (o : List ℕ). (ak out : List ℕ) × Side K N q k ((after n K N o) .messages) ak out) (sym (reverse-reverse order ∙ e))
+          (a-side n K N pre q k (λ j. omega (arith, ap (count j) e, each j, from-once n j)) (λ j h. from-lt j n (omega (arith, ap (count j) e, each j)))))
 
   pub keyless : (f k : ℕ) → k < n → ((j : ℕ) → In j (K f) → ⊥) → In f N → (d : Gathered) → In f ((getD ((plan n K N order) .at-key) k d) .originals)
   keyless f k l none live d = subst (λ (g : Gathered). In f (g .originals)) (sym (gathered-at k l d)) (keyless-at f k l none live)

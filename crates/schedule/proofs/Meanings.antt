@@ -13,7 +13,8 @@ use lib.ListN.{length}
 use Rattle.schedule.specs.Count.{count, In, mem}
 use Rattle.schedule.specs.Pass.{touches, ClosedFactor}
 use Rattle.schedule.specs.Gather.{popped, under, keysLast, uncovered}
-use Rattle.schedule.proofs.Counts.{and-i, and-no-l, and-no-r, not-not, in-mem, any-some, any-of, any-none, keep-yes, keep-no, rising-yes, rising-no, rising-in}
+use Rattle.schedule.proofs.Counts.{and-i, and-no-l, and-no-r, not-not, in-mem, any-some, any-of, any-none, keep-yes, keep-no, rising-yes}
+use Rattle.schedule.proofs.Counts.{rising-no, rising-in}
 
 -- ---- a list touches the cleared keys exactly if one of its keys is among them
 pub touches-some : (cl keys : List ℕ) → T (touches cl keys) → (c : ℕ) × List·Memᴰ c keys × In c cl
@@ -51,7 +52,8 @@ own-never n k keys = rising-no n (λ j. mem j keys && not (eqb j k)) k (and-no-r
 
 pub last-once : (n k : ℕ) (keys : List ℕ) (j : ℕ) → j < n → In j keys → j ≢ k → count j (keysLast n k keys) ≡ 1
 unfolding keysLast
-last-once n k keys j l h ne = rising-yes n (λ i. mem i keys && not (eqb i k)) j l (and-i (mem j keys) (not (eqb j k)) (lt→ltb 0 (count j keys) h) (not-T (eqb j k) (λ t. ne (eqb→eq j k t))))
+last-once n k keys j l h ne = rising-yes n (λ i. mem i keys && not (eqb i k)) j l
+    (and-i (mem j keys) (not (eqb j k)) (lt→ltb 0 (count j keys) h) (not-T (eqb j k) (λ t. ne (eqb→eq j k t))))
 
 pub last-none : (n k : ℕ) (keys : List ℕ) (j : ℕ) → T (not (mem j keys)) → count j (keysLast n k keys) ≡ 0
 unfolding keysLast

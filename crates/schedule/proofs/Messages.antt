@@ -1,4 +1,5 @@
--- What whoever carries out a pass relies on: the keys of a message's slots are its kept and its cleared keys, and these are apart; its slots are live originals and older messages. Assumes nothing.
+-- What whoever carries out a pass relies on: the keys of a message's slots are its kept and its cleared keys, and these are apart; its slots are live
+-- originals and older messages. Assumes nothing.
 use mathlib.Core.Path.{_≡_, refl, ap, subst}
 use mathlib.Core.Logic.{_≢_, _⊎_, inl, inr}
 use mathlib.Core.Bool.{not, _&&_}
@@ -10,9 +11,11 @@ use lib.Dec.{ltb→lt, lt→ltb}
 use lib.ListN.{length, length-append, length-reverse, List·getD-append}
 use lib.Seq.{getD-append-seam}
 use Rattle.schedule.specs.Count.{hit, count, In, mem, keep, joined, from, rising}
-use Rattle.schedule.specs.Pass.{Slot, original, closed, ClosedFactor, State, noMessage, at, keysOf, Walked, walk, touches, coupled, stays, append, sending, closing, step, after, full-pass}
+use Rattle.schedule.specs.Pass.{Slot, original, closed, ClosedFactor, State, noMessage, at, keysOf, Walked, walk, touches, coupled, stays}
+use Rattle.schedule.specs.Pass.{append, sending, closing, step, after, full-pass}
 use Rattle.schedule.specs.Gather.{leaves, alive-messages, alive-among, keysLast, uncovered, gathering, gatherAt, Gathered}
-use Rattle.schedule.proofs.Counts.{and-l, and-i, count-cons, count-nil, count-append, count-reverse, count-joined, hit-same, hit-cases, sum-member, rising-yes, rising-in, in-mem}
+use Rattle.schedule.proofs.Counts.{and-l, and-i, count-cons, count-nil, count-append, count-reverse, count-joined, hit-same, hit-cases}
+use Rattle.schedule.proofs.Counts.{sum-member, rising-yes, rising-in, in-mem}
 use Rattle.schedule.proofs.Meanings.{uncovered-in, own-never, last-once, last-in}
 use Rattle.schedule.proofs.Walks.{walk-taken}
 use Rattle.schedule.proofs.Trees.{Older}
@@ -32,10 +35,12 @@ pub record Tidy (n : ℕ) (K : ℕ → List ℕ) (N : List ℕ) (ms : List Close
   pub originals : (i : ℕ) → List·Memᴰ (original i) (m .content) → In i N
 
 -- among more originals it holds too
-pub tidy-more : {n : ℕ} {K : ℕ → List ℕ} {N N′ : List ℕ} {ms : List ClosedFactor} {m : ClosedFactor} → ((i : ℕ) → In i N → In i N′) → Tidy n K N ms m → Tidy n K N′ ms m
+pub tidy-more : {n : ℕ} {K : ℕ → List ℕ} {N N′ : List ℕ} {ms : List ClosedFactor} {m : ClosedFactor} → ((i : ℕ) → In i N → In i N′) → Tidy n K N ms m
+    → Tidy n K N′ ms m
 tidy-more more t = record { apart = t .apart; low = t .low; keyed = t .keyed; originals = λ i h. more i (t .originals i h) }
 
-module _ (n : ℕ) (K : ℕ → List ℕ) (N P : List ℕ) (st : State) (k : ℕ) (once : (j : ℕ) → count j (k ∷ P) ≤ 1) (below : (j : ℕ) → In j (k ∷ P) → j < n) (run : Run K N P st) where
+module _ (n : ℕ) (K : ℕ → List ℕ) (N P : List ℕ) (st : State) (k : ℕ) (once : (j : ℕ) → count j (k ∷ P) ≤ 1) (below : (j : ℕ) → In j (k ∷ P) → j < n)
+    (run : Run K N P st) where
   abbrev ms : List ClosedFactor
   ms = st .messages
 
@@ -75,7 +80,8 @@ module _ (n : ℕ) (K : ℕ → List ℕ) (N P : List ℕ) (st : State) (k : ℕ
       S.inside n K N κ (lvT ms) (λ i. refl) (λ i. refl) P (st .active-keys) (gone ms) (st .active) k once below (run .inv) s (t .0) (t .1) x h
 
   kept-active : (x : ℕ) → In x kept → In x ak2
-  kept-active x h = ltb→lt 0 (count x ak2) (and-l (mem x ak2) (mem x (joined κ (w .taken))) (rising-in n (λ j. mem j ak2 && mem j (joined κ (w .taken))) x h .0))
+  kept-active x h = ltb→lt 0 (count x ak2) (and-l (mem x ak2) (mem x (joined κ (w .taken)))
+      (rising-in n (λ j. mem j ak2 && mem j (joined κ (w .taken))) x h .0))
 
   apart : (x : ℕ) → count x cl + count x kept ≤ 1
   apart x = go (decLt 0 (count x kept))
@@ -153,7 +159,8 @@ module _ (n : ℕ) (K : ℕ → List ℕ) (N P : List ℕ) (st : State) (k : ℕ
     where
       go : (v : List ℕ) → cl ≡ v → All (sending n K (length P) st ak2 v .messages)
       go [] e = all
-      go (c ∷ cs) e = subst (λ (v : List ℕ). All (append n K (length P) st ak2 v (walk (λ s. touches v (κ s)) (length (st .active)) (st .active)) .messages)) e (extended all)
+      go (c ∷ cs) e = subst (λ (v : List ℕ). All (append n K (length P) st ak2 v
+          (walk (λ s. touches v (κ s)) (length (st .active)) (st .active)) .messages)) e (extended all)
 
 tidied : (n : ℕ) (K : ℕ → List ℕ) (N P : List ℕ) → ((j : ℕ) → count j P ≤ 1) → ((j : ℕ) → In j P → j < n) → (j : ℕ) → j < length (after n K N P .messages)
     → Tidy n K N (after n K N P .messages) (at (after n K N P .messages) j)
@@ -169,7 +176,8 @@ step-most : (n : ℕ) (K : ℕ → List ℕ) (t k : ℕ) (st : State) → length
 unfolding step closing sending append
 step-most n K t k st = go (rising n (λ j. mem j (k ∷ st .active-keys) && not (stays k (coupled K (st .messages) (k ∷ st .active-keys) (st .active)) j)))
   where
-    go : (v : List ℕ) → length (sending n K t st (keep (stays k (coupled K (st .messages) (k ∷ st .active-keys) (st .active))) (k ∷ st .active-keys)) v .messages) ≤ length (st .messages) + 1
+    go : (v : List ℕ) → length (sending n K t st (keep (stays k (coupled K (st .messages) (k ∷ st .active-keys) (st .active))) (k ∷ st .active-keys))
+        v .messages) ≤ length (st .messages) + 1
     go [] = omega arith
     go (c ∷ cs) = simp length-append (omega arith)
 
@@ -216,8 +224,16 @@ pub record Settled (n : ℕ) (K : ℕ → List ℕ) (N : List ℕ) (fw bw : List
   pub originals : (i : ℕ) → In i (g .originals) → In i N × ((x : ℕ) → In x (K i) → 1 ≤ count x (g .last) + count x (k ∷ []))
 
 -- among more originals it holds too
-pub settled-more : {n : ℕ} {K : ℕ → List ℕ} {N N′ : List ℕ} {fw bw : List ClosedFactor} {k : ℕ} {g : Gathered} → ((i : ℕ) → In i N → In i N′) → Settled n K N fw bw k g → Settled n K N′ fw bw k g
-settled-more more s = record { apart = s .apart; low = s .low; forward = s .forward; backward = s .backward; originals = λ i h. (more i (s .originals i h .0), s .originals i h .1) }
+pub settled-more : {n : ℕ} {K : ℕ → List ℕ} {N N′ : List ℕ} {fw bw : List ClosedFactor} {k : ℕ} {g : Gathered} → ((i : ℕ) → In i N → In i N′)
+    → Settled n K N fw bw k g → Settled n K N′ fw bw k g
+settled-more more s = record {
+  apart = s .apart;
+  low = s .low;
+  forward = s .forward;
+  backward = s .backward;
+  originals = λ i h.
+      (more i (s .originals i h .0), s .originals i h .1);
+}
 
 hit-most : (x y : ℕ) → hit x y ≤ 1
 hit-most x y = go (hit-cases x y)
@@ -279,7 +295,11 @@ module _ (n : ℕ) (K : ℕ → List ℕ) (N : List ℕ) (fw bw : List ClosedFac
       all = joined (λ j. at fw j .kept) fa ++ joined (λ j. at bw j .kept) ba ++ joined K un
 
       parts : (y : ℕ) → count y all ≡ count y (joined (λ j. at fw j .kept) fa) + (count y (joined (λ j. at bw j .kept) ba) + count y (joined K un))
-      parts y = omega (arith, count-append y (joined (λ j. at fw j .kept) fa ++ joined (λ j. at bw j .kept) ba) (joined K un), count-append y (joined (λ j. at fw j .kept) fa) (joined (λ j. at bw j .kept) ba))
+      parts y = omega (
+        arith,
+        count-append y (joined (λ j. at fw j .kept) fa ++ joined (λ j. at bw j .kept) ba) (joined K un),
+        count-append y (joined (λ j. at fw j .kept) fa) (joined (λ j. at bw j .kept) ba),
+      )
 
       last-low : (x : ℕ) → In x (keysLast n k all) → x < n
       last-low x h = last-in n k all x h .0

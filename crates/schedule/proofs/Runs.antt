@@ -3,7 +3,8 @@
 use mathlib.Core.Path.{_≡_, refl, sym, ap, subst, _∙_}
 use mathlib.Core.Logic.{_≢_, _⊎_, inl, inr}
 use mathlib.Core.Bool.{not, _&&_}
-use mathlib.Core.List.{List, [], _∷_, _++_, map, append-nil, append-assoc, List·Memᴰ, List·Memᴰ·append-cases, List·Memᴰ·eq-of-singleton, List·Memᴰ·not-nil, List·Memᴰ·cases-cons}
+use mathlib.Core.List.{List, [], _∷_, _++_, map, append-nil, append-assoc, List·Memᴰ, List·Memᴰ·append-cases, List·Memᴰ·eq-of-singleton}
+use mathlib.Core.List.{List·Memᴰ·not-nil, List·Memᴰ·cases-cons}
 use Prim.Native.Nat.{ℕ, suc, _+_, _≤_, _<_}
 use native.Mathlib.Nat.{zero-add}
 use native.Mathlib.Omega.{arith}
@@ -11,7 +12,8 @@ use native.Mathlib.Decide.{ℕ-discrete, decLt}
 use lib.ListN.{length, length-append, List·getD-append, List·getD-eq-default}
 use lib.Seq.{getD-append-seam}
 use Rattle.schedule.specs.Count.{hit, count, In, mem, keep, sum, joined, from, rising}
-use Rattle.schedule.specs.Pass.{Slot, original, closed, ClosedFactor, State, noMessage, at, keysOf, Walked, walk, touches, coupled, stays, append, sending, closing, step, after}
+use Rattle.schedule.specs.Pass.{Slot, original, closed, ClosedFactor, State, noMessage, at, keysOf, Walked, walk, touches, coupled, stays}
+use Rattle.schedule.specs.Pass.{append, sending, closing, step, after}
 use Rattle.schedule.specs.Gather.{originalsIn, messagesIn}
 use Rattle.schedule.proofs.Counts.{count-cons, count-nil, count-append, mem-in, in-mem, sum-append, sum-member, sum-same}
 use Rattle.schedule.proofs.Sums.{sum-perm, sum-from-snoc, from-mem, joined-append}
@@ -41,11 +43,14 @@ pub record Run (K : ℕ → List ℕ) (N : List ℕ) (P : List ℕ) (st : State)
   pub inv : Inv K N (keysOf K (st .messages)) (lvT (st .messages)) P (st .active-keys) (gone (st .messages)) (st .active)
   pub older : Older (st .messages)
   -- each message is active, or in the content of one other
-  pub place : (c : ℕ) → count c (messagesIn (st .active)) + sum (λ m. count c (messagesIn (m .content))) (st .messages) ≡ count c (from 0 (length (st .messages)))
+  pub place : (c : ℕ) → count c (messagesIn (st .active)) + sum (λ m. count c (messagesIn (m .content))) (st .messages)
+      ≡ count c (from 0 (length (st .messages)))
   -- under the active messages stand all messages, each once
-  pub whole : (h : ℕ → ClosedFactor → List ℕ) (x : ℕ) → sum (λ c. count x (all h (st .messages) c)) (messagesIn (st .active)) ≡ sum (λ j. count x (h j (at (st .messages) j))) (from 0 (length (st .messages)))
+  pub whole : (h : ℕ → ClosedFactor → List ℕ) (x : ℕ) → sum (λ c. count x (all h (st .messages) c)) (messagesIn (st .active))
+      ≡ sum (λ j. count x (h j (at (st .messages) j))) (from 0 (length (st .messages)))
   -- an original that touches a cleared key is a leaf under the message that clears it
-  pub covers : (j : ℕ) → j < length (st .messages) → (f : ℕ) → In f N → (x : ℕ) → In x (K f) → In x ((at (st .messages) j) .cleared) → In f (all leafH (st .messages) j)
+  pub covers : (j : ℕ) → j < length (st .messages) → (f : ℕ) → In f N → (x : ℕ) → In x (K f) → In x ((at (st .messages) j) .cleared)
+      → In f (all leafH (st .messages) j)
   -- under a message no message stands twice
   pub small : (j : ℕ) → j < length (st .messages) → (x : ℕ) → count x (all oneH (st .messages) j) ≤ count x (from 0 (length (st .messages)))
   pub steps : (j : ℕ) → j < length (st .messages) → (at (st .messages) j) .step < length P
@@ -63,9 +68,16 @@ msgs-count c (original i ∷ l) = omega (arith, msgs-count c l, count-nil c)
 msgs-count c (closed j ∷ l) = omega (arith, msgs-count c l, count-cons c j (messagesIn l), count-cons c j [], count-nil c)
 
 pub msgs-in : {c : ℕ} {l : List Slot} → List·Memᴰ (closed c) l → In c (messagesIn l)
-msgs-in {c} {l} m = omega (arith, msgs-count c l, sum-member (λ s. count c (messagesIn (s ∷ []))) m, count-cons c c [], Rattle.schedule.proofs.Counts.hit-same c)
+msgs-in {c} {l} m = omega (
+  arith,
+  msgs-count c l,
+  sum-member (λ s. count c (messagesIn (s ∷ []))) m,
+  count-cons c c [],
+  Rattle.schedule.proofs.Counts.hit-same c,
+)
 
-pub parts : (f : ℕ) (ms : List ClosedFactor) (l : List Slot) → count f (originalsIn l) + sum (λ c. count f (all leafH ms c)) (messagesIn l) ≡ sum (λ s. count f (lvT ms s)) l
+pub parts : (f : ℕ) (ms : List ClosedFactor) (l : List Slot) → count f (originalsIn l) + sum (λ c. count f (all leafH ms c)) (messagesIn l)
+    ≡ sum (λ s. count f (lvT ms s)) l
 unfolding sum
 parts f ms [] = omega (arith, count-nil f)
 parts f ms (original i ∷ l) = omega (arith, parts f ms l, count-cons f i (originalsIn l), count-cons f i [], count-nil f)
@@ -88,7 +100,8 @@ count-from-snoc c m = omega (arith, count-sum c (from 0 (suc m)), count-sum c (f
 pub from-lt : (c m : ℕ) → 1 ≤ count c (from 0 m) → c < m
 from-lt c m h = omega (arith, (from-mem c 0 m (in-mem (from 0 m) h)) .1)
 
-module _ (n : ℕ) (K : ℕ → List ℕ) (N P : List ℕ) (st : State) (k : ℕ) (once : (j : ℕ) → count j (k ∷ P) ≤ 1) (below : (j : ℕ) → In j (k ∷ P) → j < n) (run : Run K N P st) where
+module _ (n : ℕ) (K : ℕ → List ℕ) (N P : List ℕ) (st : State) (k : ℕ) (once : (j : ℕ) → count j (k ∷ P) ≤ 1) (below : (j : ℕ) → In j (k ∷ P) → j < n)
+    (run : Run K N P st) where
   abbrev ms : List ClosedFactor
   ms = st .messages
 
@@ -189,29 +202,39 @@ module _ (n : ℕ) (K : ℕ → List ℕ) (N P : List ℕ) (st : State) (k : ℕ
       sum-append (λ c. count x (all h ms′ c)) (messagesIn (w .left)) (length ms ∷ []),
       all-new h ms m (run .older) older′ x,
       run .whole h x,
-      sum-same (λ c. count x (all h ms′ c)) (λ c. count x (all h ms c)) (messagesIn (w .left)) (λ c i. ap (count x) (all-old h ms (m ∷ []) (run .older) c (bound c (omega (arith, mem-in i, walked c))))),
+      sum-same (λ c. count x (all h ms′ c)) (λ c. count x (all h ms c)) (messagesIn (w .left))
+          (λ c i. ap (count x) (all-old h ms (m ∷ []) (run .older) c (bound c (omega (arith, mem-in i, walked c))))),
       both h x,
       ap (λ (y : ℕ). sum (λ j. count x (h j (at ms′ j))) (from 0 y)) longer,
       sum-from-snoc (λ j. count x (h j (at ms′ j))) 0 (length ms),
       ap (λ (y : ℕ). count x (h y (at ms′ y))) (zero-add (length ms)),
       ap (λ (e : ClosedFactor). count x (h (length ms) e)) new-at,
-      sum-same (λ j. count x (h j (at ms′ j))) (λ j. count x (h j (at ms j))) (from 0 (length ms)) (λ j i. ap (λ (e : ClosedFactor). count x (h j e)) (old-at j (from-lt j (length ms) (mem-in i)))),
+      sum-same (λ j. count x (h j (at ms′ j))) (λ j. count x (h j (at ms j))) (from 0 (length ms))
+          (λ j i. ap (λ (e : ClosedFactor). count x (h j e)) (old-at j (from-lt j (length ms) (mem-in i)))),
     );
     covers = λ j l f q x r t. covering j f q x r t (index j l);
     small = λ j l x. little j x (index j l);
     steps = λ j l. stepping j (index j l);
   }
     where
-      both : (h : ℕ → ClosedFactor → List ℕ) (x : ℕ) → sum (λ c. count x (all h ms c)) (messagesIn (w .taken)) + sum (λ c. count x (all h ms c)) (messagesIn (w .left)) ≡ sum (λ c. count x (all h ms c)) (messagesIn (st .active))
+      both : (h : ℕ → ClosedFactor → List ℕ) (x : ℕ) → sum (λ c. count x (all h ms c)) (messagesIn (w .taken)) + sum (λ c. count x (all h ms c))
+          (messagesIn (w .left)) ≡ sum (λ c. count x (all h ms c)) (messagesIn (st .active))
       both h x = omega (
         arith,
         sum-append (λ c. count x (all h ms c)) (messagesIn (w .taken)) (messagesIn (w .left)),
-        sum-perm (λ c. count x (all h ms c)) (messagesIn (w .taken) ++ messagesIn (w .left)) (messagesIn (st .active)) (λ c. count-append c (messagesIn (w .taken)) (messagesIn (w .left)) ∙ walked c),
+        sum-perm (λ c. count x (all h ms c)) (messagesIn (w .taken) ++ messagesIn (w .left)) (messagesIn (st .active))
+            (λ c. count-append c (messagesIn (w .taken)) (messagesIn (w .left)) ∙ walked c),
       )
 
       little : (j x : ℕ) → (j < length ms) ⊎ (j ≡ length ms) → count x (all oneH ms′ j) ≤ count x (from 0 (length ms′))
       little j x (inl l) =
-          omega (arith, ap (count x) (all-old oneH ms (m ∷ []) (run .older) j l), run .small j l x, count-from-snoc x (length ms), ap (λ (y : ℕ). count x (from 0 y)) longer)
+          omega (
+            arith,
+            ap (count x) (all-old oneH ms (m ∷ []) (run .older) j l),
+            run .small j l x,
+            count-from-snoc x (length ms),
+            ap (λ (y : ℕ). count x (from 0 y)) longer,
+          )
       little j x (inr e) =
           omega (
             arith,
@@ -229,7 +252,8 @@ module _ (n : ℕ) (K : ℕ → List ℕ) (N P : List ℕ) (st : State) (k : ℕ
       covering : (j f : ℕ) → In f N → (x : ℕ) → In x (K f) → In x ((at ms′ j) .cleared) → (j < length ms) ⊎ (j ≡ length ms) → In f (all leafH ms′ j)
       covering j f q x r t (inl l) = rw (all-old leafH ms (m ∷ []) (run .older) j l) (run .covers j l f q x r (rw (old-at j l) at t))
       covering j f q x r t (inr e) =
-          rw e (S.covers n K N κ (lvT ms) (λ i. refl) (λ i. refl) P (st .active-keys) (gone ms) (st .active) k once below (run .inv) (length (st .active)) (omega arith)
+          rw e (S.covers n K N κ (lvT ms) (λ i. refl) (λ i. refl) P (st .active-keys) (gone ms) (st .active) k once below (run .inv)
+          (length (st .active)) (omega arith)
           (all leafH ms′ (length ms)) ls-is f q x r (rw (e, new-at) at t))
 
       stepping : (j : ℕ) → (j < length ms) ⊎ (j ≡ length ms) → (at ms′ j) .step < length (k ∷ P)
@@ -242,7 +266,8 @@ module _ (n : ℕ) (K : ℕ → List ℕ) (N P : List ℕ) (st : State) (k : ℕ
     where
       go : (v : List ℕ) → cl ≡ v → Run K N (k ∷ P) (sending n K (length P) st ak2 v)
       go [] e = record {
-        inv = S.silent n K N κ (lvT ms) (λ i. refl) (λ i. refl) P (st .active-keys) (gone ms) (st .active) k once below (run .inv) (λ j. omega (arith, ap (count j) e, count-nil j));
+        inv = S.silent n K N κ (lvT ms) (λ i. refl) (λ i. refl) P (st .active-keys) (gone ms) (st .active) k once below (run .inv)
+            (λ j. omega (arith, ap (count j) e, count-nil j));
         older = run .older;
         place = run .place;
         whole = run .whole;
@@ -250,7 +275,8 @@ module _ (n : ℕ) (K : ℕ → List ℕ) (N P : List ℕ) (st : State) (k : ℕ
         small = run .small;
         steps = λ j l. omega (arith, run .steps j l);
       }
-      go (c ∷ cs) e = subst (λ (v : List ℕ). Run K N (k ∷ P) (append n K (length P) st ak2 v (walk (λ s. touches v (κ s)) (length (st .active)) (st .active)))) e sent
+      go (c ∷ cs) e = subst (λ (v : List ℕ). Run K N (k ∷ P) (append n K (length P) st ak2 v
+          (walk (λ s. touches v (κ s)) (length (st .active)) (st .active)))) e sent
 
 -- the start
 lv-start : (ms : List ClosedFactor) (f : ℕ) (N : List ℕ) → sum (λ s. count f (lvT ms s)) (map original N) ≡ count f N
@@ -297,14 +323,17 @@ pub running : (n : ℕ) (K : ℕ → List ℕ) (N P : List ℕ) → ((j : ℕ) �
 unfolding after
 running n K N [] once below = start n K N
 running n K N (k ∷ P) once below =
-    next n K N P (after n K N P) k once below (running n K N P (λ j. omega (arith, once j, count-cons j k P)) (λ j h. below j (omega (arith, count-cons j k P))))
+    next n K N P (after n K N P) k once below (running n K N P (λ j. omega (arith, once j, count-cons j k P))
+    (λ j h. below j (omega (arith, count-cons j k P))))
 
 -- why a key other than the last one processed stays active
-pub stays-why : (n : ℕ) (K : ℕ → List ℕ) (N P : List ℕ) (k : ℕ) → ((j : ℕ) → count j (k ∷ P) ≤ 1) → ((j : ℕ) → In j (k ∷ P) → j < n) → (j : ℕ) → In j ((after n K N (k ∷ P)) .active-keys) → j ≢ k
+pub stays-why : (n : ℕ) (K : ℕ → List ℕ) (N P : List ℕ) (k : ℕ) → ((j : ℕ) → count j (k ∷ P) ≤ 1) → ((j : ℕ) → In j (k ∷ P) → j < n) → (j : ℕ)
+    → In j ((after n K N (k ∷ P)) .active-keys) → j ≢ k
     → (f : ℕ) × In f N × In j (K f) × ((i : ℕ) × In i (K f) × (count i (k ∷ P) ≡ 0))
 unfolding after step closing sending coupled coupledBy keysOf
 stays-why n K N P k once below j h ne =
-    S.why n K N (keysOf K (st .messages)) (lvT (st .messages)) (λ i. refl) (λ i. refl) P (st .active-keys) (gone (st .messages)) (st .active) k once below (run .inv) j
+    S.why n K N (keysOf K (st .messages)) (lvT (st .messages)) (λ i. refl) (λ i. refl) P (st .active-keys) (gone (st .messages)) (st .active) k once
+    below (run .inv) j
     (rw (keys-are (cl n K N P st k once below run)) at h) ne
   where
     st : State
@@ -325,7 +354,8 @@ later-step : (n : ℕ) (K : ℕ → List ℕ) (t k : ℕ) (st : State) → Later
 unfolding step closing Later append
 later-step n K t k st = go (rising n (λ j. mem j (k ∷ st .active-keys) && not (stays k (coupled K (st .messages) (k ∷ st .active-keys) (st .active)) j)))
   where
-    go : (v : List ℕ) → Later t (st .messages) ((sending n K t st (keep (stays k (coupled K (st .messages) (k ∷ st .active-keys) (st .active))) (k ∷ st .active-keys)) v) .messages)
+    go : (v : List ℕ) → Later t (st .messages) ((sending n K t st
+        (keep (stays k (coupled K (st .messages) (k ∷ st .active-keys) (st .active))) (k ∷ st .active-keys)) v) .messages)
     go [] = ([], sym (append-nil (st .messages)), λ e m. absurd (List·Memᴰ·not-nil m))
     go (c ∷ cs) = (_, refl, λ e m. rw (List·Memᴰ·eq-of-singleton m) (omega arith))
 

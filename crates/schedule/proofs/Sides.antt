@@ -13,23 +13,33 @@ use Rattle.schedule.specs.Count.{count, In, mem, putIf, keep, sum, joine
 use Rattle.schedule.specs.Pass.{Slot, original, closed, ClosedFactor, State, noMessage, at, keysOf, coupled, stays, append, sending, closing, step, after}
 use Rattle.schedule.specs.Gather.{originalsIn, messagesIn, upTo, within, alive-among, alive-messages, popped, under, leaves}
 use Rattle.schedule.specs.Once.{behind, AllUnder, clearedBy, Covers}
-use Rattle.schedule.proofs.Counts.{sure, and-l, and-i, and-no-r, or-l, not-not, hit-same, count-cons, count-nil, count-append, count-joined, mem-in, in-mem, sum-some, sum-same, from-in, from-above, keep-yes, rising-yes, rising-no, rising-in}
+use Rattle.schedule.proofs.Counts.{sure, and-l, and-i, and-no-r, or-l, not-not, hit-same, count-cons, count-nil, count-append, count-joined}
+use Rattle.schedule.proofs.Counts.{mem-in, in-mem, sum-some, sum-same, from-in, from-above, keep-yes, rising-yes, rising-no, rising-in}
 use Rattle.schedule.proofs.Sums.{sum-le, sum-perm, sum-table, joined-append, length-sum, length-from}
 use Rattle.schedule.proofs.Meanings.{under-popped}
 use Rattle.schedule.proofs.Trees.{Older, all, all-old, heavy, heavy-one, turns-suffice, stack-all}
 use Rattle.schedule.proofs.Runs.{leafH, oneH, clearH, gone, Run, parts, singles, from-lt, running, stays-why, Later, later}
 
 -- ---- the stack gives what lies under
-module _ (full : List ClosedFactor) (older : Older full) (small : (j : ℕ) → j < length full → (x : ℕ) → count x (all oneH full j) ≤ count x (from 0 (length full))) where
+module _ (full : List ClosedFactor) (older : Older full) (small : (j : ℕ) → j < length full → (x : ℕ)
+    → count x (all oneH full j) ≤ count x (from 0 (length full))) where
   pub light : (j : ℕ) → j < length full → heavy full (j ∷ []) ≤ length full
-  light j l = omega (arith, heavy-one full j, length-sum (all oneH full j), sum-le (λ x. 1) (all oneH full j) (from 0 (length full)) (small j l), length-sum (from 0 (length full)), length-from 0 (length full))
+  light j l = omega (
+    arith,
+    heavy-one full j,
+    length-sum (all oneH full j),
+    sum-le (λ x. 1) (all oneH full j) (from 0 (length full)) (small j l),
+    length-sum (from 0 (length full)),
+    length-from 0 (length full),
+  )
 
   all-opened : (j more : ℕ) → j < length full → popped full (length full + more) (j ∷ []) ≡ under full j
   all-opened j more l = turns-suffice full older (length full) (length full + more) (j ∷ []) (light j l) (omega arith) ∙ sym (under-popped full j)
 
   by-stack : (h : ℕ → ClosedFactor → List ℕ) (j : ℕ) → j < length full → joined (λ i. h i (at full i)) (under full j) ≡ all h full j
   unfolding joined
-  by-stack h j l = ap (joined (λ i. h i (at full i))) (under-popped full j) ∙ stack-all h full older (length full) (j ∷ []) (light j l) ∙ append-nil (all h full j)
+  by-stack h j l = ap (joined (λ i. h i (at full i))) (under-popped full j) ∙ stack-all h full older (length full) (j ∷ []) (light j l)
+      ∙ append-nil (all h full j)
 
   pub leaves-is : (j : ℕ) → j < length full → leaves full j ≡ all leafH full j
   unfolding leaves
@@ -106,7 +116,8 @@ module _ {A : Type 0} where
   at-right d (x ∷ a) b zero g h = absurd (omega arith)
   at-right d (x ∷ a) b (suc j) g h = at-right d a b j (omega arith) (omega arith)
 
-module _ (K : ℕ → List ℕ) (N P : List ℕ) (k : ℕ) (st : State) (run : Run K N (k ∷ P) st) (more : List ClosedFactor) (far : (e : ClosedFactor) → List·Memᴰ e more → suc (length P) ≤ e .step) where
+module _ (K : ℕ → List ℕ) (N P : List ℕ) (k : ℕ) (st : State) (run : Run K N (k ∷ P) st) (more : List ClosedFactor)
+    (far : (e : ClosedFactor) → List·Memᴰ e more → suc (length P) ≤ e .step) where
   abbrev ms : List ClosedFactor
   ms = st .messages
 
@@ -124,7 +135,8 @@ module _ (K : ℕ → List ℕ) (N P : List ℕ) (k : ℕ) (st : State) (run : R
 
   within-is : within r (ms ++ more) ≡ joined (λ m. messagesIn (m .content)) ms
   unfolding within
-  within-is = ap (joined (λ m. messagesIn (m .content))) (keep-append (upTo r) ms more ∙ ap₂ _++_ (keep-all (upTo r) ms early) (keep-none (upTo r) more late) ∙ append-nil ms)
+  within-is = ap (joined (λ m. messagesIn (m .content))) (keep-append (upTo r) ms more
+      ∙ ap₂ _++_ (keep-all (upTo r) ms early) (keep-none (upTo r) more late) ∙ append-nil ms)
 
   within-sum : (c : ℕ) → count c (within r (ms ++ more)) ≡ sum (λ m. count c (messagesIn (m .content))) ms
   within-sum c = ap (count c) within-is ∙ count-joined c (λ m. messagesIn (m .content)) ms
@@ -141,13 +153,16 @@ module _ (K : ℕ → List ℕ) (N P : List ℕ) (k : ℕ) (st : State) (run : R
       beyond h zero e = refl
       beyond h (suc x) e =
           let t = rising-in (length (ms ++ more)) test c (omega arith) in
-          absurd (T-not (upTo r (at (ms ++ more) c)) (late (at (ms ++ more) c) (at-right noMessage ms more c (omega arith) (t .1))) (and-l (upTo r (at (ms ++ more) c)) (not (mem c (within r (ms ++ more)))) (t .0)))
+          absurd (T-not (upTo r (at (ms ++ more) c)) (late (at (ms ++ more) c) (at-right noMessage ms more c (omega arith) (t .1)))
+          (and-l (upTo r (at (ms ++ more) c)) (not (mem c (within r (ms ++ more)))) (t .0)))
 
-      go : Dec (c < length ms) → T (mem c (within r (ms ++ more))) ⊎ T (not (mem c (within r (ms ++ more)))) → count c (rising (length (ms ++ more)) test) ≡ count c (messagesIn (st .active))
+      go : Dec (c < length ms) → T (mem c (within r (ms ++ more))) ⊎ T (not (mem c (within r (ms ++ more))))
+          → count c (rising (length (ms ++ more)) test) ≡ count c (messagesIn (st .active))
       go (yes l) (inl t) =
           omega (
             arith,
-            rising-no (length (ms ++ more)) test c (and-no-r (upTo r (at (ms ++ more) c)) (not (mem c (within r (ms ++ more)))) (not-not (mem c (within r (ms ++ more))) t)),
+            rising-no (length (ms ++ more)) test c (and-no-r (upTo r (at (ms ++ more) c)) (not (mem c (within r (ms ++ more))))
+                (not-not (mem c (within r (ms ++ more))) t)),
             ltb→lt 0 (count c (within r (ms ++ more))) t,
             within-sum c,
             run .place c,
@@ -157,7 +172,8 @@ module _ (K : ℕ → List ℕ) (N P : List ℕ) (k : ℕ) (st : State) (run : R
           omega (
             arith,
             rising-yes (length (ms ++ more)) test c (omega (arith, length-append ms more))
-                (and-i (upTo r (at (ms ++ more) c)) (not (mem c (within r (ms ++ more)))) (rw (List·getD-append ms more noMessage c l) (early (at ms c) (at-mem noMessage ms c l))) t),
+                (and-i (upTo r (at (ms ++ more) c)) (not (mem c (within r (ms ++ more))))
+                (rw (List·getD-append ms more noMessage c l) (early (at ms c) (at-mem noMessage ms c l))) t),
             nltb→le 0 (count c (within r (ms ++ more))) t,
             within-sum c,
             run .place c,
@@ -192,12 +208,20 @@ pub record Side (K : ℕ → List ℕ) (N P : List ℕ) (k : ℕ) (full : List C
 count-joined² : {A : Type 0} (x : ℕ) (g : ℕ → List ℕ) (h : A → List ℕ) (l : List A) → count x (joined g (joined h l)) ≡ sum (λ c. count x (joined g (h c))) l
 unfolding joined sum
 count-joined² x g h [] = count-nil x
-count-joined² x g h (c ∷ l) = omega (arith, ap (count x) (joined-append g (h c) (joined h l)), count-append x (joined g (h c)) (joined g (joined h l)), count-joined² x g h l)
+count-joined² x g h (c ∷ l) = omega (
+  arith,
+  ap (count x) (joined-append g (h c) (joined h l)),
+  count-append x (joined g (h c)) (joined g (joined h l)),
+  count-joined² x g h l,
+)
 
-module _ (K : ℕ → List ℕ) (N P : List ℕ) (k : ℕ) (st : State) (run : Run K N (k ∷ P) st) (more : List ClosedFactor) (far : (e : ClosedFactor) → List·Memᴰ e more → suc (length P) ≤ e .step)
+module _ (K : ℕ → List ℕ) (N P : List ℕ) (k : ℕ) (st : State) (run : Run K N (k ∷ P) st) (more : List ClosedFactor)
+    (far : (e : ClosedFactor) → List·Memᴰ e more → suc (length P) ≤ e .step)
     (older : Older (st .messages ++ more))
-    (small : (j : ℕ) → j < length (st .messages ++ more) → (x : ℕ) → count x (all oneH (st .messages ++ more) j) ≤ count x (from 0 (length (st .messages ++ more))))
-    (full-covers : (j : ℕ) → j < length (st .messages ++ more) → (f : ℕ) → In f N → (x : ℕ) → In x (K f) → In x ((at (st .messages ++ more) j) .cleared) → In f (all leafH (st .messages ++ more) j))
+    (small : (j : ℕ) → j < length (st .messages ++ more) → (x : ℕ)
+    → count x (all oneH (st .messages ++ more) j) ≤ count x (from 0 (length (st .messages ++ more))))
+    (full-covers : (j : ℕ) → j < length (st .messages ++ more) → (f : ℕ) → In f N → (x : ℕ) → In x (K f)
+    → In x ((at (st .messages ++ more) j) .cleared) → In f (all leafH (st .messages ++ more) j))
     (own-k : In k (st .active-keys))
     (why-k : (j : ℕ) → In j (st .active-keys) → j ≢ k → (f : ℕ) × In f N × In j (K f) × ((i : ℕ) × In i (K f) × (count i (k ∷ P) ≡ 0))) where
   abbrev mz : List ClosedFactor
@@ -216,7 +240,8 @@ module _ (K : ℕ → List ℕ) (N P : List ℕ) (k : ℕ) (st : State) (run : R
   mz-full c l = omega (arith, length-append mz more)
 
   -- a sum over the gathered messages, as one over the active ones
-  over : (g h : ℕ → List ℕ) → ((c : ℕ) → c < length mz → g c ≡ h c) → (x : ℕ) → count x (joined g (alive-messages (length P) full)) ≡ sum (λ c. count x (h c)) (messagesIn (st .active))
+  over : (g h : ℕ → List ℕ) → ((c : ℕ) → c < length mz → g c ≡ h c) → (x : ℕ) → count x (joined g (alive-messages (length P) full))
+      ≡ sum (λ c. count x (h c)) (messagesIn (st .active))
   over g h e x =
       count-joined x g (alive-messages (length P) full)
       ∙ sum-same (λ c. count x (g c)) (λ c. count x (h c)) (alive-messages (length P) full) (λ c m. ap (count x) (e c (alive-lt c (mem-in m))))
@@ -246,7 +271,8 @@ module _ (K : ℕ → List ℕ) (N P : List ℕ) (k : ℕ) (st : State) (run : R
       ∙ sym (count-joined j (λ e. e .cleared) mz)
 
   behind-lt : (i : ℕ) → In i (behind full (alive-messages (length P) full)) → i < length full
-  behind-lt i h = from-lt i (length full) (go (sum-some (λ c. count i (under full c)) (alive-messages (length P) full) (omega (arith, count-joined i (under full) (alive-messages (length P) full)))))
+  behind-lt i h = from-lt i (length full) (go (sum-some (λ c. count i (under full c)) (alive-messages (length P) full)
+      (omega (arith, count-joined i (under full) (alive-messages (length P) full)))))
     where
       go : (c : ℕ) × List·Memᴰ c (alive-messages (length P) full) × (1 ≤ count i (under full c)) → 1 ≤ count i (from 0 (length full))
       go (c, m, q) = let l = mz-full c (alive-lt c (mem-in m)) in omega (arith, under-is full older small c i l, small c l i)
@@ -261,7 +287,11 @@ module _ (K : ℕ → List ℕ) (N P : List ℕ) (k : ℕ) (st : State) (run : R
     low = λ f h. go-low f (leaf-of f h);
     rest = λ f h z j q. (run .inv .node (original f) (origs-mem (st .active) (in-mem (originalsIn (st .active)) (omega (arith, whole-leaves f))))) .free j q;
     inner = λ j h. go-inner j (sum-some (λ c. count j ((at mz c) .kept)) (messagesIn (st .active))
-        (omega (arith, over (λ c. (at full c) .kept) (λ c. (at mz c) .kept) (λ c l. ap (λ (e : ClosedFactor). e .kept) (List·getD-append mz more noMessage c l)) j)));
+        (omega (
+          arith,
+          over (λ c. (at full c) .kept) (λ c. (at mz c) .kept)
+              (λ c l. ap (λ (e : ClosedFactor). e .kept) (List·getD-append mz more noMessage c l)) j,
+        )));
     why = why-k;
     cleared = cleared-sum;
     covers = λ i h f q x t u. let l = behind-lt i h in rw (leaves-is full older small i l) (full-covers i l f q x t u);

@@ -10,7 +10,9 @@ use lib.Dec.{T, eqb, ltb→lt, lt→ltb, nltb→le, eqb→eq, T-not}
 use lib.ListN.{length}
 use Rattle.schedule.specs.Count.{count, In, mem, keep, sum, joined, rising}
 use Rattle.schedule.specs.Pass.{Slot, original, closed, Walked, walk, outside, touches, keysIf, stays}
-use Rattle.schedule.proofs.Counts.{sure, and-l, and-r, and-i, and-no-l, and-no-r, or-r, or-e, not-not, un-not, hit-same, hit-eq, count-cons, count-nil, count-append, count-joined, in-mem, mem-in, sum-append, sum-some, sum-member, sum-same, any-some, any-none, keep-yes, keep-no, rising-yes, rising-no, rising-in}
+use Rattle.schedule.proofs.Counts.{sure, and-l, and-r, and-i, and-no-l, and-no-r, or-r, or-e, not-not, un-not, hit-same, hit-eq, count-cons}
+use Rattle.schedule.proofs.Counts.{count-nil, count-append, count-joined, in-mem, mem-in, sum-append, sum-some, sum-member, sum-same, any-some}
+use Rattle.schedule.proofs.Counts.{any-none, keep-yes, keep-no, rising-yes, rising-no, rising-in}
 use Rattle.schedule.proofs.Meanings.{touches-some, touches-of, touches-none}
 use Rattle.schedule.proofs.Walks.{walk-sum, walk-taken, walk-left}
 
@@ -60,7 +62,11 @@ module _ (n : ℕ) (K : ℕ → List ℕ) (N : List ℕ) (κ lv : Slot → List 
   split j = go (sure (stays k cp j)) (sure (mem j (k ∷ ak)))
     where
       go : T (stays k cp j) ⊎ T (not (stays k cp j)) → T (mem j (k ∷ ak)) ⊎ T (not (mem j (k ∷ ak))) → count j ak2 + count j cl ≡ count j (k ∷ ak)
-      go (inl t) d = omega (arith, keep-yes (stays k cp) j (k ∷ ak) t, rising-no n (λ i. mem i (k ∷ ak) && not (stays k cp i)) j (and-no-r (mem j (k ∷ ak)) (not (stays k cp j)) (not-not (stays k cp j) t)))
+      go (inl t) d = omega (
+        arith,
+        keep-yes (stays k cp) j (k ∷ ak) t,
+        rising-no n (λ i. mem i (k ∷ ak) && not (stays k cp i)) j (and-no-r (mem j (k ∷ ak)) (not (stays k cp j)) (not-not (stays k cp j) t)),
+      )
       go (inr t) (inl m) =
           let a : In j (k ∷ ak) = ltb→lt 0 (count j (k ∷ ak)) m in
           omega (
@@ -100,7 +106,8 @@ module _ (n : ℕ) (K : ℕ → List ℕ) (N : List ℕ) (κ lv : Slot → List 
       go : T (outside (k ∷ ak) (κ s)) ⊎ T (not (outside (k ∷ ak) (κ s))) → (c : ℕ) × List·Memᴰ c (κ s) × In c cl → In j (k ∷ ak)
       go (inl o) (c, i, u) =
           let r = rising-in n (λ i. mem i (k ∷ ak) && not (stays k cp i)) c u in
-          absurd (T-not (stays k cp c) (and-r (mem c (k ∷ ak)) (not (stays k cp c)) (r .0)) (or-r (eqb c k) (mem c cp) (lt→ltb 0 (count c cp) (couples s m o c (mem-in i)))))
+          absurd (T-not (stays k cp c) (and-r (mem c (k ∷ ak)) (not (stays k cp c)) (r .0))
+          (or-r (eqb c k) (mem c cp) (lt→ltb 0 (count c cp) (couples s m o c (mem-in i)))))
       go (inr o) u = ltb→lt 0 (count j (k ∷ ak)) (un-not (mem j (k ∷ ak)) (any-none (λ i. not (mem i (k ∷ ak))) (κ s) (in-mem (κ s) h) o))
 
   -- a slot that is left
@@ -206,7 +213,8 @@ module _ (n : ℕ) (K : ℕ → List ℕ) (N : List ℕ) (κ lv : Slot → List 
           go (suc x) e = absurd (no-left (sum-some (λ s. count f (lv s)) (w .left) (omega arith)))
 
       -- the invariant after a message
-      pub sent : (κ′ lv′ : Slot → List ℕ) (M : ℕ) → ((s : Slot) → List·Memᴰ s slots → (κ′ s ≡ κ s) × (lv′ s ≡ lv s)) → κ′ (closed M) ≡ kept → lv′ (closed M) ≡ ls
+      pub sent : (κ′ lv′ : Slot → List ℕ) (M : ℕ) → ((s : Slot) → List·Memᴰ s slots → (κ′ s ≡ κ s) × (lv′ s ≡ lv s)) → κ′ (closed M) ≡ kept
+          → lv′ (closed M) ≡ ls
           → Inv K N κ′ lv′ (k ∷ P) ak2 (gone ++ cl) (w .left ++ (closed M ∷ []))
       unfolding sum
       sent κ′ lv′ M same κM lvM = record {
@@ -265,7 +273,12 @@ module _ (n : ℕ) (K : ℕ → List ℕ) (N : List ℕ) (κ lv : Slot → List 
         rw (← κo f) q,
         (i, rw (← κo f) (mem-in u), omega (arith, act i, nltb→le 0 (count i (k ∷ ak)) v, (inv .node (original f) m) .free i (mem-in u))),
       )
-      found (closed x) m q (i, u, v) = absurd (omega (arith, (inv .node (closed x) m) .inner tt i (mem-in u), nltb→le 0 (count i (k ∷ ak)) v, count-cons i k ak))
+      found (closed x) m q (i, u, v) = absurd (omega (
+        arith,
+        (inv .node (closed x) m) .inner tt i (mem-in u),
+        nltb→le 0 (count i (k ∷ ak)) v,
+        count-cons i k ak,
+      ))
 
       open-out : (s : Slot) → List·Memᴰ s slots → (b : Bool) → outside (k ∷ ak) (κ s) ≡ b → In j (keysIf b (κ s)) → Why
       open-out s m true e q = found s m q (any-some (λ i. not (mem i (k ∷ ak))) (κ s) (rw e tt))

@@ -32,7 +32,8 @@ unfolding count sum
 sum-le w [] b h = omega arith
 sum-le w (x ∷ a) b h = go (found x b (omega (arith, h x, hit-same x))) (λ r f. sum-le w a r f)
   where
-    go : (r : List ℕ) × ((y : ℕ) → count y b ≡ hit y x + count y r) × ((w : ℕ → ℕ) → sum w b ≡ w x + sum w r) → ((r : List ℕ) → ((x : ℕ) → count x a ≤ count x r) → sum w a ≤ sum w r) → w x + sum w a ≤ sum w b
+    go : (r : List ℕ) × ((y : ℕ) → count y b ≡ hit y x + count y r) × ((w : ℕ → ℕ) → sum w b ≡ w x + sum w r)
+        → ((r : List ℕ) → ((x : ℕ) → count x a ≤ count x r) → sum w a ≤ sum w r) → w x + sum w a ≤ sum w b
     go (r, c, s) f = omega (arith, f r (λ y. omega (arith, c y, h y)), s w)
 
 pub sum-perm : (w : ℕ → ℕ) (a b : List ℕ) → ((x : ℕ) → count x a ≡ count x b) → sum w a ≡ sum w b

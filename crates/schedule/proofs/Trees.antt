@@ -31,7 +31,8 @@ all h ms j = grow h ms (suc j) j
 rev-in : {c : ℕ} (l : List ℕ) → List·Memᴰ c (reverse l) → In c l
 rev-in {c} l m = omega (arith, count-reverse c l, mem-in m)
 
-agree : (h : ℕ → ClosedFactor → List ℕ) (ms ms′ : List ClosedFactor) (top : ℕ) → ((i : ℕ) → i < top → at ms i ≡ at ms′ i) → Older ms → (d d′ j : ℕ) → j < d → j < d′ → j < top → grow h ms d j ≡ grow h ms′ d′ j
+agree : (h : ℕ → ClosedFactor → List ℕ) (ms ms′ : List ClosedFactor) (top : ℕ) → ((i : ℕ) → i < top → at ms i ≡ at ms′ i) → Older ms → (d d′ j : ℕ)
+    → j < d → j < d′ → j < top → grow h ms d j ≡ grow h ms′ d′ j
 unfolding grow
 agree h ms ms′ top same old zero d′ j l l′ t = absurd (omega arith)
 agree h ms ms′ top same old (suc d) zero j l l′ t = absurd (omega arith)
@@ -41,7 +42,8 @@ agree h ms ms′ top same old (suc d) (suc d′) j l l′ t =
     (λ c m. let o : c < j = old j c (rev-in (inner ms j) m) in agree h ms ms′ top same old d d′ c (omega arith) (omega arith) (omega arith))
     ∙ ap (λ (m : ClosedFactor). joined (grow h ms′ d′) (reverse (messagesIn (m .content)))) (same j t))
 
-pub all-eq : (h : ℕ → ClosedFactor → List ℕ) (ms : List ClosedFactor) → Older ms → (j : ℕ) → all h ms j ≡ h j (at ms j) ++ joined (all h ms) (reverse (inner ms j))
+pub all-eq : (h : ℕ → ClosedFactor → List ℕ) (ms : List ClosedFactor) → Older ms → (j : ℕ) → all h ms j
+    ≡ h j (at ms j) ++ joined (all h ms) (reverse (inner ms j))
 unfolding all
 all-eq h ms old j =
     ap (λ (r : List ℕ). h j (at ms j) ++ r)
@@ -50,7 +52,8 @@ all-eq h ms old j =
 
 pub all-old : (h : ℕ → ClosedFactor → List ℕ) (ms more : List ClosedFactor) → Older ms → (j : ℕ) → j < length ms → all h (ms ++ more) j ≡ all h ms j
 unfolding all
-all-old h ms more old j l = sym (agree h ms (ms ++ more) (length ms) (λ i t. sym (List·getD-append ms more noMessage i t)) old (suc j) (suc j) j (omega arith) (omega arith) l)
+all-old h ms more old j l = sym (agree h ms (ms ++ more) (length ms) (λ i t. sym (List·getD-append ms more noMessage i t)) old (suc j) (suc j) j
+    (omega arith) (omega arith) l)
 
 -- the message that is appended: itself, and what lies under the messages that it contains
 pub all-new : (h : ℕ → ClosedFactor → List ℕ) (ms : List ClosedFactor) (m : ClosedFactor) → Older ms → Older (ms ++ (m ∷ [])) → (x : ℕ)

@@ -44,7 +44,8 @@ pub small : (f : Frame) (len : ℕ) (k : Spot) → Laid f len → Sits f k → k
 small f len k l h = small-at f len (k .cleared) (k .at) (k .size) l h
 
 -- a block inside one of the matrices
-pub corner-fits : (f : Frame) (p : Part) (n m : ℕ) (v : View) (i j a b : ℕ) → to f p - from f p ≡ n * m → v ≡ corner n i j → i + a ≤ n → j + b ≤ m → Inside v a b (to f p - from f p)
+pub corner-fits : (f : Frame) (p : Part) (n m : ℕ) (v : View) (i j a b : ℕ) → to f p - from f p ≡ n * m → v ≡ corner n i j → i + a ≤ n → j + b ≤ m
+    → Inside v a b (to f p - from f p)
 corner-fits f p n m v i j a b e ev hi hj = rw (ev, e) (inner n m i j a b hi hj)
 
 pub dense-flip : (m n len : ℕ) → m * n ≤ len → Inside (flip (columns m)) n m len
@@ -54,23 +55,29 @@ abbrev Fits : Frame → ℕ → ℕ → Target → Type 0
 Fits f m n Nowhere = Unit
 Fits f m n (At p v) = Inside v m n (to f p - from f p)
 
-fits-of : (z kg og below above : Bool) (f : Frame) (len ka ks oa os : ℕ) → Laid f len → (z ≡ false → f .rows ≡ f .kept) → ka + ks ≤ cond kg (f .cleared) (f .kept) → oa + os ≤ cond og (f .cleared) (f .kept)
+fits-of : (z kg og below above : Bool) (f : Frame) (len ka ks oa os : ℕ) → Laid f len → (z ≡ false → f .rows ≡ f .kept)
+    → ka + ks ≤ cond kg (f .cleared) (f .kept) → oa + os ≤ cond og (f .cleared) (f .kept)
     → Fits f ks os (targetOf z kg og below above f ka oa)
 unfolding targetOf
-fits-of false true true true above f len ka ks oa os l x hk ho = corner-fits f S (f .cleared) (f .cleared) (corner (f .cleared) ka oa) ka oa ks os (omega arith) refl hk ho
+fits-of false true true true above f len ka ks oa os l x hk ho = corner-fits f S (f .cleared) (f .cleared) (corner (f .cleared) ka oa) ka oa ks os
+    (omega arith) refl hk ho
 fits-of false true true false above f len ka ks oa os l x hk ho = tt
-fits-of false true false below above f len ka ks oa os l x hk ho = let e : f .rows ≡ f .kept = x refl in corner-fits f G (f .cleared) (f .rows) (corner (f .cleared) ka oa) ka oa ks os (omega arith) refl hk (omega arith)
+fits-of false true false below above f len ka ks oa os l x hk ho = let e : f .rows
+    ≡ f .kept = x refl in corner-fits f G (f .cleared) (f .rows) (corner (f .cleared) ka oa) ka oa ks os (omega arith) refl hk (omega arith)
 fits-of false false true below above f len ka ks oa os l x hk ho = tt
-fits-of false false false true above f len ka ks oa os l x hk ho = let e : f .rows ≡ f .kept = x refl in corner-fits f W (f .rows) (f .rows) (corner (f .rows) ka oa) ka oa ks os (omega arith) refl (omega arith) (omega arith)
+fits-of false false false true above f len ka ks oa os l x hk ho = let e : f .rows
+    ≡ f .kept = x refl in corner-fits f W (f .rows) (f .rows) (corner (f .rows) ka oa) ka oa ks os (omega arith) refl (omega arith) (omega arith)
 fits-of false false false false above f len ka ks oa os l x hk ho = tt
-fits-of true true true true true f len ka ks oa os l x hk ho = corner-fits f S (f .cleared) (f .cleared) (corner (f .cleared) ka oa) ka oa ks os (omega arith) refl hk ho
+fits-of true true true true true f len ka ks oa os l x hk ho = corner-fits f S (f .cleared) (f .cleared) (corner (f .cleared) ka oa) ka oa ks os
+    (omega arith) refl hk ho
 fits-of true true true false true f len ka ks oa os l x hk ho =
     λ i j hi hj. omega (arith, corner-fits f S (f .cleared) (f .cleared) (corner (f .cleared) oa ka) oa ka os ks (omega arith) refl ho hk j i hj hi)
 fits-of true true true below false f len ka ks oa os l x hk ho = tt
 fits-of true true false below above f len ka ks oa os l x hk ho = tt
 fits-of true false og below above f len ka ks oa os l x hk ho = tt
 
-pub goes-inside : (z : Bool) (f : Frame) (len : ℕ) (k o : Spot) (r : Target) (p : Part) (v : View) → Laid f len → (z ≡ false → f .rows ≡ f .kept) → Sits f k → Sits f o
+pub goes-inside : (z : Bool) (f : Frame) (len : ℕ) (k o : Spot) (r : Target) (p : Part) (v : View) → Laid f len → (z ≡ false → f .rows ≡ f .kept)
+    → Sits f k → Sits f o
     → r ≡ target z f k o → r ≡ At p v → Inside v (k .size) (o .size) (to f p - from f p)
 goes-inside z f len k o r p v l x hk ho er ea =
     subst (λ (t : Target). Fits f (k .size) (o .size) t) (sym er ∙ ea)
@@ -81,12 +88,14 @@ fits-part a p q n h e = omega (arith, length-part a p q h)
 
 -- ---- one pair
 
-pub no-product : (z : Bool) (f : Frame) (k o : Spot) (r : Target) (s : ℕ) (t : List Float) (y : ℕ) (b : List Float) (n : ℕ) (σ : Sums) → r ≡ target z f k o → r ≡ Nowhere
+pub no-product : (z : Bool) (f : Frame) (k o : Spot) (r : Target) (s : ℕ) (t : List Float) (y : ℕ) (b : List Float) (n : ℕ) (σ : Sums) → r
+    ≡ target z f k o → r ≡ Nowhere
     → σ ≡ withProduct (target z f k o) s t y b n σ
 unfolding withProduct
 no-product z f k o r s t y b n σ er en = subst (λ (q : Target). σ ≡ withProduct q s t y b n σ) (sym en ∙ er) refl
 
-pub product-at-target : (z : Bool) (f : Frame) (k o : Spot) (r : Target) (p : Part) (v : View) (s : ℕ) (t : List Float) (y : ℕ) (b : List Float) (n : ℕ) (σ σ′ : Sums) → r ≡ target z f k o → r ≡ At p v
+pub product-at-target : (z : Bool) (f : Frame) (k o : Spot) (r : Target) (p : Part) (v : View) (s : ℕ) (t : List Float) (y : ℕ) (b : List Float)
+    (n : ℕ) (σ σ′ : Sums) → r ≡ target z f k o → r ≡ At p v
     → σ′ ≡ change p (λ c. product Add v s t (columns s) b (columns y) y c n) σ → σ′ ≡ withProduct (target z f k o) s t y b n σ
 unfolding withProduct
 product-at-target z f k o r p v s t y b n σ σ′ er ea e = subst (λ (q : Target). σ′ ≡ withProduct q s t y b n σ) (sym ea ∙ er) e
@@ -103,12 +112,14 @@ unfolding column
 column-next size keys i = rw add-one
 
 -- the block column of the i-th key, of s columns from column c on, stands in A
-pub column-fits : {sizes keys : List ℕ} {y len c s : ℕ} (i : ℕ) → Wide sizes keys y len → i < length keys → c ≡ column sizes keys i → s ≡ getD sizes (getD keys i 0) 0
+pub column-fits : {sizes keys : List ℕ} {y len c s : ℕ} (i : ℕ) → Wide sizes keys y len → i < length keys → c ≡ column sizes keys i → s
+    ≡ getD sizes (getD keys i 0) 0
     → (c + s ≡ column sizes keys (i + 1)) × (c + s ≤ 32) × ((c + s) * y ≤ len)
 column-fits {sizes} {keys} {y} {len} {c} {s} i w h ec es =
     let n : c + s ≡ column sizes keys (i + 1) = sym (column-next sizes keys i ∙ omega arith) in
     let d : i + 1 + (length keys - (i + 1)) ≡ length keys = omega arith in
-    let b : c + s ≤ column sizes keys (length keys) = rw n (subst (λ (k : ℕ). column sizes keys (i + 1) ≤ column sizes keys k) d (column-le sizes keys (i + 1) (length keys - (i + 1)))) in
+    let b : c + s ≤ column sizes keys (length keys) = rw n (subst (λ (k : ℕ). column sizes keys (i + 1) ≤ column sizes keys k) d
+    (column-le sizes keys (i + 1) (length keys - (i + 1)))) in
     (n, omega arith, omega (arith, mul-le-mul-right y b))
 
 -- it has y numbers a column
@@ -125,7 +136,8 @@ products-more z f m keys y a k o t b σ₀ σ σ′ j c es ec eo eb en = rw (en,
 -- ---- the block column of k itself
 
 module _ (z : Bool) (f : Frame) (row : ℕ) (k : Spot) (b xi w : List Float) (y : ℕ) (σ σ₁ : Sums) (v : View) where
-  pub own-cleared-x : k .cleared ≡ true → z ≡ false → v ≡ corner (f .cleared) (k .at) 0 → σ₁ ≡ change H (λ c. product Add v (k .size) b (flip (columns y)) xi (columns y) y c 1) σ
+  pub own-cleared-x : k .cleared ≡ true → z ≡ false → v ≡ corner (f .cleared) (k .at) 0 → σ₁
+      ≡ change H (λ c. product Add v (k .size) b (flip (columns y)) xi (columns y) y c 1) σ
       → σ₁ ≡ withOwn z (k .cleared) f row k b xi w y σ
   unfolding withOwn
   own-cleared-x g x ev e = rw (g, x, e, ev)
@@ -142,7 +154,8 @@ module _ (z : Bool) (f : Frame) (row : ℕ) (k : Spot) (b xi w : List Float) (y 
   unfolding withOwn
   own-kept-z g x ev e = rw (g, x, e, ev)
 
-  pub own-kept-x : k .cleared ≡ false → z ≡ false → v ≡ corner (f .rows) (k .at) 0 → σ₁ ≡ change Xi (λ c. product Add v (k .size) b (flip (columns y)) xi (columns y) y c 1) σ
+  pub own-kept-x : k .cleared ≡ false → z ≡ false → v ≡ corner (f .rows) (k .at) 0 → σ₁
+      ≡ change Xi (λ c. product Add v (k .size) b (flip (columns y)) xi (columns y) y c 1) σ
       → σ₁ ≡ withOwn z (k .cleared) f row k b xi w y σ
   unfolding withOwn
   own-kept-x g x ev e = rw (g, x, e, ev)
@@ -152,7 +165,8 @@ module _ (z : Bool) (f : Frame) (row : ℕ) (k : Spot) (b xi w : List Float) (y 
 -- a product that is stored from the start of a list does not depend on what stood there
 stored-at : (c : List Float) (m w : ℕ) (a : List Float) (av : View) (b : List Float) (bv : View) (n : ℕ) → m * w ≤ length c → (i j : ℕ) → i < m → j < w
     → entry (product Store (columns m) m a av b bv n c w) (columns m) i j ≡ dotOf a av i b bv j n
-stored-at c m w a av b bv n h i j hi hj = product-at Store (columns m) m a av b bv n c w (apart (columns m) m w refl (omega arith)) i j hi hj (dense m w (length c) h i j hi hj)
+stored-at c m w a av b bv n h i j hi hj = product-at Store (columns m) m a av b bv n c w (apart (columns m) m w refl (omega arith)) i j hi hj
+    (dense m w (length c) h i j hi hj)
 
 change-same : (p : Part) (g h : List Float → List Float) (σ : Sums) → ((c : List Float) → g c ≡ h c) → change p g σ ≡ change p h σ
 unfolding change
@@ -166,24 +180,29 @@ change-same W g h σ e = rw (e (σ .w))
 abbrev Same : List Float → List Float → ℕ → ℕ → Type 0
 Same t u s y = (i j : ℕ) → i < s → j < y → entry t (columns s) i j ≡ entry u (columns s) i j
 
-product-same : (q : Target) (s : ℕ) (t u : List Float) (y : ℕ) (b : List Float) (n : ℕ) (σ : Sums) → Same t u s y → withProduct q s t y b n σ ≡ withProduct q s u y b n σ
+product-same : (q : Target) (s : ℕ) (t u : List Float) (y : ℕ) (b : List Float) (n : ℕ) (σ : Sums) → Same t u s y → withProduct q s t y b n σ
+    ≡ withProduct q s u y b n σ
 unfolding withProduct product
 product-same Nowhere s t u y b n σ h = refl
 product-same (At p v) s t u y b n σ h =
     change-same p (λ c. product Add v s t (columns s) b (columns y) y c n) (λ c. product Add v s u (columns s) b (columns y) y c n) σ
     (λ c. block-same v s (productEntry Add t (columns s) b (columns y) y) (productEntry Add u (columns s) b (columns y) y) c n
-    (λ i j hi hj x. ap (λ (d : Float). updated Add x d) (dot-same t u (columns s) (columns s) i b b (columns y) (columns y) j y (λ l hl. h i l hi hl) (λ l hl. refl))))
+    (λ i j hi hj x. ap (λ (d : Float). updated Add x d) (dot-same t u (columns s) (columns s) i b b (columns y) (columns y) j y (λ l hl. h i l hi hl)
+    (λ l hl. refl))))
 
-products-same : (z : Bool) (f : Frame) (m : Layout) (keys : List ℕ) (y : ℕ) (a : List Float) (k : Spot) (t u : List Float) (σ : Sums) (n : ℕ) → Same t u (k .size) y
+products-same : (z : Bool) (f : Frame) (m : Layout) (keys : List ℕ) (y : ℕ) (a : List Float) (k : Spot) (t u : List Float) (σ : Sums) (n : ℕ)
+    → Same t u (k .size) y
     → withProducts z f m keys y a k t σ n ≡ withProducts z f m keys y a k u σ n
 unfolding withProducts turns
 products-same z f m keys y a k t u σ zero h = refl
 products-same z f m keys y a k t u σ (suc n) h =
     rw (products-same z f m keys y a k t u σ n h)
-    (product-same (target z f k (find m (getD keys n 0))) (k .size) t u y (blockColumnOf a y (column (m .size) keys n) (find m (getD keys n 0) .size)) (find m (getD keys n 0) .size)
+    (product-same (target z f k (find m (getD keys n 0))) (k .size) t u y (blockColumnOf a y (column (m .size) keys n) (find m (getD keys n 0) .size))
+    (find m (getD keys n 0) .size)
     (withProducts z f m keys y a k u σ n) h)
 
-pub key-is : (z : Bool) (f : Frame) (m : Layout) (row : ℕ) (keys : List ℕ) (y : ℕ) (a xi w : List Float) (k : Spot) (b t₀ t : List Float) (σ σ₁ σ₂ : Sums) → k .size * y ≤ length t₀
+pub key-is : (z : Bool) (f : Frame) (m : Layout) (row : ℕ) (keys : List ℕ) (y : ℕ) (a xi w : List Float) (k : Spot) (b t₀ t : List Float)
+    (σ σ₁ σ₂ : Sums) → k .size * y ≤ length t₀
     → σ₁ ≡ withOwn z (k .cleared) f row k b xi w y σ
     → t ≡ product Store (columns (k .size)) (k .size) b (flip (columns y)) w (columns y) y t₀ y
     → σ₂ ≡ withProducts z f m keys y a k t σ₁ (length keys)
@@ -193,9 +212,11 @@ key-is z f m row keys y a xi w k b t₀ t σ σ₁ σ₂ h e₁ et e₂ =
     rw (e₂, ← e₁)
     (products-same z f m keys y a k t (transposedTimes b (k .size) w y) σ₁ (length keys)
     (λ i j hi hj. rw et (stored-at t₀ (k .size) y b (flip (columns y)) w (columns y) y h i j hi hj)
-    ∙ sym (stored-at (replicate (k .size * y) plus-zero) (k .size) y b (flip (columns y)) w (columns y) y (rw (length-replicate (k .size * y) plus-zero) (omega arith)) i j hi hj)))
+    ∙ sym (stored-at (replicate (k .size * y) plus-zero) (k .size) y b (flip (columns y)) w (columns y) y
+    (rw (length-replicate (k .size * y) plus-zero) (omega arith)) i j hi hj)))
 
-pub keys-more : (z : Bool) (f : Frame) (m : Layout) (row : ℕ) (keys : List ℕ) (y : ℕ) (a xi w : List Float) (k : Spot) (b : List Float) (σ₀ σ σ′ : Sums) (i c : ℕ)
+pub keys-more : (z : Bool) (f : Frame) (m : Layout) (row : ℕ) (keys : List ℕ) (y : ℕ) (a xi w : List Float) (k : Spot) (b : List Float)
+    (σ₀ σ σ′ : Sums) (i c : ℕ)
     → σ ≡ withKeys z f m row keys y a xi w σ₀ i → c ≡ column (m .size) keys i → k ≡ find m (getD keys i 0) → b ≡ blockColumnOf a y c (k .size)
     → σ′ ≡ withKey z f m row keys y a xi w k b σ
     → σ′ ≡ withKeys z f m row keys y a xi w σ₀ (i + 1)

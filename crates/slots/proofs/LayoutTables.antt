@@ -29,7 +29,8 @@ module _ (l : List ℕ) (i : ℕ) (h : i < length l) where
   pub first-here : (sizes : List ℕ) (key : ℕ) → getD l i 0 ≡ key → firstOf sizes (drop i l) key ≡ 0
   first-here sizes key e = rw (step, eq-eqb (getD l i 0) key e)
 
-  pub first-next : (sizes : List ℕ) (key : ℕ) → (getD l i 0 ≡ key → ⊥) → firstOf sizes (drop i l) key ≡ getD sizes (getD l i 0) 0 + firstOf sizes (drop (i + 1) l) key
+  pub first-next : (sizes : List ℕ) (key : ℕ) → (getD l i 0 ≡ key → ⊥) → firstOf sizes (drop i l) key
+      ≡ getD sizes (getD l i 0) 0 + firstOf sizes (drop (i + 1) l) key
   first-next sizes key e = rw (step, ne-eqb (getD l i 0) key e)
 
   pub dim-next : (sizes : List ℕ) → dimOf sizes (drop i l) ≡ getD sizes (getD l i 0) 0 + dimOf sizes (drop (i + 1) l)
@@ -61,7 +62,8 @@ getD-table f a (suc n) (suc i) d h = getD-table f (a + 1) n i d (omega arith) �
 getD-table f a zero i d h = absurd (omega arith)
 
 -- a table that is written entry by entry
-pub table-more : {A : Type 0} (f : ℕ → A) (d : A) (t : List A) (i : ℕ) (x : A) → i < length t → x ≡ f i → ((k : ℕ) → k < i → getD t k d ≡ f k) → (k : ℕ) → k < i + 1 → getD (set t i x) k d ≡ f k
+pub table-more : {A : Type 0} (f : ℕ → A) (d : A) (t : List A) (i : ℕ) (x : A) → i < length t → x ≡ f i → ((k : ℕ) → k < i → getD t k d ≡ f k)
+    → (k : ℕ) → k < i + 1 → getD (set t i x) k d ≡ f k
 table-more f d t i x l e h =
     below-more (λ k. getD (set t i x) k d ≡ f k) i (λ k p. getD-set-other t i k x d (omega arith) ∙ h k p) (getD-set-same t i x d l ∙ e)
 
@@ -113,7 +115,8 @@ firsts-back sizes l r i j column next ej h m low en =
 pub marks-none : (l : List ℕ) (key : ℕ) → key < max-variables → getD (replicate max-variables false) key false ≡ member key (drop (length l) l)
 marks-none l key h = getD-replicate max-variables key false false h ∙ ap (member key) (sym (drop-length l))
 
-pub firsts-none : (sizes l : List ℕ) (column key : ℕ) → key < max-variables → getD (replicate max-variables column) key 0 ≡ column + firstOf sizes (drop (length l) l) key
+pub firsts-none : (sizes l : List ℕ) (column key : ℕ) → key < max-variables → getD (replicate max-variables column) key 0
+    ≡ column + firstOf sizes (drop (length l) l) key
 firsts-none sizes l column key h = omega (arith, getD-replicate max-variables key column 0 h, ap (λ (t : List ℕ). firstOf sizes t key) (drop-length l))
 
 -- the dimension that is left, a key before the last place
@@ -135,7 +138,8 @@ module _ (gone : List Bool) (among before first : List ℕ) (i x : ℕ) (l : i <
     (as-before : (k : ℕ) → i ≤ k → getD first k 0 ≡ getD before k 0) (ex : x ≡ cond (getD gone i false) (getD among i 0) (getD first i 0)) where
   pub chosen-more : ((k : ℕ) → k < i → getD first k 0 ≡ cond (getD gone k false) (getD among k 0) (getD before k 0))
       → (k : ℕ) → k < i + 1 → getD (set first i x) k 0 ≡ cond (getD gone k false) (getD among k 0) (getD before k 0)
-  chosen-more h = table-more (λ k. cond (getD gone k false) (getD among k 0) (getD before k 0)) 0 first i x l (ex ∙ ap (λ (y : ℕ). cond (getD gone i false) (getD among i 0) y) (as-before i (omega arith))) h
+  chosen-more h = table-more (λ k. cond (getD gone k false) (getD among k 0) (getD before k 0)) 0 first i x l
+      (ex ∙ ap (λ (y : ℕ). cond (getD gone i false) (getD among i 0) y) (as-before i (omega arith))) h
 
   pub others-before : (k : ℕ) → i + 1 ≤ k → getD (set first i x) k 0 ≡ getD before k 0
   others-before k h = getD-set-other first i k x 0 (omega arith) ∙ as-before k (omega arith)

@@ -29,25 +29,29 @@ module _ (z : Bool) (f : Frame) (row y : ℕ) (xi w : List Float) (σ : Sums) wh
   unfolding withRows
   rows-x e = rw e
 
-  pub rows-z : (σ₁ σ₂ : Sums) (u v : View) → z ≡ true → u ≡ corner (f .rows) row 0 → v ≡ corner (f .rows) row row → σ₁ ≡ change Xi (λ c. stamp Store u y xi (columns y) c 1) σ
+  pub rows-z : (σ₁ σ₂ : Sums) (u v : View) → z ≡ true → u ≡ corner (f .rows) row 0 → v ≡ corner (f .rows) row row → σ₁
+      ≡ change Xi (λ c. stamp Store u y xi (columns y) c 1) σ
       → σ₂ ≡ change W (λ c. stamp Store v y w (columns y) c y) σ₁ → σ₂ ≡ withRows z f row y xi w σ
   unfolding withRows
   rows-z σ₁ σ₂ u v e eu ev e₁ e₂ = rw (e, e₂, e₁, eu, ev)
 
 module _ (z : Bool) (f : Frame) (row : ℕ) (k : Spot) (xi w : List Float) (σ σ₁ σ₂ : Sums) where
   pub prior-cleared : (u v : View) → k .cleared ≡ true → u ≡ corner (f .cleared) (k .at) 0 → v ≡ corner (f .cleared) (k .at) (k .at)
-      → σ₁ ≡ change H (λ c. stamp Add u (k .size) xi (columns (k .size)) c 1) σ → σ₂ ≡ change S (λ c. stamp Add v (k .size) w (columns (k .size)) c (k .size)) σ₁
+      → σ₁ ≡ change H (λ c. stamp Add u (k .size) xi (columns (k .size)) c 1) σ → σ₂
+      ≡ change S (λ c. stamp Add v (k .size) w (columns (k .size)) c (k .size)) σ₁
       → σ₂ ≡ withPrior z (k .cleared) f row k xi w σ
   unfolding withPrior
   prior-cleared u v g eu ev e₁ e₂ = rw (g, e₂, e₁, eu, ev)
 
   pub prior-x : (u v : View) → k .cleared ≡ false → z ≡ false → u ≡ corner (f .rows) (k .at) 0 → v ≡ corner (f .rows) (k .at) (k .at)
-      → σ₁ ≡ change Xi (λ c. stamp Add u (k .size) xi (columns (k .size)) c 1) σ → σ₂ ≡ change W (λ c. stamp Add v (k .size) w (columns (k .size)) c (k .size)) σ₁
+      → σ₁ ≡ change Xi (λ c. stamp Add u (k .size) xi (columns (k .size)) c 1) σ → σ₂
+      ≡ change W (λ c. stamp Add v (k .size) w (columns (k .size)) c (k .size)) σ₁
       → σ₂ ≡ withPrior z (k .cleared) f row k xi w σ
   unfolding withPrior
   prior-x u v g x eu ev e₁ e₂ = rw (g, x, e₂, e₁, eu, ev)
 
-  pub prior-z : (v : View) → k .cleared ≡ false → z ≡ true → v ≡ corner (f .rows) row (k .at) → σ₁ ≡ withRows z f row (k .size) xi w σ → σ₂ ≡ change A (λ c. filledDiagonal v one c (k .size)) σ₁
+  pub prior-z : (v : View) → k .cleared ≡ false → z ≡ true → v ≡ corner (f .rows) row (k .at) → σ₁ ≡ withRows z f row (k .size) xi w σ → σ₂
+      ≡ change A (λ c. filledDiagonal v one c (k .size)) σ₁
       → σ₂ ≡ withPrior z (k .cleared) f row k xi w σ
   unfolding withPrior
   prior-z v g x ev e₁ e₂ = rw (g, x, e₂, e₁, ev, x)
@@ -82,8 +86,11 @@ module _ {f : Frame} {m : Layout} {z : Bool} {row : ℕ} {p : Bool} {keys : List
 
   pub part-sizes : (t : List Float) → len ≡ length t
       → (y ≤ length (part t (y * d) (y * d + y))) × (y * y ≤ length (part t (y * d + y) (y * d + y + y * y))) × (y * d ≤ length (part t 0 (y * d)))
-  part-sizes t e =
-      (fits-part t (y * d) (y * d + y) y (omega arith) (omega arith), fits-part t (y * d + y) (y * d + y + y * y) (y * y) (omega arith) (omega arith), fits-part t 0 (y * d) (y * d) (omega arith) (omega arith))
+  part-sizes t e = (
+    fits-part t (y * d) (y * d + y) y (omega arith) (omega arith),
+    fits-part t (y * d + y) (y * d + y + y * y) (y * y) (omega arith) (omega arith),
+    fits-part t 0 (y * d) (y * d) (omega arith) (omega arith),
+  )
 
   pub prior-sizes : (t : List Float) (k : Spot) → len ≡ length t → p ≡ true → k ≡ find m (getD keys 0 0)
       → (k .size ≤ length (part t (y * d) (y * d + y))) × (k .size * k .size ≤ length (part t (y * d + y) (y * d + y + y * y)))

@@ -28,12 +28,20 @@ use Rattle.solver.specs.Told.{outcomeTold, planTold}
 use Rattle.solver.proofs.Tables.{same-keys}
 
 -- all originals and all keys in their order, as the plan's code is given them: the plan is the graph's
-pub graph-plan : (g : Graph) (table : List FactorKeys) (live order : List ℕ) → valid g ≡ true → Table g max-factors table → live ≡ from 0 max-factors → order ≡ from 0 max-variables
+pub graph-plan : (g : Graph) (table : List FactorKeys) (live order : List ℕ) → valid g ≡ true → Table g max-factors table → live ≡ from 0 max-factors
+    → order ≡ from 0 max-variables
     → lists.plan (g .variables) (keysAt table (g .count)) (take (g .count) live) (take (g .variables) order) ≡ graphPlan g
 unfolding graphPlan
-graph-plan g table live order v t el eo = rw (el, eo, take-from 0 max-factors (g .count) (valid-count g v), take-from 0 max-variables (g .variables) (valid-variables g v), same-keys g table v t)
+graph-plan g table live order v t el eo = rw (
+  el,
+  eo,
+  take-from 0 max-factors (g .count) (valid-count g v),
+  take-from 0 max-variables (g .variables) (valid-variables g v),
+  same-keys g table v t,
+)
 
-pub made : (g : Graph) (p : Plan) → valid g ≡ true → planOf (g .variables) p ≡ graphPlan g → read (record { outcome = Made; keys = g .variables; plan = p }) ≡ planned g
+pub made : (g : Graph) (p : Plan) → valid g ≡ true → planOf (g .variables) p ≡ graphPlan g
+    → read (record { outcome = Made; keys = g .variables; plan = p }) ≡ planned g
 unfolding read planned
 made g p v e = rw (v, e)
 
@@ -42,11 +50,13 @@ empty-plan : (K : ℕ → List ℕ) (N : List ℕ) → lists.plan 0 K N [] ≡ n
 unfolding lists.plan
 empty-plan K N = refl
 
-pub turned-back : (g : Graph) (K : ℕ → List ℕ) (N : List ℕ) (p : Plan) → valid g ≡ false → planOf 0 p ≡ lists.plan 0 K N [] → read (record { outcome = Refused NoSuchGraph; keys = 0; plan = p }) ≡ planned g
+pub turned-back : (g : Graph) (K : ℕ → List ℕ) (N : List ℕ) (p : Plan) → valid g ≡ false → planOf 0 p ≡ lists.plan 0 K N []
+    → read (record { outcome = Refused NoSuchGraph; keys = 0; plan = p }) ≡ planned g
 unfolding read planned
 turned-back g K N p v e = rw (v, e ∙ empty-plan K N)
 
-pub told : (r : Arranged) (g : Graph) (p : struct.Plan) → read r ≡ planned g → p ≡ answerOf (planOf (r .keys) (r .plan)) → _≡_ {A = Planned} (record { outcome = r .outcome; keys = r .keys; plan = p }) (answer g)
+pub told : (r : Arranged) (g : Graph) (p : struct.Plan) → read r ≡ planned g → p ≡ answerOf (planOf (r .keys) (r .plan))
+    → _≡_ {A = Planned} (record { outcome = r .outcome; keys = r .keys; plan = p }) (answer g)
 unfolding read answer
 told r g p e h = rw (h, ← e)
 
@@ -55,7 +65,8 @@ pub plan-tells : (r : Planned) (g : Graph) → r ≡ answer g → outcomeTold (r
 unfolding answer planned planTold outcomeTold
 plan-tells r g e = ap (λ (x : Planned). outcomeTold (x .outcome)) e ∙ go (valid g)
   where
-    go : (b : Bool) → outcomeTold (cond {A = Answer} b (record { outcome = Made; keys = g .variables; plan = graphPlan g }) (record { outcome = Refused NoSuchGraph; keys = 0; plan = noPlan }) .outcome) ≡ cond b (value []) (refusal 30 [])
+    go : (b : Bool) → outcomeTold (cond {A = Answer} b (record { outcome = Made; keys = g .variables; plan = graphPlan g })
+        (record { outcome = Refused NoSuchGraph; keys = 0; plan = noPlan }) .outcome) ≡ cond b (value []) (refusal 30 [])
     go true = refl
     go false = refl
 
@@ -65,7 +76,8 @@ outcome-is : (r : Arranged) (g : Graph) → read r ≡ planned g → r .outcome 
 unfolding read planned
 outcome-is r g e = ap (λ (a : Answer). a .outcome) e ∙ go (valid g)
   where
-    go : (b : Bool) → cond {A = Answer} b (record { outcome = Made; keys = g .variables; plan = graphPlan g }) (record { outcome = Refused NoSuchGraph; keys = 0; plan = noPlan }) .outcome ≡ cond b Made (Refused NoSuchGraph)
+    go : (b : Bool) → cond {A = Answer} b (record { outcome = Made; keys = g .variables; plan = graphPlan g })
+        (record { outcome = Refused NoSuchGraph; keys = 0; plan = noPlan }) .outcome ≡ cond b Made (Refused NoSuchGraph)
     go true = refl
     go false = refl
 

@@ -1,4 +1,5 @@
--- A plan over originals of a valid graph, along any order of its keys, can be carried out: its messages and its gatherings have what a run relies on. The graph's own plan is one such. Assumes nothing.
+-- A plan over originals of a valid graph, along any order of its keys, can be carried out: its messages and its gatherings have what a run relies on.
+-- The graph's own plan is one such. Assumes nothing.
 use mathlib.Core.Path.{_≡_, refl, _∙_}
 use mathlib.Core.Bool.{true}
 use mathlib.Core.List.{List, reverse}

@@ -10,7 +10,14 @@ use Rattle.messages.specs.Figure.{slotRows, rowsIn, rowsTo, needTo, need}
 use Rattle.solver.specs.Run.{figureOf}
 
 abbrev graph : Graph
-graph = record { symbols = []; sizes = 1 ∷ 1 ∷ []; variables = 2; factors = priorOf 0 1 ∷ priorOf 0 1 ∷ priorOf 0 1 ∷ observationOf (0 ∷ 1 ∷ []) 1 ∷ []; count = 4 }
+graph = record {
+  symbols = [];
+  sizes = 1 ∷ 1 ∷ [];
+  variables = 2;
+  factors = priorOf 0 1 ∷ priorOf 0 1 ∷ priorOf 0 1 ∷ observationOf (0 ∷ 1 ∷ []) 1 ∷
+      [];
+  count = 4;
+}
 
 abbrev plan : Plan
 plan =

@@ -1,4 +1,5 @@
--- Demand 3 over the plan of a valid graph: behind each key every factor stands exactly once, every other key is cleared exactly once and the key itself never. Assumes nothing.
+-- Demand 3 over the plan of a valid graph: behind each key every factor stands exactly once, every other key is cleared exactly once and the key
+-- itself never. Assumes nothing.
 use mathlib.Core.Path.{_≡_, refl, subst}
 use mathlib.Core.Bool.{Bool, true, false, cond}
 use mathlib.Core.List.{List, []}
@@ -34,17 +35,21 @@ low g v i j = go (ltb i (g .count)) refl
     go : (b : Bool) → ltb i (g .count) ≡ b → In j (cond b (take (factorAt g i .touched) (factorAt g i .keys)) []) → j < g .variables
     go true e s =
         bounded (take (factorAt g i .touched) (factorAt g i .keys)) (g .variables)
-        (λ k l. let m : k < factorAt g i .touched = omega (arith, length-take (factorAt g i .touched) (factorAt g i .keys)) in rw (getD-take (factorAt g i .touched) (factorAt g i .keys) k 0 m) (fits-key (g .sizes) (g .variables) (factorAt g i) (valid-factor g v i (ltb-true i (g .count) e)) k m))
+        (λ k l. let m : k < factorAt g i .touched = omega (arith, length-take (factorAt g i .touched) (factorAt g i .keys)) in rw
+        (getD-take (factorAt g i .touched) (factorAt g i .keys) k 0 m)
+        (fits-key (g .sizes) (g .variables) (factorAt g i) (valid-factor g v i (ltb-true i (g .count) e)) k m))
         j s
     go false e s = absurd (none-in j s)
 
 pub once : (g : Graph) → valid g ≡ true → (k : ℕ) → k < g .variables → (d : Gathered)
     → Once (g .variables) (keysOf g) (from 0 (g .count)) k (graphPlan g .forward) (graphPlan g .backward) (getD (graphPlan g .at-key) k d)
 unfolding graphPlan
-once g v k h d = demand3 (g .variables) (keysOf g) (from 0 (g .count)) (from 0 (g .variables)) (from-once (g .count)) (λ f s j u. low g v f j u) (λ j. refl) k h d
+once g v k h d = demand3 (g .variables) (keysOf g) (from 0 (g .count)) (from 0 (g .variables)) (from-once (g .count)) (λ f s j u. low g v f j u)
+    (λ j. refl) k h d
 
 -- a factor without keys is uncovered at every key
-pub keyless : (g : Graph) → valid g ≡ true → (i k : ℕ) → i < g .count → keysOf g i ≡ [] → k < g .variables → (d : Gathered) → In i (getD (graphPlan g .at-key) k d .originals)
+pub keyless : (g : Graph) → valid g ≡ true → (i k : ℕ) → i < g .count → keysOf g i ≡ [] → k < g .variables → (d : Gathered)
+    → In i (getD (graphPlan g .at-key) k d .originals)
 unfolding graphPlan
 keyless g v i k l e h d =
     schedule.keyless (g .variables) (keysOf g) (from 0 (g .count)) (from 0 (g .variables)) (from-once (g .count)) (λ f s j u. low g v f j u) (λ j. refl) i k h

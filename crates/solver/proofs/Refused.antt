@@ -33,27 +33,32 @@ module _ (marginals : List Float) where
   third-keeps figure messages all none h = absurd (h refl)
   third-keeps figure messages all (stopped k why) h = refl
 
-  second-keeps : (figure n : ℕ) (backward : List ClosedFactor) (messages : List Float) (s : Stop) (next : Verdict) → Kept next → Kept (second figure n backward messages marginals s next)
+  second-keeps : (figure n : ℕ) (backward : List ClosedFactor) (messages : List Float) (s : Stop) (next : Verdict) → Kept next
+      → Kept (second figure n backward messages marginals s next)
   unfolding second
   second-keeps figure n backward messages none next k = k
   second-keeps figure n backward messages (stopped j why) next k = λ h. refl
 
-  first-keeps : (figure : ℕ) (forward : List ClosedFactor) (messages : List Float) (s : Stop) (next : Verdict) → Kept next → Kept (first figure forward messages marginals s next)
+  first-keeps : (figure : ℕ) (forward : List ClosedFactor) (messages : List Float) (s : Stop) (next : Verdict) → Kept next
+      → Kept (first figure forward messages marginals s next)
   unfolding first
   first-keeps figure forward messages none next k = k
   first-keeps figure forward messages (stopped j why) next k = λ h. refl
 
   carried-keeps : (g : Graph) (p : lists.Plan) (figure : ℕ) (factors messages : List Float) → Kept (carried g p figure factors messages marginals)
   unfolding carried
-  carried-keeps g p figure factors messages = first-keeps figure (p .forward) _ _ _ (second-keeps figure (g .variables) (p .backward) _ _ _ (third-keeps figure _ _ _))
+  carried-keeps g p figure factors messages = first-keeps figure (p .forward) _ _ _
+      (second-keeps figure (g .variables) (p .backward) _ _ _ (third-keeps figure _ _ _))
 
-  checked-keeps : (g : Graph) (p : lists.Plan) (figure : ℕ) (factors messages : List Float) (work : ℕ) → Kept (checked g p figure factors messages work marginals)
+  checked-keeps : (g : Graph) (p : lists.Plan) (figure : ℕ) (factors messages : List Float) (work : ℕ)
+      → Kept (checked g p figure factors messages work marginals)
   unfolding checked
   checked-keeps g p figure factors messages work =
       either (leb (offset g (g .count)) (length factors)) _ _ (λ h. refl)
       (either (every (leb figure (length messages) ∷ leb work-numbers work ∷ leb (marginalNumbers g) (length marginals) ∷ [])) _ _ (λ h. refl)
       (carried-keeps g p figure factors messages))
 
-  pub marginals-kept : (g : Graph) (factors messages : List Float) (work : ℕ) → run g factors messages work marginals .answer .ended ≢ Done → run g factors messages work marginals .marginals ≡ marginals
+  pub marginals-kept : (g : Graph) (factors messages : List Float) (work : ℕ) → run g factors messages work marginals .answer .ended ≢ Done
+      → run g factors messages work marginals .marginals ≡ marginals
   unfolding run
   marginals-kept g factors messages work = either (valid g) _ _ (λ h. refl) (checked-keeps g (graphPlan g) (figureOf g (graphPlan g)) factors messages work)

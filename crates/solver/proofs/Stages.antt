@@ -91,13 +91,16 @@ step-told p j l = sym (ap (λ (m : ClosedFactor). m .step) (at-msg p j l))
 -- ---- stage 3
 
 -- the results have room for any graph's marginals
-pub with-room : {g : Graph} {at : List arrays.Gathered} {factors messages : List Float} {work : ℕ} {keys heads : List ℕ} {marginals : ℕ} → Findable g at factors messages work keys heads marginals
+pub with-room : {g : Graph} {at : List arrays.Gathered} {factors messages : List Float} {work : ℕ} {keys heads : List ℕ} {marginals : ℕ}
+    → Findable g at factors messages work keys heads marginals
     → (results : ℕ) → 224 ≤ results → Findable g at factors messages work keys heads results
 with-room {g} f results h = record { sound = f .sound; long = f .long; held = f .held; asked = f .asked; room = omega (arith, numbers-most g (f .sound)) }
 
-module _ (g : Graph) (at : List arrays.Gathered) (figure : ℕ) (factors messages : List Float) (keys heads : List ℕ) (marginals : List Float) (r : Carried) (before after : List Float)
+module _ (g : Graph) (at : List arrays.Gathered) (figure : ℕ) (factors messages : List Float) (keys heads : List ℕ) (marginals : List Float)
+    (r : Carried) (before after : List Float)
     (finds : FindsPlanned g at factors messages keys heads r before after) where
-  pub third-refused : (k : ℕ) (why : Refusal) → r ≡ Halted k why → ThirdPlanned g at figure factors messages keys heads marginals (refusal figure why 3 k) marginals
+  pub third-refused : (k : ℕ) (why : Refusal) → r ≡ Halted k why
+      → ThirdPlanned g at figure factors messages keys heads marginals (refusal figure why 3 k) marginals
   unfolding third
   third-refused k why e q ga =
       let s : missingFrom 0 (planned g factors q) ≡ stopped k why = sym (finds q ga .tells) ∙ ap stopOf e in
@@ -112,7 +115,8 @@ module _ (g : Graph) (at : List arrays.Gathered) (figure : ℕ) (factors message
       let s : missingFrom 0 (planned g factors q) ≡ none = sym (found .tells) ∙ ap stopOf e in
       let k : length l ≡ n - 0 = found .count e ∙ sym en ∙ omega arith in
       let el : t ≡ l = et ∙ ap (take (n - 0)) (found .stand e) ∙ take-at l (drop (length l) before) (n - 0) k in
-      let em′ : marginals′ ≡ overlaid marginals l = em ∙ ap (λ (x : List Float). x ++ drop (n - 0) marginals) el ∙ ap (λ (i : ℕ). l ++ drop i marginals) (sym k) in
+      let em′ : marginals′ ≡ overlaid marginals l = em ∙ ap (λ (x : List Float). x ++ drop (n - 0) marginals) el
+      ∙ ap (λ (i : ℕ). l ++ drop i marginals) (sym k) in
       rw (s, em′) refl
 
 -- ---- stores
@@ -124,7 +128,8 @@ laid-first m l = let e : 0 + length l ≡ length l = omega arith in ap (λ (n : 
 part-stays : (m l after : List Float) (to a b : ℕ) → after ≡ lay m to l → to + length l ≤ length m → b ≤ to → part after a b ≡ part m a b
 part-stays m l after to a b e room h =
     let n : to + length l - to ≡ length l = omega arith in
-    let s : lay m to l ≡ splice m to (to + length l) l = append-assoc (take to m) l (drop (to + length l) m) ∙ ap (λ (x : List Float). take to m ++ (l ++ x)) (sym (drop-drop (length l) to m) ∙ ap (λ (i : ℕ). drop i (drop to m)) (sym n)) in
+    let s : lay m to l ≡ splice m to (to + length l) l = append-assoc (take to m) l (drop (to + length l) m)
+    ∙ ap (λ (x : List Float). take to m ++ (l ++ x)) (sym (drop-drop (length l) to m) ∙ ap (λ (i : ℕ). drop i (drop to m)) (sym n)) in
     ap (λ (x : List Float). part x a b) (e ∙ s) ∙ part-below m to (to + length l) l (omega arith) room (sym n) a b h
 
 -- ---- the passes
@@ -148,10 +153,16 @@ stop-from i (pivot ∷ vs) j why e = let z : i ≡ j = cc in omega arith
 stop-from i (unbounded ∷ vs) j why e = let z : i ≡ j = cc in omega arith
 stop-from i (message r a xi w ∷ vs) j why e = omega (arith, stop-from (i + 1) vs j why e)
 
-pub stop-low : (g : Graph) (factors : List Float) (p : Pass) (j : ℕ) (why : Refusal) (r : Carried) → stopOf r ≡ stopFrom 0 (values g factors (messagesOf p)) → r ≡ Halted j why → j < p .count
+pub stop-low : (g : Graph) (factors : List Float) (p : Pass) (j : ℕ) (why : Refusal) (r : Carried) → stopOf r
+    ≡ stopFrom 0 (values g factors (messagesOf p)) → r ≡ Halted j why → j < p .count
 unfolding values
 stop-low g factors p j why r e er =
-    omega (arith, stop-from 0 (values g factors (messagesOf p)) j why (sym e ∙ ap stopOf er), values-length g factors (messagesOf p) (length (messagesOf p)), messages-length p)
+    omega (
+      arith,
+      stop-from 0 (values g factors (messagesOf p)) j why (sym e ∙ ap stopOf er),
+      values-length g factors (messagesOf p) (length (messagesOf p)),
+      messages-length p,
+    )
 
 -- what a pass asks for, over tables and stores of these lengths
 abbrev Asks : Graph → Pass → (shift start : ℕ) (keys heads : List ℕ) (factors messages work : ℕ) → Type 0
@@ -177,10 +188,12 @@ module _ (g : Graph) (p : Plan) (pl : Planned g p (planOf (g .variables) p)) whe
   forward-most = need-most g (messagesOf (p .forward)) (forwards .1)
 
   -- a refused message has a step
-  pub step-fits : (factors : List Float) (j : ℕ) (why : Refusal) (r : Carried) → stopOf r ≡ stopFrom 0 (values g factors (messagesOf (p .backward))) → r ≡ Halted j why
+  pub step-fits : (factors : List Float) (j : ℕ) (why : Refusal) (r : Carried) → stopOf r ≡ stopFrom 0 (values g factors (messagesOf (p .backward)))
+      → r ≡ Halted j why
       → at (messagesOf (p .backward)) j .step < g .variables
   unfolding planOf
-  step-fits factors j why r et er = pl .runnable .backward-steps j (omega (arith, stop-low g factors (p .backward) j why r et er, messages-length (p .backward)))
+  step-fits factors j why r et er = pl .runnable .backward-steps j
+      (omega (arith, stop-low g factors (p .backward) j why r et er, messages-length (p .backward)))
 
   -- ---- with their places
   module _ (places : Places) (keys heads : List ℕ) (ready : Ready g (planOf (g .variables) p) places keys heads) where
@@ -192,12 +205,19 @@ module _ (g : Graph) (p : Plan) (pl : Planned g p (planOf (g .variables) p)) whe
     unfolding planOf
     figure-is = ready .figure-is
 
-    pub first-asks : (factors messages work marginals : ℕ) → Enough g (places .figure) factors messages work marginals → Asks g (p .forward) 0 0 keys heads factors messages work
+    pub first-asks : (factors messages work marginals : ℕ) → Enough g (places .figure) factors messages work marginals
+        → Asks g (p .forward) 0 0 keys heads factors messages work
     unfolding planOf
-    first-asks factors messages work marginals enough =
-        ((forwards .0, forwards .1, omega arith, omega arith), ((ready .tables, ready .placed), (enough .of-factors, omega (arith, half-is, figure-is, enough .of-messages), enough .of-work)))
+    first-asks factors messages work marginals enough = (
+      (forwards .0, forwards .1, omega arith, omega arith),
+      (
+        (ready .tables, ready .placed),
+        (enough .of-factors, omega (arith, half-is, figure-is, enough .of-messages), enough .of-work),
+      ),
+    )
 
-    pub second-asks : (factors messages work marginals : ℕ) → Enough g (places .figure) factors messages work marginals → Asks g (p .backward) backward-shift (places .half) keys heads factors messages work
+    pub second-asks : (factors messages work marginals : ℕ) → Enough g (places .figure) factors messages work marginals
+        → Asks g (p .backward) backward-shift (places .half) keys heads factors messages work
     unfolding planOf
     second-asks factors messages work marginals enough = (
       (backwards .0, backwards .1, omega arith, omega (arith, half-is, forward-most)),
@@ -211,25 +231,34 @@ module _ (g : Graph) (p : Plan) (pl : Planned g p (planOf (g .variables) p)) whe
       forward-ends after fw = omega (arith, half-is, fw .long)
 
       -- the forward messages stand where they stood
-      pub forward-stays : (after : List Float) → after ≡ lay messages (places .half) (finished (values g factors (messagesOf (p .backward)))) → AllStored g factors (messagesOf (p .forward)) 0 messages
+      pub forward-stays : (after : List Float) → after ≡ lay messages (places .half) (finished (values g factors (messagesOf (p .backward))))
+          → AllStored g factors (messagesOf (p .forward)) 0 messages
           → AllStored g factors (messagesOf (p .backward)) (places .half) after → AllStored g factors (messagesOf (p .forward)) 0 after
       unfolding need
       forward-stays after ea fw bw =
           record {
             each = λ j h.
                 stored-stays g factors (messagesOf (p .forward)) 0 messages after j (length (messagesOf (p .forward))) (places .half) h (omega (arith, half-is))
-                (λ a b l. part-stays messages (finished (values g factors (messagesOf (p .backward)))) after (places .half) a b ea (omega (arith, figure-is, enough .of-messages, bw .long)) l) (fw .each j h);
+                (λ a b l. part-stays messages (finished (values g factors (messagesOf (p .backward)))) after (places .half) a b ea
+                (omega (arith, figure-is, enough .of-messages, bw .long)) l) (fw .each j h);
             long = fw .long;
           }
 
       -- ---- stage 3, where all messages have been made
-      module _ (fw : AllStored g factors (messagesOf (p .forward)) 0 messages) (bw : AllStored g factors (messagesOf (p .backward)) (places .half) messages) where
+      module _ (fw : AllStored g factors (messagesOf (p .forward)) 0 messages)
+          (bw : AllStored g factors (messagesOf (p .backward)) (places .half) messages) where
         -- what a key gathers, in the plan and in the arrays
         gathered-is : (k : ℕ) → k < g .variables → getD (planOf (g .variables) p .at-key) k (gatheredOf noGathered) ≡ gatheredOf (getD (p .at) k noGathered)
         unfolding planOf
         gathered-is k l =
-            let long : k < length (take (g .variables) (p .at)) = omega (arith, length-take (g .variables) (p .at), pl .bounded .long, valid-variables g (forwards .1 .sound)) in
-            at-map gatheredOf (take (g .variables) (p .at)) k noGathered (gatheredOf noGathered) long ∙ ap gatheredOf (getD-take (g .variables) (p .at) k noGathered l)
+            let long : k < length (take (g .variables) (p .at)) = omega (
+              arith,
+              length-take (g .variables) (p .at),
+              pl .bounded .long,
+              valid-variables g (forwards .1 .sound),
+            ) in
+            at-map gatheredOf (take (g .variables) (p .at)) k noGathered (gatheredOf noGathered) long
+            ∙ ap gatheredOf (getD-take (g .variables) (p .at) k noGathered l)
 
         pub gatherable : Gatherable g (planOf (g .variables) p) (p .at) factors messages keys heads
         unfolding planOf
@@ -262,7 +291,8 @@ module _ (g : Graph) (q : lists.Plan) (figure : ℕ) (factors messages marginals
   abbrev bw : List Outcome
   bw = values g factors (q .backward)
 
-  pub first-refused : (after : List Float) (j step : ℕ) (why : Refusal) (r : Carried) → stopOf r ≡ stopFrom 0 fw → r ≡ Halted j why → after ≡ lay messages 0 (finished fw) → step ≡ at (q .forward) j .step
+  pub first-refused : (after : List Float) (j step : ℕ) (why : Refusal) (r : Carried) → stopOf r ≡ stopFrom 0 fw → r ≡ Halted j why → after
+      ≡ lay messages 0 (finished fw) → step ≡ at (q .forward) j .step
       → verdict (refusal figure why 1 step) after marginals ≡ carried g q figure factors messages marginals
   unfolding carried first
   first-refused after j step why r et er ea es =
@@ -285,7 +315,8 @@ module _ (g : Graph) (q : lists.Plan) (figure : ℕ) (factors messages marginals
         let s : stopFrom 0 bw ≡ stopped j why = sym et₂ ∙ ap stopOf er in
         rw (through, s, es, both) refl
 
-    pub third-told : (r : Ran) (marginals′ : List Float) → r₂ ≡ Through → verdict r after₂ marginals′ ≡ third figure after₂ marginals (planned g factors q) (missingFrom 0 (planned g factors q))
+    pub third-told : (r : Ran) (marginals′ : List Float) → r₂ ≡ Through → verdict r after₂ marginals′
+        ≡ third figure after₂ marginals (planned g factors q) (missingFrom 0 (planned g factors q))
         → verdict r after₂ marginals′ ≡ carried g q figure factors messages marginals
     unfolding carried first second
     third-told r marginals′ er e =
@@ -293,21 +324,31 @@ module _ (g : Graph) (q : lists.Plan) (figure : ℕ) (factors messages marginals
         e ∙ rw (through, s, both) refl
 
 -- the lengths of the stores stay
-pub enough-later : {g : Graph} {figure factors messages messages′ work work′ marginals : ℕ} → Enough g figure factors messages work marginals → messages′ ≡ messages → work′ ≡ work → Enough g figure factors messages′ work′ marginals
+pub enough-later : {g : Graph} {figure factors messages messages′ work work′ marginals : ℕ} → Enough g figure factors messages work marginals
+    → messages′ ≡ messages → work′ ≡ work → Enough g figure factors messages′ work′ marginals
 enough-later e em ew = rw (em, ew) e
 
 -- ---- the tests of the stores
 
 -- long enough as the test has it, and in numbers
-pub enough-told : (g : Graph) (figure factors messages work marginals : ℕ) → storesOf g figure factors messages work marginals ≡ stores.Enough → Enough g figure factors messages work marginals
+pub enough-told : (g : Graph) (figure factors messages work marginals : ℕ) → storesOf g figure factors messages work marginals ≡ stores.Enough
+    → Enough g figure factors messages work marginals
 unfolding storesOf
-enough-told g figure factors messages work marginals e = go (leb (offset g (g .count)) factors) (every (leb figure messages ∷ leb work-numbers work ∷ leb (marginalNumbers g) marginals ∷ [])) refl refl e
+enough-told g figure factors messages work marginals e = go (leb (offset g (g .count)) factors)
+    (every (leb figure messages ∷ leb work-numbers work ∷ leb (marginalNumbers g) marginals ∷ [])) refl refl e
   where
     go : (a b : Bool) → leb (offset g (g .count)) factors ≡ a → every (leb figure messages ∷ leb work-numbers work ∷ leb (marginalNumbers g) marginals ∷ []) ≡ b
-        → cond (not a) (stores.Short FactorStoreShort) (cond (not b) (stores.Short StoreShort) stores.Enough) ≡ stores.Enough → Enough g figure factors messages work marginals
+        → cond (not a) (stores.Short FactorStoreShort) (cond (not b) (stores.Short StoreShort) stores.Enough) ≡ stores.Enough
+        → Enough g figure factors messages work marginals
     go true true ea eb z =
         let l : List Bool = leb figure messages ∷ leb work-numbers work ∷ leb (marginalNumbers g) marginals ∷ [] in
-        record { of-factors = leb-true _ _ ea; of-messages = leb-true _ _ (every-at l 0 eb); of-work = leb-true _ _ (every-at l 1 eb); of-marginals = leb-true _ _ (every-at l 2 eb) }
+        record {
+          of-factors = leb-true _ _ ea;
+          of-messages = leb-true _ _ (every-at l 0 eb);
+          of-work = leb-true _ _ (every-at l 1 eb);
+          of-marginals =
+              leb-true _ _ (every-at l 2 eb);
+        }
     go true false ea eb z = absurd (let x : _≡_ {A = ℕ} 0 1 = cc in omega arith)
     go false b ea eb z = absurd (let x : _≡_ {A = ℕ} 0 1 = cc in omega arith)
 
@@ -316,19 +357,27 @@ module _ (g : Graph) (q : lists.Plan) (figure : ℕ) (factors messages marginals
   pub short-checked : (why : Refusal) → storesOf g figure (length factors) (length messages) work (length marginals) ≡ stores.Short why
       → verdict (refusal figure why 1 0) messages marginals ≡ checked g q figure factors messages work marginals
   unfolding storesOf checked
-  short-checked why e = go (leb (offset g (g .count)) (length factors)) (every (leb figure (length messages) ∷ leb work-numbers work ∷ leb (marginalNumbers g) (length marginals) ∷ [])) e
+  short-checked why e = go (leb (offset g (g .count)) (length factors))
+      (every (leb figure (length messages) ∷ leb work-numbers work ∷ leb (marginalNumbers g) (length marginals) ∷ [])) e
     where
       go : (a b : Bool) → cond (not a) (stores.Short FactorStoreShort) (cond (not b) (stores.Short StoreShort) stores.Enough) ≡ stores.Short why
           → verdict (refusal figure why 1 0) messages marginals
-          ≡ cond (not a) (refuse figure FactorStoreShort 1 0 messages marginals) (cond (not b) (refuse figure StoreShort 1 0 messages marginals) (carried g q figure factors messages marginals))
+          ≡ cond (not a) (refuse figure FactorStoreShort 1 0 messages marginals)
+          (cond (not b) (refuse figure StoreShort 1 0 messages marginals) (carried g q figure factors messages marginals))
       go false b z = let x : why ≡ FactorStoreShort = cc in rw x
       go true false z = let x : why ≡ StoreShort = cc in rw x
       go true true z = absurd (let x : _≡_ {A = ℕ} 0 1 = cc in omega arith)
 
-  pub enough-checked : Enough g figure (length factors) (length messages) work (length marginals) → carried g q figure factors messages marginals ≡ checked g q figure factors messages work marginals
+  pub enough-checked : Enough g figure (length factors) (length messages) work (length marginals) → carried g q figure factors messages marginals
+      ≡ checked g q figure factors messages work marginals
   unfolding checked every
   enough-checked e =
-      rw (le-leb (offset g (g .count)) (length factors) (e .of-factors), le-leb figure (length messages) (e .of-messages), le-leb work-numbers work (e .of-work), le-leb (marginalNumbers g) (length marginals) (e .of-marginals)) refl
+      rw (
+        le-leb (offset g (g .count)) (length factors) (e .of-factors),
+        le-leb figure (length messages) (e .of-messages),
+        le-leb work-numbers work (e .of-work),
+        le-leb (marginalNumbers g) (length marginals) (e .of-marginals),
+      ) refl
 
 -- ---- the places of the messages
 
@@ -344,9 +393,12 @@ placed-stays g ms keys heads keys′ heads′ c b placed j h =
       key = λ i l. b .of-keys (firstKey 0 j + i) (omega (arith, c .few, message-few g ms c j h)) ∙ placed j h .key i l;
     }
 
-pub all-ready : (g : Graph) (p : Plan) (half figure : ℕ) (keys heads keys′ heads′ : List ℕ) → Planned g p (planOf (g .variables) p) → half ≡ 0 + need g (messagesOf (p .forward)) → figure ≡ half + need g (messagesOf (p .backward))
-    → PlacedTo g (messagesOf (p .forward)) 0 0 keys heads (length (messagesOf (p .forward))) → Before backward-shift keys heads keys′ heads′ → Tables g keys′ heads′
-    → PlacedTo g (messagesOf (p .backward)) backward-shift half keys′ heads′ (length (messagesOf (p .backward))) → Ready g (planOf (g .variables) p) (record { half = half; figure = figure }) keys′ heads′
+pub all-ready : (g : Graph) (p : Plan) (half figure : ℕ) (keys heads keys′ heads′ : List ℕ) → Planned g p (planOf (g .variables) p) → half
+    ≡ 0 + need g (messagesOf (p .forward)) → figure ≡ half + need g (messagesOf (p .backward))
+    → PlacedTo g (messagesOf (p .forward)) 0 0 keys heads (length (messagesOf (p .forward))) → Before backward-shift keys heads keys′ heads′
+    → Tables g keys′ heads′
+    → PlacedTo g (messagesOf (p .backward)) backward-shift half keys′ heads′ (length (messagesOf (p .backward)))
+    → Ready g (planOf (g .variables) p) (record { half = half; figure = figure }) keys′ heads′
 unfolding planOf
 all-ready g p half figure keys heads keys′ heads′ pl eh ef fw b t bw =
     record {
@@ -359,7 +411,8 @@ all-ready g p half figure keys heads keys′ heads′ pl eh ef fw b t bw =
 
 -- ---- the run
 
-pub made-planned : (r : calls.Arranged) (g : Graph) → read r ≡ spec.planned g → Bounded (r .keys) (r .plan) → r .outcome ≡ Made → Planned g (r .plan) (graphPlan g)
+pub made-planned : (r : calls.Arranged) (g : Graph) → read r ≡ spec.planned g → Bounded (r .keys) (r .plan) → r .outcome ≡ Made
+    → Planned g (r .plan) (graphPlan g)
 unfolding read spec.planned
 made-planned r g e b h =
     let v : valid g ≡ true = made-valid r g e h in
@@ -378,12 +431,15 @@ as-held g p q pl = record { bounded = pl .bounded; is = refl; runnable = rw (pl 
 -- the plan is the graph's, and the figure that of its messages
 module _ (g : Graph) (p : Plan) (places : Places) (keys heads : List ℕ) (factors messages marginals : List Float) (work : ℕ) (pl : Planned g p (graphPlan g))
     (ready : Ready g (planOf (g .variables) p) places keys heads) where
-  pub run-made : (v : Verdict) → v ≡ checked g (planOf (g .variables) p) (places .figure) factors messages work marginals → v ≡ run g factors messages work marginals
+  pub run-made : (v : Verdict) → v ≡ checked g (planOf (g .variables) p) (places .figure) factors messages work marginals → v
+      ≡ run g factors messages work marginals
   unfolding run figureOf
   run-made v e =
-      let f : places .figure ≡ need g (planOf (g .variables) p .forward) + need g (planOf (g .variables) p .backward) = omega (arith, ready .half-is, ready .figure-is) in
+      let f : places .figure ≡ need g (planOf (g .variables) p .forward) + need g (planOf (g .variables) p .backward) = omega
+      (arith, ready .half-is, ready .figure-is) in
       e ∙ rw (f, pl .is, pl .runnable .forward .sound) refl
 
-pub run-refused : (g : Graph) (factors messages marginals : List Float) (work : ℕ) (why : Refusal) → (valid g ≡ false) × (why ≡ NoSuchGraph) → verdict (refusal 0 why 1 0) messages marginals ≡ run g factors messages work marginals
+pub run-refused : (g : Graph) (factors messages marginals : List Float) (work : ℕ) (why : Refusal) → (valid g ≡ false) × (why ≡ NoSuchGraph)
+    → verdict (refusal 0 why 1 0) messages marginals ≡ run g factors messages work marginals
 unfolding run
 run-refused g factors messages marginals work why h = rw (h .1, h .0) refl

@@ -40,12 +40,14 @@ module _ (m m′ r r′ : List Float) where
   thirds figure n n′ all none = record { answers = refl; found = marginalsIn all; laid = refl; laid′ = refl }
   thirds figure n n′ all (stopped k why) = refusals figure why 3 k n n′
 
-  seconds : (figure k : ℕ) (bw : List ClosedFactor) (n n′ : List Float) (s : Stop) (v v′ : Verdict) → Alike r r′ v v′ → Alike r r′ (second figure k bw n r s v) (second figure k bw n′ r′ s v′)
+  seconds : (figure k : ℕ) (bw : List ClosedFactor) (n n′ : List Float) (s : Stop) (v v′ : Verdict) → Alike r r′ v v′
+      → Alike r r′ (second figure k bw n r s v) (second figure k bw n′ r′ s v′)
   unfolding second
   seconds figure k bw n n′ none v v′ a = a
   seconds figure k bw n n′ (stopped j why) v v′ a = refusals figure why 2 _ n n′
 
-  firsts : (figure : ℕ) (fw : List ClosedFactor) (n n′ : List Float) (s : Stop) (v v′ : Verdict) → Alike r r′ v v′ → Alike r r′ (first figure fw n r s v) (first figure fw n′ r′ s v′)
+  firsts : (figure : ℕ) (fw : List ClosedFactor) (n n′ : List Float) (s : Stop) (v v′ : Verdict) → Alike r r′ v v′
+      → Alike r r′ (first figure fw n r s v) (first figure fw n′ r′ s v′)
   unfolding first
   firsts figure fw n n′ none v v′ a = a
   firsts figure fw n n′ (stopped j why) v v′ a = refusals figure why 1 _ n n′
@@ -59,15 +61,19 @@ module _ (m m′ r r′ : List Float) where
     abbrev by : (lm lr : ℕ) (n s : List Float) → Verdict
     by lm lr n s =
         cond (not (leb (offset g (g .count)) (length factors))) (refuse figure FactorStoreShort 1 0 n s)
-        (cond (not (every (leb figure lm ∷ leb work-numbers work ∷ leb (marginalNumbers g) lr ∷ []))) (refuse figure StoreShort 1 0 n s) (carried g p figure factors n s))
+        (cond (not (every (leb figure lm ∷ leb work-numbers work ∷ leb (marginalNumbers g) lr ∷ []))) (refuse figure StoreShort 1 0 n s)
+        (carried g p figure factors n s))
 
     checks : length m ≡ length m′ → length r ≡ length r′ → Alike r r′ (checked g p figure factors m work r) (checked g p figure factors m′ work r′)
     unfolding checked
     checks e f =
         subst₂ (λ (lm lr : ℕ). Alike r r′ (by (length m) (length r) m r) (by lm lr m′ r′)) e f
         (either (not (leb (offset g (g .count)) (length factors))) _ _ _ _ (refusals figure FactorStoreShort 1 0 m m′)
-        (either (not (every (leb figure (length m) ∷ leb work-numbers work ∷ leb (marginalNumbers g) (length r) ∷ []))) _ _ _ _ (refusals figure StoreShort 1 0 m m′) (carries g p figure factors)))
+        (either (not (every (leb figure (length m) ∷ leb work-numbers work ∷ leb (marginalNumbers g) (length r) ∷ []))) _ _ _ _
+        (refusals figure StoreShort 1 0 m m′) (carries g p figure factors)))
 
-  pub run-lengths : (g : Graph) (factors : List Float) (work : ℕ) → length m ≡ length m′ → length r ≡ length r′ → Alike r r′ (run g factors m work r) (run g factors m′ work r′)
+  pub run-lengths : (g : Graph) (factors : List Float) (work : ℕ) → length m ≡ length m′ → length r ≡ length r′
+      → Alike r r′ (run g factors m work r) (run g factors m′ work r′)
   unfolding run
-  run-lengths g factors work e f = either (not (valid g)) _ _ _ _ (refusals 0 NoSuchGraph 1 0 m m′) (checks g (graphPlan g) (figureOf g (graphPlan g)) factors work e f)
+  run-lengths g factors work e f = either (not (valid g)) _ _ _ _ (refusals 0 NoSuchGraph 1 0 m m′)
+      (checks g (graphPlan g) (figureOf g (graphPlan g)) factors work e f)

@@ -25,7 +25,8 @@ use Rattle.messages.specs.Tables.{keysOf}
 use Rattle.solver.specs.Plan.{Table, touchedBy}
 
 -- one more place of the table
-pub filled : (g : Graph) (i : ℕ) (table : List FactorKeys) (f : Factor) (k : FactorKeys) → i < max-factors → Table g i table → f ≡ factorAt g i → k ≡ touchedBy f → length (f .keys) ≡ max-keys
+pub filled : (g : Graph) (i : ℕ) (table : List FactorKeys) (f : Factor) (k : FactorKeys) → i < max-factors → Table g i table → f ≡ factorAt g i → k
+    ≡ touchedBy f → length (f .keys) ≡ max-keys
     → Table g (i + 1) (set table i k)
 filled g i table f k h t ef ek el =
     record {
@@ -46,7 +47,8 @@ filled g i table f k h t ef ek el =
 pub bounded : (l : List ℕ) (n : ℕ) → ((i : ℕ) → i < length l → getD l i 0 < n) → (j : ℕ) → In j l → j < n
 unfolding count
 bounded [] n h j s = absurd (omega arith)
-bounded (x ∷ l) n h j s = ⊎-elim (λ w. omega (arith, w .0, h 0 (omega arith))) (λ w. bounded l n (λ i p. h (suc i) (omega arith)) j (omega (arith, w .1))) (hit-cases j x)
+bounded (x ∷ l) n h j s = ⊎-elim (λ w. omega (arith, w .0, h 0 (omega arith)))
+    (λ w. bounded l n (λ i p. h (suc i) (omega arith)) j (omega (arith, w .1))) (hit-cases j x)
 
 module _ (g : Graph) (table : List FactorKeys) (v : valid g ≡ true) (t : Table g max-factors table) where
   -- the keys of the factor i are below the count of variables
@@ -69,7 +71,8 @@ module _ (g : Graph) (table : List FactorKeys) (v : valid g ≡ true) (t : Table
         below =
             λ i h. rw (t .same i (omega arith))
             (bounded (take (factorAt g i .touched) (factorAt g i .keys)) (g .variables)
-            (λ j l. let m : j < factorAt g i .touched = omega (arith, length-take (factorAt g i .touched) (factorAt g i .keys)) in rw (getD-take (factorAt g i .touched) (factorAt g i .keys) j 0 m) (low i h j m)));
+            (λ j l. let m : j < factorAt g i .touched = omega (arith, length-take (factorAt g i .touched) (factorAt g i .keys)) in rw
+            (getD-take (factorAt g i .touched) (factorAt g i .keys) j 0 m) (low i h j m)));
       }
 
   -- the table means the keys of the graph
@@ -77,7 +80,8 @@ module _ (g : Graph) (table : List FactorKeys) (v : valid g ≡ true) (t : Table
   unfolding keysOf
   same-keys = fun-ext (λ i. go i (ltb i (g .count)) refl)
     where
-      go : (i : ℕ) (b : Bool) → ltb i (g .count) ≡ b → ifSo (ltb i (g .count)) (take (getD table i noKeys .touched) (getD table i noKeys .keys)) ≡ cond (ltb i (g .count)) (take (factorAt g i .touched) (factorAt g i .keys)) []
+      go : (i : ℕ) (b : Bool) → ltb i (g .count) ≡ b → ifSo (ltb i (g .count)) (take (getD table i noKeys .touched) (getD table i noKeys .keys))
+          ≡ cond (ltb i (g .count)) (take (factorAt g i .touched) (factorAt g i .keys)) []
       go i true e =
           let few : g .count ≤ max-factors = valid-count g v in
           let h : i < g .count = ltb-true i (g .count) e in

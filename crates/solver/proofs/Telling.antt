@@ -8,5 +8,6 @@ use Rattle.solver.specs.Told.{ranTold}
 use Rattle.solver.specs.declared.run.Ran.{Ran}
 
 -- a run's answer with its stores, and what the answer tells
-pub run-tells : (v : Verdict) (r : Ran) (messages marginals : List Float) → verdict r messages marginals ≡ v → (verdict r messages marginals ≡ v) × (ranTold r ≡ ranTold (v .answer))
+pub run-tells : (v : Verdict) (r : Ran) (messages marginals : List Float) → verdict r messages marginals ≡ v
+    → (verdict r messages marginals ≡ v) × (ranTold r ≡ ranTold (v .answer))
 run-tells v r messages marginals e = (e, ap (λ (w : Verdict). ranTold (w .answer)) e)

@@ -81,13 +81,15 @@ module _ (sizes : List ℕ) (n : ℕ) (cleared kept : List ℕ) (bc : Below n cl
       let f : ℕ → ℕ = λ key. times key cleared * sizeOf sizes key in
       let h : ℕ → ℕ = λ key. times key kept * sizeOf sizes key in
       let e : sum (λ key. f key + h key) n ≡ sum f n + sum h n = sum-two f h n in
-      let u : sum (λ key. f key + h key) n ≤ sum (sizeOf sizes) n = sum-under (λ key. f key + h key) (sizeOf sizes) n (λ key l. at-most (times key cleared) (times key kept) (sizeOf sizes key) (once key l)) in
+      let u : sum (λ key. f key + h key) n ≤ sum (sizeOf sizes) n = sum-under (λ key. f key + h key) (sizeOf sizes) n
+      (λ key l. at-most (times key cleared) (times key kept) (sizeOf sizes key) (once key l)) in
       omega (arith, dim-is sizes cleared n bc, dim-is sizes kept n bk, e, u)
     where
       at-most : (a b s : ℕ) → a + b ≤ 1 → a * s + b * s ≤ s
       at-most a b s h = let m : (a + b) * s ≤ 1 * s = mul-le-mul h (omega arith) in omega arith
 
-module _ (g : Graph) (v : valid g ≡ true) (cleared kept : List ℕ) (bc : Below (g .variables) cleared) (bk : Below (g .variables) kept) (once : Once (g .variables) cleared kept) where
+module _ (g : Graph) (v : valid g ≡ true) (cleared kept : List ℕ) (bc : Below (g .variables) cleared) (bk : Below (g .variables) kept)
+    (once : Once (g .variables) cleared kept) where
   pub total-within : dimOf (g .sizes) cleared + dimOf (g .sizes) kept ≤ max-total
   unfolding total
   total-within =
@@ -136,7 +138,11 @@ single [] r key = omega arith
 single (j ∷ l) r key = go (eqb j key) refl (single l (λ a b x y. r (suc a) (suc b) (omega arith) (omega arith)) key)
   where
     go : (t : Bool) → eqb j key ≡ t → times key l ≤ 1 → cond t 1 0 + times key l ≤ 1
-    go true e ih = omega (arith, none l key (λ i b x. let y : j ≡ key = eqb-true j key e in let z : j < getD l i 0 = r 0 (suc i) (omega arith) (omega arith) in omega arith))
+    go true e ih = omega (
+      arith,
+      none l key (λ i b x. let y : j ≡ key = eqb-true j key e in let z : j < getD l i 0 = r 0 (suc i) (omega arith)
+          (omega arith) in omega arith),
+    )
     go false e ih = omega arith
 
 -- a key that is no member stands nowhere
@@ -149,7 +155,8 @@ times-member (j ∷ l) key h = go (eqb j key) h (times-member l key)
     go false e ih = ap (λ (x : ℕ). 0 + x) (ih e)
 
 -- lists that rise and share no key
-module _ (n : ℕ) (cleared kept : List ℕ) (rc : rising cleared ≡ true) (rk : rising kept ≡ true) (apart : (i : ℕ) → i < length kept → member (getD kept i 0) cleared ≡ false) where
+module _ (n : ℕ) (cleared kept : List ℕ) (rc : rising cleared ≡ true) (rk : rising kept ≡ true)
+    (apart : (i : ℕ) → i < length kept → member (getD kept i 0) cleared ≡ false) where
   pub rising-once : Once n cleared kept
   rising-once key l = go (member key cleared) refl
     where

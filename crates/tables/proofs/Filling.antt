@@ -25,7 +25,8 @@ slot-is : (i : ℕ) → i < max-factors → slotOf i ≡ Original i
 unfolding slotOf
 slot-is i l = rw (lt-ltb i max-factors l)
 
-module _ (g : Graph) (v : valid g ≡ true) (keys heads : List ℕ) (long-keys : max-keys * max-factors ≤ length keys) (long-heads : head-numbers * max-factors ≤ length heads) (i : ℕ) (l : i < g .count) (full : length (factorAt g i .keys) ≡ max-keys) where
+module _ (g : Graph) (v : valid g ≡ true) (keys heads : List ℕ) (long-keys : max-keys * max-factors ≤ length keys)
+    (long-heads : head-numbers * max-factors ≤ length heads) (i : ℕ) (l : i < g .count) (full : length (factorAt g i .keys) ≡ max-keys) where
   abbrev f : Factor
   f = factorAt g i
 
@@ -44,7 +45,8 @@ module _ (g : Graph) (v : valid g ≡ true) (keys heads : List ℕ) (long-keys :
   new : Entered g keys′ heads′ i
   new =
       record {
-        head = rw (← slot-is i low) (head-put heads i (f .prior) (offset g i) (f .rows) (widthOf (g .sizes) f) (max-keys * i) (f .touched) (omega (arith, low)));
+        head = rw (← slot-is i low) (head-put heads i (f .prior) (offset g i) (f .rows) (widthOf (g .sizes) f) (max-keys * i) (f .touched)
+            (omega (arith, low)));
         full = full;
         key = λ j h. lay-in keys (f .keys) (max-keys * i) inside 0 j (omega (arith, full, valid-touched g v i l));
       }
@@ -52,7 +54,8 @@ module _ (g : Graph) (v : valid g ≡ true) (keys heads : List ℕ) (long-keys :
   old : (k : ℕ) → k < i → Entered g keys heads k → Entered g keys′ heads′ k
   old k h e =
       record {
-        head = head-else heads i (f .prior) (offset g i) (f .rows) (widthOf (g .sizes) f) (max-keys * i) (f .touched) (omega (arith, low)) k (λ x. omega arith) ∙ e .head;
+        head = head-else heads i (f .prior) (offset g i) (f .rows) (widthOf (g .sizes) f) (max-keys * i) (f .touched) (omega (arith, low)) k
+            (λ x. omega arith) ∙ e .head;
         full = e .full;
         key = λ j b. lay-before keys (f .keys) (max-keys * i) inside 0 (max-keys * k + j) (omega (arith, valid-touched g v k (omega arith))) ∙ e .key j b;
       }
@@ -61,8 +64,10 @@ module _ (g : Graph) (v : valid g ≡ true) (keys heads : List ℕ) (long-keys :
   all-entered h = below-more (λ k. Entered g keys′ heads′ k) i (λ k b. old k b (h k b)) new
 
 -- the same with what the calls tell
-pub entered-more : (g : Graph) → valid g ≡ true → (keys heads : List ℕ) → max-keys * max-factors ≤ length keys → head-numbers * max-factors ≤ length heads → (i at : ℕ) (f : Factor) (ks hs : List ℕ) → i < g .count
-    → at ≡ offset g i → f ≡ factorAt g i → (ks ≡ lay keys (max-keys * i) (f .keys)) × (length (f .keys) ≡ max-keys) → hs ≡ withHead heads i (f .prior) at (f .rows) (widthOf (g .sizes) f) (max-keys * i) (f .touched)
+pub entered-more : (g : Graph) → valid g ≡ true → (keys heads : List ℕ) → max-keys * max-factors ≤ length keys
+    → head-numbers * max-factors ≤ length heads → (i at : ℕ) (f : Factor) (ks hs : List ℕ) → i < g .count
+    → at ≡ offset g i → f ≡ factorAt g i → (ks ≡ lay keys (max-keys * i) (f .keys)) × (length (f .keys) ≡ max-keys) → hs
+    ≡ withHead heads i (f .prior) at (f .rows) (widthOf (g .sizes) f) (max-keys * i) (f .touched)
     → ((k : ℕ) → k < i → Entered g keys heads k) → (k : ℕ) → k < i + 1 → Entered g ks hs k
 entered-more g v keys heads lk lh i at f ks hs l ea ef ek eh h =
     let full : length (factorAt g i .keys) ≡ max-keys = rw ef at (ek .1) in

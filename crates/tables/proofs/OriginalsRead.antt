@@ -24,8 +24,10 @@ use Rattle.gaussian.specs.Asked.{KeyFits, HeadFits}
 use Rattle.tables.specs.Originals.{widthOf, originalView, originalHead, Entered, Originals}
 
 -- what is written later, past the places of originals, does not matter
-pub originals-stay : (g : Graph) (keys heads keys′ heads′ : List ℕ) → valid g ≡ true → Originals g keys heads → length keys′ ≡ length keys → length heads′ ≡ length heads
-    → ((p : ℕ) → p < max-keys * max-factors → getD keys′ p 0 ≡ getD keys p 0) → ((i : ℕ) → i < max-factors → headOf heads′ i ≡ headOf heads i) → Originals g keys′ heads′
+pub originals-stay : (g : Graph) (keys heads keys′ heads′ : List ℕ) → valid g ≡ true → Originals g keys heads → length keys′ ≡ length keys
+    → length heads′ ≡ length heads
+    → ((p : ℕ) → p < max-keys * max-factors → getD keys′ p 0 ≡ getD keys p 0) → ((i : ℕ) → i < max-factors → headOf heads′ i ≡ headOf heads i)
+    → Originals g keys′ heads′
 originals-stay g keys heads keys′ heads′ v o ek eh sk sh =
     record {
       long-keys = omega (arith, o .long-keys);
@@ -73,12 +75,14 @@ module _ (g : Graph) (v : valid g ≡ true) (keys heads : List ℕ) (o : Origina
   pub keys-are : keysAt keys h ≡ take (f .touched) (f .keys)
   keys-are =
       let n : h .first + h .count - h .first ≡ f .touched = omega arith in
-      let a : length (take (f .touched) (drop (max-keys * i) keys)) ≡ f .touched = length-take-le (f .touched) (drop (max-keys * i) keys) (rw (length-drop (max-keys * i) keys) (omega (arith, inside))) in
+      let a : length (take (f .touched) (drop (max-keys * i) keys))
+      ≡ f .touched = length-take-le (f .touched) (drop (max-keys * i) keys) (rw (length-drop (max-keys * i) keys) (omega (arith, inside))) in
       let b : length (take (f .touched) (f .keys)) ≡ f .touched = length-take-le (f .touched) (f .keys) (omega (arith, entry .full, valid-touched g v i l)) in
       rw n (ext-getD 0 (take (f .touched) (drop (max-keys * i) keys)) (take (f .touched) (f .keys)) (a ∙ sym b)
       (λ j k.
       let q : j < f .touched = omega arith in
-      getD-take (f .touched) (drop (max-keys * i) keys) j 0 q ∙ getD-drop (max-keys * i) keys j 0 ∙ entry .key j q ∙ sym (getD-take (f .touched) (f .keys) j 0 q)))
+      getD-take (f .touched) (drop (max-keys * i) keys) j 0 q ∙ getD-drop (max-keys * i) keys j 0 ∙ entry .key j q
+      ∙ sym (getD-take (f .touched) (f .keys) j 0 q)))
 
   pub original-view : (factors messages : List Float) → readView factors messages keys (headOf heads i) ≡ originalView g factors i
   unfolding originalView
@@ -105,7 +109,8 @@ module _ (g : Graph) (v : valid g ≡ true) (keys heads : List ℕ) (o : Origina
         (omega arith, rw k (sym (prior-rows (g .sizes) (g .variables) f fit p)))
 
     of-likelihood : f .prior ≡ false → column (g .sizes) (keysAt keys h) (f .touched) ≡ widthOf (g .sizes) f
-    of-likelihood p = rw (keys-are, p) (column-is (g .sizes) (take (f .touched) (f .keys)) (f .keys) (f .touched) (λ j k. getD-take (f .touched) (f .keys) j 0 k))
+    of-likelihood p = rw (keys-are, p) (column-is (g .sizes) (take (f .touched) (f .keys)) (f .keys) (f .touched)
+        (λ j k. getD-take (f .touched) (f .keys) j 0 k))
 
     narrow : widthOf (g .sizes) f ≤ max-total
     narrow = go (f .prior) (width-most g v f fit)

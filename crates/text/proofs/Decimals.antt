@@ -42,7 +42,8 @@ more-length x l = ap length (more-digits x l) ∙ length-append (decimal (x / 10
 -- a number below a power of ten has no more digits than its exponent
 pub few-digits : (k x : ℕ) → x < 10 ^ suc k → length (decimal x) ≤ suc k
 few-digits zero x l = by-ten (length (decimal x) ≤ 1) x (λ t. omega (arith, one-length x t)) (λ t. omega arith)
-few-digits (suc k) x l = by-ten (length (decimal x) ≤ suc (suc k)) x (λ t. omega (arith, one-length x t)) (λ t. omega (arith, more-length x t, few-digits k (x / 10) (omega arith)))
+few-digits (suc k) x l = by-ten (length (decimal x) ≤ suc (suc k)) x (λ t. omega (arith, one-length x t))
+    (λ t. omega (arith, more-length x t, few-digits k (x / 10) (omega arith)))
 
 pub field-length : (n : ℕ) → length (fieldText n) ≡ length (decimal n) + 1
 unfolding fieldText

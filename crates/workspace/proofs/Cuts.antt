@@ -36,30 +36,82 @@ module _ (f : Frame) (t x : List Float) (l : Laid f (length t)) where
   unfolding change
   cut-splice S g n e =
       let above = part-above t 0 (f .h) x (omega arith) (omega arith) n in
-      rw (part-same t 0 (f .h) x (omega arith) (omega arith) n, above (f .h) (f .g) (omega arith) (omega arith), above (f .g) (f .a) (omega arith) (omega arith), above (f .a) (f .xi) (omega arith) (omega arith), above (f .xi) (f .w) (omega arith) (omega arith), above (f .w) (f .end) (omega arith) (omega arith), ← e)
+      rw (
+        part-same t 0 (f .h) x (omega arith) (omega arith) n,
+        above (f .h) (f .g) (omega arith) (omega arith),
+        above (f .g) (f .a) (omega arith) (omega arith),
+        above (f .a) (f .xi) (omega arith) (omega arith),
+        above (f .xi) (f .w) (omega arith)
+            (omega arith),
+        above (f .w) (f .end) (omega arith) (omega arith),
+        ← e,
+      )
   cut-splice H g n e =
       let below = part-below t (f .h) (f .g) x (omega arith) (omega arith) n in
       let above = part-above t (f .h) (f .g) x (omega arith) (omega arith) n in
-      rw (part-same t (f .h) (f .g) x (omega arith) (omega arith) n, below 0 (f .h) (omega arith), above (f .g) (f .a) (omega arith) (omega arith), above (f .a) (f .xi) (omega arith) (omega arith), above (f .xi) (f .w) (omega arith) (omega arith), above (f .w) (f .end) (omega arith) (omega arith), ← e)
+      rw (
+        part-same t (f .h) (f .g) x (omega arith) (omega arith) n,
+        below 0 (f .h) (omega arith),
+        above (f .g) (f .a) (omega arith) (omega arith),
+        above (f .a) (f .xi) (omega arith) (omega arith),
+        above (f .xi) (f .w) (omega arith) (omega arith),
+        above (f .w) (f .end) (omega arith)
+            (omega arith),
+        ← e,
+      )
   cut-splice G g n e =
       let below = part-below t (f .g) (f .a) x (omega arith) (omega arith) n in
       let above = part-above t (f .g) (f .a) x (omega arith) (omega arith) n in
-      rw (part-same t (f .g) (f .a) x (omega arith) (omega arith) n, below 0 (f .h) (omega arith), below (f .h) (f .g) (omega arith), above (f .a) (f .xi) (omega arith) (omega arith), above (f .xi) (f .w) (omega arith) (omega arith), above (f .w) (f .end) (omega arith) (omega arith), ← e)
+      rw (
+        part-same t (f .g) (f .a) x (omega arith) (omega arith) n,
+        below 0 (f .h) (omega arith),
+        below (f .h) (f .g) (omega arith),
+        above (f .a) (f .xi) (omega arith) (omega arith),
+        above (f .xi) (f .w) (omega arith) (omega arith),
+        above (f .w) (f .end) (omega arith)
+            (omega arith),
+        ← e,
+      )
   cut-splice A g n e =
       let below = part-below t (f .a) (f .xi) x (omega arith) (omega arith) n in
       let above = part-above t (f .a) (f .xi) x (omega arith) (omega arith) n in
-      rw (part-same t (f .a) (f .xi) x (omega arith) (omega arith) n, below 0 (f .h) (omega arith), below (f .h) (f .g) (omega arith), below (f .g) (f .a) (omega arith), above (f .xi) (f .w) (omega arith) (omega arith), above (f .w) (f .end) (omega arith) (omega arith), ← e)
+      rw (
+        part-same t (f .a) (f .xi) x (omega arith) (omega arith) n,
+        below 0 (f .h) (omega arith),
+        below (f .h) (f .g) (omega arith),
+        below (f .g) (f .a) (omega arith),
+        above (f .xi) (f .w) (omega arith) (omega arith),
+        above (f .w) (f .end) (omega arith) (omega arith),
+        ← e,
+      )
   cut-splice Xi g n e =
       let below = part-below t (f .xi) (f .w) x (omega arith) (omega arith) n in
       let above = part-above t (f .xi) (f .w) x (omega arith) (omega arith) n in
-      rw (part-same t (f .xi) (f .w) x (omega arith) (omega arith) n, below 0 (f .h) (omega arith), below (f .h) (f .g) (omega arith), below (f .g) (f .a) (omega arith), below (f .a) (f .xi) (omega arith), above (f .w) (f .end) (omega arith) (omega arith), ← e)
+      rw (
+        part-same t (f .xi) (f .w) x (omega arith) (omega arith) n,
+        below 0 (f .h) (omega arith),
+        below (f .h) (f .g) (omega arith),
+        below (f .g) (f .a) (omega arith),
+        below (f .a) (f .xi) (omega arith),
+        above (f .w) (f .end) (omega arith) (omega arith),
+        ← e,
+      )
   cut-splice W g n e =
       let below = part-below t (f .w) (f .end) x (omega arith) (omega arith) n in
-      rw (part-same t (f .w) (f .end) x (omega arith) (omega arith) n, below 0 (f .h) (omega arith), below (f .h) (f .g) (omega arith), below (f .g) (f .a) (omega arith), below (f .a) (f .xi) (omega arith), below (f .xi) (f .w) (omega arith), ← e)
+      rw (
+        part-same t (f .w) (f .end) x (omega arith) (omega arith) n,
+        below 0 (f .h) (omega arith),
+        below (f .h) (f .g) (omega arith),
+        below (f .g) (f .a) (omega arith),
+        below (f .a) (f .xi) (omega arith),
+        below (f .xi) (f .w) (omega arith),
+        ← e,
+      )
 
 -- ---- as the calls meet them
 
-pub long : (f : Frame) (t : List Float) → Laid f (length t) → (which : Part) (p q : ℕ) → p ≡ from f which → q ≡ to f which → length (part t p q) ≡ to f which - from f which
+pub long : (f : Frame) (t : List Float) → Laid f (length t) → (which : Part) (p q : ℕ) → p ≡ from f which → q ≡ to f which → length (part t p q)
+    ≡ to f which - from f which
 long f t l which p q ep eq =
     let e : q - p ≡ to f which - from f which = omega arith in
     length-part t p q (omega (arith, bounds l which .1)) ∙ e

@@ -60,8 +60,10 @@ pub solved-part : (x : List Float) (a b p q n w : ℕ) → b ≤ p → p ≤ q �
     → solvedIn (start a n) n (start p n) x w ≡ splice x p q (solvedColumns (part x a b) n (part x p q) w)
 unfolding solvedIn solvedColumns solveLower solveLowerIn
 solved-part x a b p q n w bp pq qx hl hx =
-    subst (λ (y : List Float). sweep (λ j t. solveLowerIn (start a n) (start p n) j t n) y w ≡ splice x p q (solvedColumns (part x a b) n (part x p q) w)) (splice-part x p q)
-    (sweep-part x p q (λ j t. solveLowerIn (start a n) (start p n) j t n) (λ j t. solveLower (part x a b) (columns n) (columns n) j t n) w (part x p q) (length-part x p q qx)
+    subst (λ (y : List Float). sweep (λ j t. solveLowerIn (start a n) (start p n) j t n) y w
+    ≡ splice x p q (solvedColumns (part x a b) n (part x p q) w)) (splice-part x p q)
+    (sweep-part x p q (λ j t. solveLowerIn (start a n) (start p n) j t n) (λ j t. solveLower (part x a b) (columns n) (columns n) j t n) w
+    (part x p q) (length-part x p q qx)
     (λ j t. steps-length (λ i. place (columns n) i j) (λ i u. solvedRow (part x a b) (columns n) i u (columns n) j 0 i) t n)
     (λ j hj t lt.
     steps-part x p q (λ i. place (start p n) i j) (λ i. place (columns n) i j) (λ i u. solvedRow u (start a n) i u (start p n) j 0 i)
@@ -80,13 +82,17 @@ dot-same a a′ av av′ i b b′ bv bv′ j n ha hb =
 
 -- C deduct A transposed times B
 pub subtracted-part : (x : List Float) (a b c d p q m n w : ℕ) → b ≤ p → d ≤ p → p ≤ q → q ≤ length x → n * m ≤ b - a → n * w ≤ d - c → m * w ≤ q - p
-    → subtractedIn (start p m) m (flip (start a n)) (start c n) n x w ≡ splice x p q (product Subtract (columns m) m (part x a b) (flip (columns n)) (part x c d) (columns n) n (part x p q) w)
+    → subtractedIn (start p m) m (flip (start a n)) (start c n) n x w
+    ≡ splice x p q (product Subtract (columns m) m (part x a b) (flip (columns n)) (part x c d) (columns n) n (part x p q) w)
 unfolding subtractedIn subtractedColumnIn product block blockColumn
 subtracted-part x a b c d p q m n w bp dp pq qx ha hb hc =
-    subst (λ (y : List Float). sweep (λ j t. subtractedColumnIn (start p m) (flip (start a n)) (start c n) n j t m) y w ≡ splice x p q (product Subtract (columns m) m (part x a b) (flip (columns n)) (part x c d) (columns n) n (part x p q) w)) (splice-part x p q)
+    subst (λ (y : List Float). sweep (λ j t. subtractedColumnIn (start p m) (flip (start a n)) (start c n) n j t m) y w
+    ≡ splice x p q (product Subtract (columns m) m (part x a b) (flip (columns n)) (part x c d) (columns n) n (part x p q) w)) (splice-part x p q)
     (sweep-part x p q (λ j t. subtractedColumnIn (start p m) (flip (start a n)) (start c n) n j t m)
-    (λ j t. blockColumn (columns m) (productEntry Subtract (part x a b) (flip (columns n)) (part x c d) (columns n) n) j t m) w (part x p q) (length-part x p q qx)
-    (λ j t. steps-length (λ i. place (columns m) i j) (λ i u. productEntry Subtract (part x a b) (flip (columns n)) (part x c d) (columns n) n i j (entry u (columns m) i j)) t m)
+    (λ j t. blockColumn (columns m) (productEntry Subtract (part x a b) (flip (columns n)) (part x c d) (columns n) n) j t m) w (part x p q)
+    (length-part x p q qx)
+    (λ j t. steps-length (λ i. place (columns m) i j) (λ i u. productEntry Subtract (part x a b) (flip (columns n)) (part x c d) (columns n) n i j
+    (entry u (columns m) i j)) t m)
     (λ j hj t lt.
     steps-part x p q (λ i. place (start p m) i j) (λ i. place (columns m) i j)
     (λ i u. sub binary64 (entry u (start p m) i j) (dotOf u (flip (start a n)) i u (start c n) j n))
@@ -112,26 +118,39 @@ solvedColumns-length l u c n =
     sweep-length (λ j t. solveLower l (columns u) (columns u) j t u) c n
     (λ j t. steps-length (λ i. place (columns u) i j) (λ i t. solvedRow l (columns u) i t (columns u) j 0 i) t u)
 
-pub solve-at-is : (f : Frame) (t r : List Float) (which : Part) (m p : ℕ) → Laid f (length t) → f .h ≤ from f which → f .cleared * m ≤ to f which - from f which → p ≡ from f which
+pub solve-at-is : (f : Frame) (t r : List Float) (which : Part) (m p : ℕ) → Laid f (length t) → f .h ≤ from f which
+    → f .cleared * m ≤ to f which - from f which → p ≡ from f which
     → r ≡ solvedIn (start 0 (f .cleared)) (f .cleared) (start p (f .cleared)) t m
     → cut f r ≡ change which (λ c. solvedColumns (cut f t .s) (f .cleared) c m) (cut f t)
 solve-at-is f t r which m p l low fit ep er =
     let b = bounds l which in
     rw (er, ep, solved-part t 0 (f .h) (from f which) (to f which) (f .cleared) m low (b .0) (b .1) (omega arith) fit)
-    (cut-splice f t (solvedColumns (part t 0 (f .h)) (f .cleared) (part t (from f which) (to f which)) m) l which (λ c. solvedColumns (cut f t .s) (f .cleared) c m)
+    (cut-splice f t (solvedColumns (part t 0 (f .h)) (f .cleared) (part t (from f which) (to f which)) m) l which
+    (λ c. solvedColumns (cut f t .s) (f .cleared) c m)
     (solvedColumns-length (part t 0 (f .h)) (f .cleared) (part t (from f which) (to f which)) m ∙ long f t l which (from f which) (to f which) refl refl)
     (ap (λ (c : List Float). solvedColumns (cut f t .s) (f .cleared) c m) (picked f t which)))
 
-pub subtract-at-is : (f : Frame) (t r : List Float) (which right : Part) (w p c : ℕ) → Laid f (length t) → f .a ≤ from f which → f .rows * w ≤ to f which - from f which
+pub subtract-at-is : (f : Frame) (t r : List Float) (which right : Part) (w p c : ℕ) → Laid f (length t) → f .a ≤ from f which
+    → f .rows * w ≤ to f which - from f which
     → to f right ≤ f .a → f .cleared * w ≤ to f right - from f right → p ≡ from f which → c ≡ from f right
     → r ≡ subtractedIn (start p (f .rows)) (f .rows) (flip (start (f .g) (f .cleared))) (start c (f .cleared)) (f .cleared) t w
-    → cut f r ≡ change which (λ x. product Subtract (columns (f .rows)) (f .rows) (cut f t .g) (flip (columns (f .cleared))) (pick right (cut f t)) (columns (f .cleared)) (f .cleared) x w) (cut f t)
+    → cut f r ≡ change which (λ x. product Subtract (columns (f .rows)) (f .rows) (cut f t .g) (flip (columns (f .cleared))) (pick right (cut f t))
+    (columns (f .cleared)) (f .cleared) x w) (cut f t)
 unfolding product
 subtract-at-is f t r which right w p c l low fit low′ fit′ ep ec er =
     let b = bounds l which in
-    let g : List Float → List Float = λ x. product Subtract (columns (f .rows)) (f .rows) (cut f t .g) (flip (columns (f .cleared))) (pick right (cut f t)) (columns (f .cleared)) (f .cleared) x w in
-    rw (er, ep, ec, subtracted-part t (f .g) (f .a) (from f right) (to f right) (from f which) (to f which) (f .rows) (f .cleared) w low (omega arith) (b .0) (b .1) (omega arith) fit′ fit, picked f t right)
+    let g : List Float → List Float = λ x. product Subtract (columns (f .rows)) (f .rows) (cut f t .g) (flip (columns (f .cleared)))
+    (pick right (cut f t)) (columns (f .cleared)) (f .cleared) x w in
+    rw (
+      er,
+      ep,
+      ec,
+      subtracted-part t (f .g) (f .a) (from f right) (to f right) (from f which) (to f which) (f .rows) (f .cleared) w low (omega arith)
+          (b .0) (b .1) (omega arith) fit′ fit,
+      picked f t right,
+    )
     (cut-splice f t (g (part t (from f which) (to f which))) l which g
-    (block-length (columns (f .rows)) (f .rows) (productEntry Subtract (cut f t .g) (flip (columns (f .cleared))) (pick right (cut f t)) (columns (f .cleared)) (f .cleared)) (part t (from f which) (to f which)) w
+    (block-length (columns (f .rows)) (f .rows) (productEntry Subtract (cut f t .g) (flip (columns (f .cleared))) (pick right (cut f t))
+    (columns (f .cleared)) (f .cleared)) (part t (from f which) (to f which)) w
     ∙ long f t l which (from f which) (to f which) refl refl)
     (ap g (picked f t which)))

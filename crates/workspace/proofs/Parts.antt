@@ -4,7 +4,8 @@ use mathlib.Core.Path.{_≡_, refl, ap, _∙_, sym, subst}
 use mathlib.Core.List.{List, [], _∷_, _++_}
 use native.Mathlib.Nat.{mul-le-mul-right, zero-add, suc-add}
 use native.Mathlib.Omega.{arith}
-use lib.ListN.{length, getD, set, take, drop, length-append, length-take, length-drop, List·getD-append, replicate, length-replicate, getD-replicate, take-append-drop}
+use lib.ListN.{length, getD, set, take, drop, length-append, length-take, length-drop, List·getD-append, replicate, length-replicate, getD-replicate}
+use lib.ListN.{take-append-drop}
 use lib.Seq.{getD-take, getD-drop, getD-append-add, ext-getD, length-take-le, getD-set-same, getD-set-other, set-append-left, take-add, drop-drop}
 use borrow.Author.Count.{below-more}
 use lib.Ieee.{Float, nan}

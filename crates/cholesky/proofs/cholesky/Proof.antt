@@ -1,4 +1,5 @@
--- `cholesky::cholesky` meets its contract. The inner loop's invariant: the rows of column j that were passed are the definition's; the outer one's: so are the columns.
+-- `cholesky::cholesky` meets its contract. The inner loop's invariant: the rows of column j that were passed are the definition's; the outer one's:
+-- so are the columns.
 -- The turns are in `proofs/Turns.antt`. Assumes nothing.
 use Prim.Native.Nat.{ℕ, suc, _+_, _≤_, _<_, _-_}
 use mathlib.Core.Path.{_≡_, refl, ap, _∙_}
@@ -30,40 +31,20 @@ columns-holds : tie.Need-columns-holds Inv-loop μ-loop Inv-columns μ-columns
 unfolding factor
 columns-holds c = (omega arith, refl, refl, refl)
 
-loop-holds : tie.Need-loop-holds Inv-loop μ-loop Inv-columns μ-columns
-loop-holds c = (omega arith, omega arith, refl, refl, λ _. refl, λ h. absurd (omega arith))
-
 -- what the contract says of the slice at entry, at a turn of the inner loop
-stands : (c : tie.In-loop Inv-loop μ-loop Inv-columns μ-columns) (i k : ℕ) → i < c .before .before .before .before .before .args .n → k < c .before .before .before .before .before .args .n
+stands : (c : tie.In-loop Inv-loop μ-loop Inv-columns μ-columns) (i k : ℕ) → i < c .before .before .before .before .before .args .n
+    → k < c .before .before .before .before .before .args .n
     → place (c .before .before .before .before .before .args .v) i k < length (c .before .loop .s)
 stands c i k hi hk = omega (arith, c .before .before .before .before .before .pre i k hi hk)
 
 reduced-requires : tie.Need-reduced-requires Inv-loop μ-loop Inv-columns μ-columns
 reduced-requires c κs = (λ k h. stands (c .before) _ k (omega arith) (omega arith), λ k h. stands (c .before) _ k (omega arith) (omega arith))
 
-get-requires : tie.Need-get-requires Inv-loop μ-loop Inv-columns μ-columns
-get-requires c κs = stands (c .before .before .before) _ _ (omega arith) (omega arith)
-
-pivot-requires : tie.Need-pivot-requires Inv-loop μ-loop Inv-columns μ-columns
-pivot-requires c κs = tt
-
-enum-known-r : tie.Need-enum-known-r Inv-loop μ-loop Inv-columns μ-columns
-enum-known-r c = search needs
-
 put-requires : tie.Need-put-requires Inv-loop μ-loop Inv-columns μ-columns
 put-requires c κs = stands (c .before .before .before .before .before .before .before .before .before .before) _ _ (omega arith) (omega arith)
 
-enum-told : tie.Need-enum-told Inv-loop μ-loop Inv-columns μ-columns
-enum-told c = search needs
-
 put-requires-2 : tie.Need-put-requires-2 Inv-loop μ-loop Inv-columns μ-columns
 put-requires-2 c κs = stands (c .before .before .before .before .before .before) _ _ (omega arith) (omega arith)
-
-add-i : tie.Need-add-i Inv-loop μ-loop Inv-columns μ-columns
-add-i c = omega arith
-
-loop-less : tie.Need-loop-less Inv-loop μ-loop Inv-columns μ-columns
-loop-less c = omega arith
 
 -- the slice after a turn
 turned : (c : tie.Joined1 Inv-loop μ-loop Inv-columns μ-columns) →
@@ -91,57 +72,43 @@ loop-again c =
     let t = turned c in
     (omega arith, omega arith, t .0, c .before .before .before .before .before .before .loop .inv .3, λ e. absurd (omega arith), λ _. t .1)
 
-add-j : tie.Need-add-j Inv-loop μ-loop Inv-columns μ-columns
-add-j c = omega arith
-
-columns-less : tie.Need-columns-less Inv-loop μ-loop Inv-columns μ-columns
-columns-less c = omega arith
-
 columns-again : tie.Need-columns-again Inv-loop μ-loop Inv-columns μ-columns
 columns-again c =
     let e : c .before .loop .i ≡ c .before .before .before .before .before .args .n = omega arith in
     (omega arith, omega arith, cc, column-done _ _ _ _ _ _ _ e (c .before .before .before .columns .inv .3) (c .before .loop .inv .5 (omega arith)))
 
-same-length : tie.Need-same-length Inv-loop μ-loop Inv-columns μ-columns
-same-length c = search needs
-
 returns : tie.Need-returns Inv-loop μ-loop Inv-columns μ-columns
 returns c =
-    let e : c .before .columns .j ≡ c .before .before .before .args .n = omega arith in
-    all-done _ _ _ _ _ _ e (c .before .columns .inv .2) (c .before .columns .inv .3)
-
-same-length-2 : tie.Need-same-length-2 Inv-loop μ-loop Inv-columns μ-columns
-same-length-2 c = search needs
+    let columns = c .before .columns in
+    let e : columns .j ≡ c .before .before .before .args .n = omega arith in
+    all-done _ _ _ _ _ _ e (columns .inv .2) (columns .inv .3)
 
 returns-2 : tie.Need-returns-2 Inv-loop μ-loop Inv-columns μ-columns
 returns-2 c =
     let ij = c .before .before .before .if1 .taken in
-    no-turn _ _ _ _ _ _ _ _ _ _ (omega arith) (c .before .before .before .before .before .before .before .before .before .before .before .columns .inv .3) ij (c .before .before .before .before .before .before .before .before .before .loop .inv .4 ij) (c .before .before .before .before .before .before .reduced .ensures) (c .before .before .before .before .get .ensures) (c .before .before .pivot .ensures) (c .enum-told .given .1)
+    no-turn _ _ _ _ _ _ _ _ _ _ (omega arith) (c .before .before .before .before .before .before .before .before .before .before .before .columns .inv
+    .3) ij (c .before .before .before .before .before .before .before .before .before .loop .inv .4 ij)
+    (c .before .before .before .before .before .before .reduced .ensures) (c .before .before .before .before .get .ensures)
+    (c .before .before .pivot .ensures) (c .enum-told .given .1)
 
 pub cholesky-spec : {M : Type 1} → statement M
 cholesky-spec =
-    tie.close
-    (tie.spec
-    Inv-loop
-    μ-loop
-    Inv-columns
-    μ-columns
-    columns-holds
-    loop-holds
+    tie.close (tie.spec Inv-loop μ-loop Inv-columns μ-columns columns-holds
+    (λ c. (omega arith, omega arith, refl, refl, λ _. refl, λ h. absurd (omega arith)))  -- loop-holds
     reduced-requires
-    get-requires
-    pivot-requires
-    enum-known-r
+    (λ c κs. stands (c .before .before .before) _ _ (omega arith) (omega arith))  -- get-requires
+    (λ c κs. tt)  -- pivot-requires
+    (λ c. search needs)  -- enum-known-r
     put-requires
-    enum-told
+    (λ c. search needs)  -- enum-told
     put-requires-2
-    add-i
-    loop-less
+    (λ c. omega arith)  -- add-i
+    (λ c. omega arith)  -- loop-less
     loop-again
-    add-j
-    columns-less
+    (λ c. omega arith)  -- add-j
+    (λ c. omega arith)  -- columns-less
     columns-again
-    same-length
+    (λ c. search needs)  -- same-length
     returns
-    same-length-2
+    (λ c. search needs)  -- same-length-2
     returns-2)

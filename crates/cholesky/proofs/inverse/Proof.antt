@@ -21,19 +21,17 @@ unfolding inverted sweep
 loop-holds c = (omega arith, refl, refl)
 
 unit-column-requires : tie.Need-unit-column-requires Inv-loop μ-loop
-unit-column-requires c κs = λ i h. within (c .before .before .loop .inv .1) (c .before .before .before .before .before .pre .1 i _ h (c .before .loop-test .taken))
+unit-column-requires c κs = λ i h. within (c .before .before .loop .inv .1)
+    (c .before .before .before .before .before .pre .1 i _ h (c .before .loop-test .taken))
 
 solve-requires : tie.Need-solve-requires Inv-loop μ-loop
 solve-requires c κs =
     let start = c .before .before .before .before .before .before .before .before .before in
-    let l = c .before .before .before .before .before .before .loop in
-    (start .pre .0, λ i h. within (c .before .before .before .unit-column .kept .0 ∙ l .inv .1) (start .pre .1 i _ h (c .before .before .before .before .before .loop-test .taken)))
-
-add-c : tie.Need-add-c Inv-loop μ-loop
-add-c c = omega arith
-
-loop-less : tie.Need-loop-less Inv-loop μ-loop
-loop-less c = omega arith
+    let l = c .before .before .before .before .before .before .loop in (
+      start .pre .0,
+      λ i h. within (c .before .before .before .unit-column .kept .0 ∙ l .inv .1)
+          (start .pre .1 i _ h (c .before .before .before .before .before .loop-test .taken)),
+    )
 
 loop-again : tie.Need-loop-again Inv-loop μ-loop
 unfolding inverted
@@ -43,23 +41,15 @@ loop-again c =
     let l = c .before .before .before .before .before .before .before .before .before .loop in
     (omega arith, omega (arith, s .kept .1 .1 .1 .0, u .kept .0, l .inv .1), sweep-more _ _ _ _ _ (l .inv .2) (s .ensures ∙ ap (solved _ _ _ _ _) (u .ensures)))
 
-same-length : tie.Need-same-length Inv-loop μ-loop
-same-length c = search needs
-
 returns : tie.Need-returns Inv-loop μ-loop
-returns c = let e : c .before .loop .c ≡ c .before .before .before .before .args .n = omega arith in cc
+returns c =
+    let e : c .before .loop .c ≡ c .before .before .before .before .args .n = omega arith in cc
 
 pub inverse-spec : {M : Type 1} → statement M
 inverse-spec =
-    tie.close
-    (tie.spec
-    Inv-loop
-    μ-loop
-    loop-holds
-    unit-column-requires
-    solve-requires
-    add-c
-    loop-less
+    tie.close (tie.spec Inv-loop μ-loop loop-holds unit-column-requires solve-requires
+    (λ c. omega arith)  -- add-c
+    (λ c. omega arith)  -- loop-less
     loop-again
-    same-length
+    (λ c. search needs)  -- same-length
     returns)

@@ -4,12 +4,11 @@ use Rattle.cholesky.specs.Factor.{pivotOf}
 use Rattle.cholesky.proofs.pivot.Statement.{statement}
 use Rattle.cholesky.proofs.pivot.Tie as tie
 
-root-requires : tie.Need-root-requires
-root-requires c κs = search needs
-
 returns : tie.Need-returns
 unfolding pivotOf
 returns c = c .root .ensures .0
 
 pub pivot-spec : {M : Type 1} → statement M
-pivot-spec = tie.close (tie.spec root-requires returns)
+pivot-spec = tie.close (tie.spec
+    (λ c κs. search needs)  -- root-requires
+    returns)

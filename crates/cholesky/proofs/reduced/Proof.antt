@@ -6,12 +6,6 @@ use Rattle.cholesky.specs.Factor.{reduced}
 use Rattle.cholesky.proofs.reduced.Statement.{statement}
 use Rattle.cholesky.proofs.reduced.Tie as tie
 
-get-requires : tie.Need-get-requires
-get-requires c κs = c .before .pre .0 _ (omega arith)
-
-flip-requires : tie.Need-flip-requires
-flip-requires c κs = search needs
-
 deduct-requires : tie.Need-deduct-requires
 deduct-requires c κs =
     let start = c .before .before .before in
@@ -22,4 +16,7 @@ unfolding reduced
 returns c = rw (c .deduct .ensures, c .before .flip .ensures, c .before .before .get .ensures)
 
 pub reduced-spec : {M : Type 1} → statement M
-reduced-spec = tie.close (tie.spec get-requires flip-requires deduct-requires returns)
+reduced-spec = tie.close (tie.spec
+    (λ c κs. c .before .pre .0 _ (omega arith))  -- get-requires
+    (λ c κs. search needs)  -- flip-requires
+    deduct-requires returns)

@@ -6,12 +6,6 @@ use borrow.Author.Needs.{needs}
 use Rattle.cholesky.proofs.solve.Statement.{statement}
 use Rattle.cholesky.proofs.solve.Tie as tie
 
-solve-lower-requires : tie.Need-solve-lower-requires
-solve-lower-requires c κs = search needs
-
-flip-requires : tie.Need-flip-requires
-flip-requires c κs = search needs
-
 solve-upper-requires : tie.Need-solve-upper-requires
 solve-upper-requires c κs =
     let start = c .before .before .before .before .before .before .before .before in (
@@ -19,13 +13,19 @@ solve-upper-requires c κs =
       λ i h. within (c .before .before .before .before .solve-lower .kept .1 .1 .1 .0) (start .pre .1 i h),
     )
 
-same-length : tie.Need-same-length
-same-length c = search needs
-
 returns : tie.Need-returns
 unfolding solved
-returns c = rw (c .before .before .solve-upper .ensures, c .before .before .before .before .flip .ensures, c .before .before .before .before .before .before .before .solve-lower .ensures)
+returns c = rw (
+  c .before .before .solve-upper .ensures,
+  c .before .before .before .before .flip .ensures,
+  c .before .before .before .before .before .before .before .solve-lower .ensures,
+)
 
 pub solve-spec : {M : Type 1} → statement M
 solve-spec =
-    tie.close (tie.spec solve-lower-requires flip-requires solve-upper-requires same-length returns)
+    tie.close (tie.spec
+    (λ c κs. search needs)  -- solve-lower-requires
+    (λ c κs. search needs)  -- flip-requires
+    solve-upper-requires
+    (λ c. search needs)  -- same-length
+    returns)

@@ -31,35 +31,18 @@ solved-row-requires c κs =
     )
 
 put-requires : tie.Need-put-requires Inv-loop μ-loop
-put-requires c κs = within (c .before .before .before .before .loop .inv .1) (c .before .before .before .before .before .before .pre .1 _ (c .before .before .before .loop-test .taken))
-
-add-i : tie.Need-add-i Inv-loop μ-loop
-add-i c = omega arith
-
-loop-less : tie.Need-loop-less Inv-loop μ-loop
-loop-less c = omega arith
+put-requires c κs = within (c .before .before .before .before .loop .inv .1)
+    (c .before .before .before .before .before .before .pre .1 _ (c .before .before .before .loop-test .taken))
 
 loop-again : tie.Need-loop-again Inv-loop μ-loop
 unfolding solveLowerIn steps
 loop-again c = (omega arith, omega (arith, c .before .before .put .kept .0), rw add-one (cc))
 
-same-length : tie.Need-same-length Inv-loop μ-loop
-same-length c = search needs
-
-returns : tie.Need-returns Inv-loop μ-loop
-returns c = let e : c .before .loop .i ≡ c .before .before .before .args .n = omega arith in cc
-
 pub solve-lower-in-spec : {M : Type 1} → statement M
 solve-lower-in-spec =
-    tie.close
-    (tie.spec
-    Inv-loop
-    μ-loop
-    loop-holds
-    solved-row-requires
-    put-requires
-    add-i
-    loop-less
+    tie.close (tie.spec Inv-loop μ-loop loop-holds solved-row-requires put-requires
+    (λ c. omega arith)  -- add-i
+    (λ c. omega arith)  -- loop-less
     loop-again
-    same-length
-    returns)
+    (λ c. search needs)  -- same-length
+    (λ c. let e : c .before .loop .i ≡ c .before .before .before .args .n = omega arith in cc))  -- returns

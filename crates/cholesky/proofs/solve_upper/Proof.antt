@@ -20,15 +20,6 @@ loop-holds : tie.Need-loop-holds Inv-loop μ-loop
 unfolding solveUpper steps
 loop-holds c = (omega arith, refl, refl)
 
-add-i : tie.Need-add-i Inv-loop μ-loop
-add-i c = omega arith
-
-sub-i : tie.Need-sub-i Inv-loop μ-loop
-sub-i c = omega arith
-
-add-solved-row : tie.Need-add-solved-row Inv-loop μ-loop
-add-solved-row c = omega arith
-
 solved-row-requires : tie.Need-solved-row-requires Inv-loop μ-loop
 solved-row-requires c κs =
     let start = c .before .before .before .before .before in
@@ -40,40 +31,29 @@ solved-row-requires c κs =
 put-requires : tie.Need-put-requires Inv-loop μ-loop
 put-requires c κs = within (c .before .before .before .before .loop .inv .1) (c .before .before .before .before .before .before .before .pre .1 _ (omega arith))
 
-add-d : tie.Need-add-d Inv-loop μ-loop
-add-d c = omega arith
-
-loop-less : tie.Need-loop-less Inv-loop μ-loop
-loop-less c = omega arith
-
 loop-again : tie.Need-loop-again Inv-loop μ-loop
 unfolding solveUpper
-loop-again c = (
-  omega arith,
-  omega (arith, c .before .before .put .kept .0),
-  steps-more _ _ _ _ _ _ _ (c .before .before .before .before .before .before .before .loop .inv .2) (c .before .before .before .before .solved-row .ensures) (c .before .before .put .ensures),
-)
-
-same-length : tie.Need-same-length Inv-loop μ-loop
-same-length c = search needs
+loop-again c =
+    let put = c .before .before .put in (
+      omega arith,
+      omega (arith, put .kept .0),
+      steps-more _ _ _ _ _ _ _ (c .before .before .before .before .before .before .before .loop .inv .2)
+          (c .before .before .before .before .solved-row .ensures) (put .ensures),
+    )
 
 returns : tie.Need-returns Inv-loop μ-loop
-returns c = let e : c .before .loop .d ≡ c .before .before .before .before .args .n = omega arith in cc
+returns c =
+    let e : c .before .loop .d ≡ c .before .before .before .before .args .n = omega arith in cc
 
 pub solve-upper-spec : {M : Type 1} → statement M
 solve-upper-spec =
-    tie.close
-    (tie.spec
-    Inv-loop
-    μ-loop
-    loop-holds
-    add-i
-    sub-i
-    add-solved-row
-    solved-row-requires
-    put-requires
-    add-d
-    loop-less
+    tie.close (tie.spec Inv-loop μ-loop loop-holds
+    (λ c. omega arith)  -- add-i
+    (λ c. omega arith)  -- sub-i
+    (λ c. omega arith)  -- add-solved-row
+    solved-row-requires put-requires
+    (λ c. omega arith)  -- add-d
+    (λ c. omega arith)  -- loop-less
     loop-again
-    same-length
+    (λ c. search needs)  -- same-length
     returns)

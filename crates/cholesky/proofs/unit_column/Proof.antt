@@ -29,38 +29,28 @@ put-requires c κs = omega (arith, c .before .before .before .before .before .pr
 put-requires-2 : tie.Need-put-requires-2 Inv-loop μ-loop
 put-requires-2 c κs = omega (arith, c .before .before .before .before .before .pre _ (c .before .before .loop-test .taken))
 
-add-i : tie.Need-add-i Inv-loop μ-loop
-add-i c = omega arith
-
-loop-less : tie.Need-loop-less Inv-loop μ-loop
-loop-less c = omega arith
-
 loop-again : tie.Need-loop-again Inv-loop μ-loop
 unfolding unitColumn ofBits
 loop-again c =
     let l = c .before .before .loop in
     ⊎-elim
-    (λ w. (omega arith, omega (arith, ap length (w .5), w .2 .kept .0), steps-more _ _ _ _ _ _ _ (l .inv .2) (rw (eq-eqb _ _ (w .0 .taken))) (w .5 ∙ w .2 .ensures)))
-    (λ w. (omega arith, omega (arith, ap length (w .5), w .2 .kept .0), steps-more _ _ _ _ _ _ _ (l .inv .2) (rw (ne-eqb _ _ (w .0 .left))) (w .5 ∙ w .2 .ensures)))
+    (λ w. (
+      omega arith,
+      omega (arith, ap length (w .5), w .2 .kept .0),
+      steps-more _ _ _ _ _ _ _ (l .inv .2) (rw (eq-eqb _ _ (w .0 .taken))) (w .5 ∙ w .2 .ensures),
+    ))
+    (λ w. (
+      omega arith,
+      omega (arith, ap length (w .5), w .2 .kept .0),
+      steps-more _ _ _ _ _ _ _ (l .inv .2) (rw (ne-eqb _ _ (w .0 .left))) (w .5 ∙ w .2 .ensures),
+    ))
     (c .if1 .came)
-
-same-length : tie.Need-same-length Inv-loop μ-loop
-same-length c = search needs
-
-returns : tie.Need-returns Inv-loop μ-loop
-returns c = let e : c .before .loop .i ≡ c .before .before .before .args .n = omega arith in cc
 
 pub unit-column-spec : {M : Type 1} → statement M
 unit-column-spec =
-    tie.close
-    (tie.spec
-    Inv-loop
-    μ-loop
-    loop-holds
-    put-requires
-    put-requires-2
-    add-i
-    loop-less
+    tie.close (tie.spec Inv-loop μ-loop loop-holds put-requires put-requires-2
+    (λ c. omega arith)  -- add-i
+    (λ c. omega arith)  -- loop-less
     loop-again
-    same-length
-    returns)
+    (λ c. search needs)  -- same-length
+    (λ c. let e : c .before .loop .i ≡ c .before .before .before .args .n = omega arith in cc))  -- returns

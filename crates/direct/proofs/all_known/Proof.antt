@@ -8,28 +8,26 @@ use Rattle.direct.specs.Direct.{allKnown}
 use Rattle.direct.proofs.all_known.Statement.{statement}
 use Rattle.direct.proofs.all_known.Tie as tie
 
-known-requires : tie.Need-known-requires
-known-requires c κs = search needs
-
 returns : tie.Need-returns
 unfolding allKnown
 returns c = first-fails _ _ _ (tells (c .before .known .ensures) (not-true _ (c .if1 .taken)))
 
-known-requires-2 : tie.Need-known-requires-2
-known-requires-2 c κs = search needs
-
 returns-2 : tie.Need-returns-2
 unfolding allKnown
-returns-2 c = second-fails _ _ _ (tells (c .before .before .before .known .ensures) (not-false _ (c .before .before .if1 .left))) (tells (c .before .known2 .ensures) (not-true _ (c .if2 .taken)))
-
-known-requires-3 : tie.Need-known-requires-3
-known-requires-3 c κs = search needs
+returns-2 c = second-fails _ _ _ (tells (c .before .before .before .known .ensures) (not-false _ (c .before .before .if1 .left)))
+    (tells (c .before .known2 .ensures) (not-true _ (c .if2 .taken)))
 
 returns-3 : tie.Need-returns-3
 unfolding allKnown
-returns-3 c = c .known3 .ensures ∙ third-decides _ _ _ (tells (c .before .before .before .before .known .ensures) (not-false _ (c .before .before .before .if1 .left))) (tells (c .before .before .known2 .ensures) (not-false _ (c .before .if2 .left)))
+returns-3 c = c .known3 .ensures ∙ third-decides _ _ _ (tells (c .before .before .before .before .known .ensures)
+    (not-false _ (c .before .before .before .if1 .left))) (tells (c .before .before .known2 .ensures) (not-false _ (c .before .if2 .left)))
 
 pub all-known-spec : {M : Type 1} → statement M
 all-known-spec =
-    tie.close
-    (tie.spec known-requires returns known-requires-2 returns-2 known-requires-3 returns-3)
+    tie.close (tie.spec
+    (λ c κs. search needs)  -- known-requires
+    returns
+    (λ c κs. search needs)  -- known-requires-2
+    returns-2
+    (λ c κs. search needs)  -- known-requires-3
+    returns-3)

@@ -18,36 +18,20 @@ Inv-loop kept cleared place₀ place-end place = (place-end ≡ length kept) × 
 abbrev μ-loop : tie.MeasureT-loop
 μ-loop kept cleared place₀ place-end place = place-end - place
 
-loop-holds : tie.Need-loop-holds Inv-loop μ-loop
-loop-holds c = (refl, search needs, all-none _)
-
-mul-member : tie.Need-mul-member Inv-loop μ-loop
-mul-member c = search needs
-
-shared-slice-read-member : tie.Need-shared-slice-read-member Inv-loop μ-loop
-shared-slice-read-member c = search needs
-
-member-requires : tie.Need-member-requires Inv-loop μ-loop
-member-requires c κs = search needs
-
 returns : tie.Need-returns Inv-loop μ-loop
 unfolding disjoint
 returns c =
     let args = c .before .before .before .before .before .before .before .args in
-    sym (all-fail (λ i. not (member (getD (args .kept .now) i 0) (args .cleared .now))) _ (c .before .before .before .before .loop .place) (omega arith) (ap not (tells (c .before .member .ensures) (c .if1 .taken))))
-
-add-place : tie.Need-add-place Inv-loop μ-loop
-add-place c = search needs
-
-loop-less : tie.Need-loop-less Inv-loop μ-loop
-loop-less c = search needs
+    sym (all-fail (λ i. not (member (getD (args .kept .now) i 0) (args .cleared .now))) _ (c .before .before .before .before .loop .place)
+    (omega arith) (ap not (tells (c .before .member .ensures) (c .if1 .taken))))
 
 loop-again : tie.Need-loop-again Inv-loop μ-loop
-loop-again c = (
-  c .before .before .before .before .loop .inv .0,
-  omega arith,
-  all-more _ _ (c .before .before .before .before .loop .inv .2) (ap not (tells (c .before .member .ensures) (c .if1 .left))),
-)
+loop-again c =
+    let loop = c .before .before .before .before .loop in (
+      loop .inv .0,
+      omega arith,
+      all-more _ _ (loop .inv .2) (ap not (tells (c .before .member .ensures) (c .if1 .left))),
+    )
 
 returns-2 : tie.Need-returns-2 Inv-loop μ-loop
 unfolding disjoint
@@ -57,16 +41,12 @@ returns-2 c =
 
 pub disjoint-spec : {M : Type 1} → statement M
 disjoint-spec =
-    tie.close
-    (tie.spec
-    Inv-loop
-    μ-loop
-    loop-holds
-    mul-member
-    shared-slice-read-member
-    member-requires
+    tie.close (tie.spec Inv-loop μ-loop
+    (λ c. (refl, search needs, all-none _))  -- loop-holds
+    (λ c. search needs)  -- mul-member
+    (λ c. search needs)  -- shared-slice-read-member
+    (λ c κs. search needs)  -- member-requires
     returns
-    add-place
-    loop-less
-    loop-again
-    returns-2)
+    (λ c. search needs)  -- add-place
+    (λ c. search needs)  -- loop-less
+    loop-again returns-2)

@@ -8,28 +8,26 @@ use Rattle.direct.specs.Direct.{listsFit}
 use Rattle.direct.proofs.lists_fit.Statement.{statement}
 use Rattle.direct.proofs.lists_fit.Tie as tie
 
-rising-requires : tie.Need-rising-requires
-rising-requires c κs = search needs
-
 returns : tie.Need-returns
 unfolding listsFit
 returns c = first-fails _ _ _ (tells (c .before .rising .ensures) (not-true _ (c .if1 .taken)))
 
-rising-requires-2 : tie.Need-rising-requires-2
-rising-requires-2 c κs = search needs
-
 returns-2 : tie.Need-returns-2
 unfolding listsFit
-returns-2 c = second-fails _ _ _ (tells (c .before .before .before .rising .ensures) (not-false _ (c .before .before .if1 .left))) (tells (c .before .rising2 .ensures) (not-true _ (c .if2 .taken)))
-
-disjoint-requires : tie.Need-disjoint-requires
-disjoint-requires c κs = search needs
+returns-2 c = second-fails _ _ _ (tells (c .before .before .before .rising .ensures) (not-false _ (c .before .before .if1 .left)))
+    (tells (c .before .rising2 .ensures) (not-true _ (c .if2 .taken)))
 
 returns-3 : tie.Need-returns-3
 unfolding listsFit
-returns-3 c = c .disjoint .ensures ∙ third-decides _ _ _ (tells (c .before .before .before .before .rising .ensures) (not-false _ (c .before .before .before .if1 .left))) (tells (c .before .before .rising2 .ensures) (not-false _ (c .before .if2 .left)))
+returns-3 c = c .disjoint .ensures ∙ third-decides _ _ _ (tells (c .before .before .before .before .rising .ensures)
+    (not-false _ (c .before .before .before .if1 .left))) (tells (c .before .before .rising2 .ensures) (not-false _ (c .before .if2 .left)))
 
 pub lists-fit-spec : {M : Type 1} → statement M
 lists-fit-spec =
-    tie.close
-    (tie.spec rising-requires returns rising-requires-2 returns-2 disjoint-requires returns-3)
+    tie.close (tie.spec
+    (λ c κs. search needs)  -- rising-requires
+    returns
+    (λ c κs. search needs)  -- rising-requires-2
+    returns-2
+    (λ c κs. search needs)  -- disjoint-requires
+    returns-3)

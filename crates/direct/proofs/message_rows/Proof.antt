@@ -3,11 +3,7 @@ use borrow.Author.Tests.{le-leb, lt-leb}
 use Rattle.direct.proofs.message_rows.Statement.{statement}
 use Rattle.direct.proofs.message_rows.Tie as tie
 
-returns : tie.Need-returns
-returns c = rw (le-leb _ _ (c .if1 .taken))
-
-returns-2 : tie.Need-returns-2
-returns-2 c = rw (lt-leb _ _ (c .if1 .left))
-
 pub message-rows-spec : {M : Type 1} → statement M
-message-rows-spec = tie.close (tie.spec returns returns-2)
+message-rows-spec = tie.close (tie.spec
+    (λ c. rw (le-leb _ _ (c .if1 .taken)))  -- returns
+    (λ c. rw (lt-leb _ _ (c .if1 .left))))  -- returns-2

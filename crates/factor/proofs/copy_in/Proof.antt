@@ -18,26 +18,10 @@ abbrev μ-loop : tie.MeasureT-loop
 loop-holds : tie.Need-loop-holds Inv-loop μ-loop
 loop-holds c = (refl, search needs, paste-zero (c .args .dst .now) (c .args .at) (c .args .src .now), refl)
 
-mul-dst : tie.Need-mul-dst Inv-loop μ-loop
-mul-dst c = search needs
-
-shared-slice-read-dst : tie.Need-shared-slice-read-dst Inv-loop μ-loop
-shared-slice-read-dst c = search needs
-
-add-dst : tie.Need-add-dst Inv-loop μ-loop
-add-dst c = search needs
-
 mul-dst-2 : tie.Need-mul-dst-2 Inv-loop μ-loop
-mul-dst-2 c = scaled-fits (c .before .before .before .args .at + c .before .before .loop .j) (length (c .before .before .before .args .dst .now)) 8 (omega arith) (c .before .before .before .good .0 .1)
-
-slice-write-dst : tie.Need-slice-write-dst Inv-loop μ-loop
-slice-write-dst c = search needs
-
-add-j : tie.Need-add-j Inv-loop μ-loop
-add-j c = search needs
-
-loop-less : tie.Need-loop-less Inv-loop μ-loop
-loop-less c = search needs
+mul-dst-2 c =
+    let args = c .before .before .before .args in
+    scaled-fits (args .at + c .before .before .loop .j) (length (args .dst .now)) 8 (omega arith) (c .before .before .before .good .0 .1)
 
 loop-again : tie.Need-loop-again Inv-loop μ-loop
 loop-again c =
@@ -49,26 +33,22 @@ loop-again c =
       simp length-set (loop .inv .3),
     )
 
-same-length : tie.Need-same-length Inv-loop μ-loop
-same-length c = c .before .loop .inv .3
-
 returns : tie.Need-returns Inv-loop μ-loop
-returns c = copy-done (c .before .before .args .dst .now) (c .before .loop .dst) (c .before .before .args .at) (c .before .before .args .src .now) (c .before .loop .j) (c .before .loop .inv .2) (omega arith)
+returns c =
+    let args = c .before .before .args in
+    let loop = c .before .loop in
+    copy-done (args .dst .now) (loop .dst) (args .at) (args .src .now) (loop .j) (loop .inv .2) (omega arith)
 
 pub copy-in-spec : {M : Type 1} → statement M
 copy-in-spec =
-    tie.close
-    (tie.spec
-    Inv-loop
-    μ-loop
-    loop-holds
-    mul-dst
-    shared-slice-read-dst
-    add-dst
+    tie.close (tie.spec Inv-loop μ-loop loop-holds
+    (λ c. search needs)  -- mul-dst
+    (λ c. search needs)  -- shared-slice-read-dst
+    (λ c. search needs)  -- add-dst
     mul-dst-2
-    slice-write-dst
-    add-j
-    loop-less
+    (λ c. search needs)  -- slice-write-dst
+    (λ c. search needs)  -- add-j
+    (λ c. search needs)  -- loop-less
     loop-again
-    same-length
+    (λ c. c .before .loop .inv .3)  -- same-length
     returns)

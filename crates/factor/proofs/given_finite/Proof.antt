@@ -26,31 +26,31 @@ module _ (a mean variance : List Float) where
   unfolding givenFinite every
   left p q = simp (p, q, and-true)
 
-finite-requires : tie.Need-finite-requires
-finite-requires c κs = search needs
-
 returns : tie.Need-returns
 returns c =
     let args = c .before .before .before .before .before .args in
     not-a (args .a .now) (args .mean .now) (args .variance .now) (tells (c .before .finite .ensures) (not-true _ (c .if1 .taken)))
 
-finite-requires-2 : tie.Need-finite-requires-2
-finite-requires-2 c κs = search needs
-
 returns-2 : tie.Need-returns-2
 returns-2 c =
     let args = c .before .before .before .before .before .before .before .args in
-    not-mean (args .a .now) (args .mean .now) (args .variance .now) (tells (c .before .before .before .finite .ensures) (not-false _ (c .before .before .if1 .left))) (tells (c .before .finite2 .ensures) (not-true _ (c .if2 .taken)))
-
-finite-requires-3 : tie.Need-finite-requires-3
-finite-requires-3 c κs = search needs
+    not-mean (args .a .now) (args .mean .now) (args .variance .now)
+    (tells (c .before .before .before .finite .ensures) (not-false _ (c .before .before .if1 .left)))
+    (tells (c .before .finite2 .ensures) (not-true _ (c .if2 .taken)))
 
 returns-3 : tie.Need-returns-3
 returns-3 c =
     let args = c .before .before .before .before .before .before .before .before .args in
-    c .finite3 .ensures ∙ left (args .a .now) (args .mean .now) (args .variance .now) (tells (c .before .before .before .before .finite .ensures) (not-false _ (c .before .before .before .if1 .left))) (tells (c .before .before .finite2 .ensures) (not-false _ (c .before .if2 .left)))
+    c .finite3 .ensures ∙ left (args .a .now) (args .mean .now) (args .variance .now)
+    (tells (c .before .before .before .before .finite .ensures) (not-false _ (c .before .before .before .if1 .left)))
+    (tells (c .before .before .finite2 .ensures) (not-false _ (c .before .if2 .left)))
 
 pub given-finite-spec : {M : Type 1} → statement M
 given-finite-spec =
-    tie.close
-    (tie.spec finite-requires returns finite-requires-2 returns-2 finite-requires-3 returns-3)
+    tie.close (tie.spec
+    (λ c κs. search needs)  -- finite-requires
+    returns
+    (λ c κs. search needs)  -- finite-requires-2
+    returns-2
+    (λ c κs. search needs)  -- finite-requires-3
+    returns-3)

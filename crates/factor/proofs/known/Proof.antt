@@ -18,41 +18,28 @@ Inv-loop variables keys place₀ place-end place = (place-end ≡ length keys) �
 abbrev μ-loop : tie.MeasureT-loop
 μ-loop variables keys place₀ place-end place = place-end - place
 
-loop-holds : tie.Need-loop-holds Inv-loop μ-loop
-loop-holds c = (refl, search needs, all-none _)
-
-mul-if1 : tie.Need-mul-if1 Inv-loop μ-loop
-mul-if1 c = search needs
-
-shared-slice-read-if1 : tie.Need-shared-slice-read-if1 Inv-loop μ-loop
-shared-slice-read-if1 c = search needs
-
 returns : tie.Need-returns Inv-loop μ-loop
-returns c = sym (all-fail (λ j. ltb (getD (c .before .before .before .before .args .keys .now) j 0) (c .before .before .before .before .args .variables)) _ (c .before .before .before .loop .place) (omega arith) (le-ltb _ _ (c .if1 .taken)))
-
-add-place : tie.Need-add-place Inv-loop μ-loop
-add-place c = search needs
-
-loop-less : tie.Need-loop-less Inv-loop μ-loop
-loop-less c = search needs
+returns c =
+    let args = c .before .before .before .before .args in
+    sym (all-fail (λ j. ltb (getD (args .keys .now) j 0) (args .variables)) _ (c .before .before .before .loop .place) (omega arith)
+    (le-ltb _ _ (c .if1 .taken)))
 
 loop-again : tie.Need-loop-again Inv-loop μ-loop
-loop-again c = (c .before .before .before .loop .inv .0, omega arith, all-more _ _ (c .before .before .before .loop .inv .2) (lt-ltb _ _ (c .if1 .left)))
+loop-again c =
+    let loop = c .before .before .before .loop in
+    (loop .inv .0, omega arith, all-more _ _ (loop .inv .2) (lt-ltb _ _ (c .if1 .left)))
 
 returns-2 : tie.Need-returns-2 Inv-loop μ-loop
-returns-2 c = let e : c .before .loop .place ≡ length (c .before .before .args .keys .now) = omega arith in sym (rw e at (c .before .loop .inv .2))
+returns-2 c =
+    let e : c .before .loop .place ≡ length (c .before .before .args .keys .now) = omega arith in sym (rw e at (c .before .loop .inv .2))
 
 pub known-spec : {M : Type 1} → statement M
 known-spec =
-    tie.close
-    (tie.spec
-    Inv-loop
-    μ-loop
-    loop-holds
-    mul-if1
-    shared-slice-read-if1
+    tie.close (tie.spec Inv-loop μ-loop
+    (λ c. (refl, search needs, all-none _))  -- loop-holds
+    (λ c. search needs)  -- mul-if1
+    (λ c. search needs)  -- shared-slice-read-if1
     returns
-    add-place
-    loop-less
-    loop-again
-    returns-2)
+    (λ c. search needs)  -- add-place
+    (λ c. search needs)  -- loop-less
+    loop-again returns-2)

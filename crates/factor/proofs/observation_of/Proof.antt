@@ -16,13 +16,15 @@ use Rattle.factor.proofs.observation_of.Statement.{statement}
 use Rattle.factor.proofs.observation_of.Tie as tie
 
 abbrev Inv-loop : tie.InvT-loop
-Inv-loop keys rows packed₀ place₀ place-end packed place = (place ≤ place-end) × (place-end ≡ length keys) × (packed ≡ take place keys ++ replicate (max-keys - place) 0)
+Inv-loop keys rows packed₀ place₀ place-end packed place = (place ≤ place-end) × (place-end ≡ length keys) ×
+    (packed ≡ take place keys ++ replicate (max-keys - place) 0)
 
 abbrev μ-loop : tie.MeasureT-loop
 μ-loop keys rows packed₀ place₀ place-end packed place = place-end - place
 
 -- a key more in the first places
-pack-more : (keys packed : List ℕ) (j n : ℕ) → j < length keys → j < n → packed ≡ take j keys ++ replicate (n - j) 0 → set packed j (getD keys j 0) ≡ take (j + 1) keys ++ replicate (n - (j + 1)) 0
+pack-more : (keys packed : List ℕ) (j n : ℕ) → j < length keys → j < n → packed ≡ take j keys ++ replicate (n - j) 0 → set packed j (getD keys j 0)
+    ≡ take (j + 1) keys ++ replicate (n - (j + 1)) 0
 pack-more keys packed j n l m e =
     let d : n - j ≡ suc (n - (j + 1)) = omega arith in
     let t : length (take j keys) ≡ j = length-take-le j keys (omega arith) in
@@ -33,31 +35,17 @@ pack-more keys packed j n l m e =
 
 -- after the last key
 pack-done : (keys packed : List ℕ) (j n : ℕ) → j ≡ length keys → packed ≡ take j keys ++ replicate (n - j) 0 → packed ≡ keys ++ replicate (n - length keys) 0
-pack-done keys packed j n l e = e ∙ ap (λ (k : ℕ). take k keys ++ replicate (n - k) 0) l ∙ ap (λ (s : List ℕ). s ++ replicate (n - length keys) 0) (take-length keys)
-
-loop-holds : tie.Need-loop-holds Inv-loop μ-loop
-loop-holds c = (search needs, refl, refl)
-
-mul-packed : tie.Need-mul-packed Inv-loop μ-loop
-mul-packed c = search needs
-
-shared-slice-read-packed : tie.Need-shared-slice-read-packed Inv-loop μ-loop
-shared-slice-read-packed c = search needs
+pack-done keys packed j n l e = e ∙ ap (λ (k : ℕ). take k keys ++ replicate (n - k) 0) l
+    ∙ ap (λ (s : List ℕ). s ++ replicate (n - length keys) 0) (take-length keys)
 
 cast-packed : tie.Need-cast-packed Inv-loop μ-loop
 cast-packed c =
+    let loop = c .before .before .loop in
     let args = c .before .before .before .args in
-    let b : getD (args .keys .now) (c .before .before .loop .place) 0 < max-variables = ltb-true _ _ (all-at (λ j. ltb (getD (args .keys .now) j 0) max-variables) (length (args .keys .now)) (c .before .before .loop .place) (c .before .before .before .pre .2) (omega arith)) in
+    let b : getD (args .keys .now) (loop .place) 0 < max-variables = ltb-true _ _
+    (all-at (λ j. ltb (getD (args .keys .now) j 0) max-variables) (length (args .keys .now)) (loop .place) (c .before .before .before .pre .2)
+    (omega arith)) in
     search needs
-
-array-write-packed : tie.Need-array-write-packed Inv-loop μ-loop
-array-write-packed c = search needs
-
-add-place : tie.Need-add-place Inv-loop μ-loop
-add-place c = search needs
-
-loop-less : tie.Need-loop-less Inv-loop μ-loop
-loop-less c = search needs
 
 loop-again : tie.Need-loop-again Inv-loop μ-loop
 loop-again c =
@@ -67,29 +55,24 @@ loop-again c =
       pack-more (c .before .before .before .args .keys .now) (loop .packed) (loop .place) max-keys (omega arith) (omega arith) (loop .inv .2),
     )
 
-cast-t14 : tie.Need-cast-t14 Inv-loop μ-loop
-cast-t14 c = search needs
-
-cast-t15 : tie.Need-cast-t15 Inv-loop μ-loop
-cast-t15 c = search needs
-
 returns : tie.Need-returns Inv-loop μ-loop
-returns c = ap (λ (k : List ℕ). record { prior = false; touched = length (c .before .before .args .keys .now); rows = c .before .before .args .rows; keys = k }) (pack-done (c .before .before .args .keys .now) (c .before .loop .packed) (c .before .loop .place) max-keys (omega (arith, c .before .loop .inv .1)) (c .before .loop .inv .2))
+returns c =
+    let args = c .before .before .args in
+    let loop = c .before .loop in
+    ap (λ (k : List ℕ). record { prior = false; touched = length (args .keys .now); rows = args .rows; keys = k })
+    (pack-done (args .keys .now) (loop .packed) (loop .place) max-keys (omega (arith, loop .inv .1)) (loop .inv .2))
 
 pub observation-of-spec : {M : Type 1} → statement M
 observation-of-spec =
-    tie.close
-    (tie.spec
-    Inv-loop
-    μ-loop
-    loop-holds
-    mul-packed
-    shared-slice-read-packed
+    tie.close (tie.spec Inv-loop μ-loop
+    (λ c. (search needs, refl, refl))  -- loop-holds
+    (λ c. search needs)  -- mul-packed
+    (λ c. search needs)  -- shared-slice-read-packed
     cast-packed
-    array-write-packed
-    add-place
-    loop-less
+    (λ c. search needs)  -- array-write-packed
+    (λ c. search needs)  -- add-place
+    (λ c. search needs)  -- loop-less
     loop-again
-    cast-t14
-    cast-t15
+    (λ c. search needs)  -- cast-t14
+    (λ c. search needs)  -- cast-t15
     returns)

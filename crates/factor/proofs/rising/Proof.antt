@@ -18,27 +18,17 @@ Inv-loop keys place₀ place-end place = (place-end ≡ length keys) × (place �
 abbrev μ-loop : tie.MeasureT-loop
 μ-loop keys place₀ place-end place = place-end - place
 
-loop-holds : tie.Need-loop-holds Inv-loop μ-loop
-loop-holds c = (refl, search needs, all-none _)
-
-above-requires : tie.Need-above-requires Inv-loop μ-loop
-above-requires c κs = search needs
-
 returns : tie.Need-returns Inv-loop μ-loop
-returns c = sym (all-fail (λ j. above (c .before .before .before .before .before .args .keys .now) j) _ (c .before .before .before .loop .place) (omega arith) (tells (c .before .above .ensures) (not-true _ (c .if1 .taken))))
-
-add-place : tie.Need-add-place Inv-loop μ-loop
-add-place c = search needs
-
-loop-less : tie.Need-loop-less Inv-loop μ-loop
-loop-less c = search needs
+returns c = sym (all-fail (λ j. above (c .before .before .before .before .before .args .keys .now) j) _ (c .before .before .before .loop .place)
+    (omega arith) (tells (c .before .above .ensures) (not-true _ (c .if1 .taken))))
 
 loop-again : tie.Need-loop-again Inv-loop μ-loop
-loop-again c = (
-  c .before .before .before .loop .inv .0,
-  omega arith,
-  all-more _ _ (c .before .before .before .loop .inv .2) (tells (c .before .above .ensures) (not-false _ (c .if1 .left))),
-)
+loop-again c =
+    let loop = c .before .before .before .loop in (
+      loop .inv .0,
+      omega arith,
+      all-more _ _ (loop .inv .2) (tells (c .before .above .ensures) (not-false _ (c .if1 .left))),
+    )
 
 returns-2 : tie.Need-returns-2 Inv-loop μ-loop
 returns-2 c =
@@ -47,14 +37,10 @@ returns-2 c =
 
 pub rising-spec : {M : Type 1} → statement M
 rising-spec =
-    tie.close
-    (tie.spec
-    Inv-loop
-    μ-loop
-    loop-holds
-    above-requires
+    tie.close (tie.spec Inv-loop μ-loop
+    (λ c. (refl, search needs, all-none _))  -- loop-holds
+    (λ c κs. search needs)  -- above-requires
     returns
-    add-place
-    loop-less
-    loop-again
-    returns-2)
+    (λ c. search needs)  -- add-place
+    (λ c. search needs)  -- loop-less
+    loop-again returns-2)

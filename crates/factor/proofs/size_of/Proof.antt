@@ -14,20 +14,16 @@ use Rattle.factor.proofs.size_of.Tie as tie
 small : {n : ℕ} → Fits w8 n → n < 256
 small p = p .fits
 
-array-read-wide : tie.Need-array-read-wide
-array-read-wide c = search needs
-
-wide-requires : tie.Need-wide-requires
-wide-requires c κs = search needs
-
 returns : tie.Need-returns
-returns c = (
-  c .wide .ensures,
-  let b : getD (c .before .before .args .t1) (c .before .before .args .key) 0 < 256 = small (search needs) in omega (arith, c .wide .ensures),
-)
-
-returns-2 : tie.Need-returns-2
-returns-2 c = (sym (no-size (c .before .args .t1) (c .before .args .key) (search needs)), search needs)
+returns c =
+    let args = c .before .before .args in (
+      c .wide .ensures,
+      let b : getD (args .t1) (args .key) 0 < 256 = small (search needs) in omega (arith, c .wide .ensures),
+    )
 
 pub size-of-spec : {M : Type 1} → statement M
-size-of-spec = tie.close (tie.spec array-read-wide wide-requires returns returns-2)
+size-of-spec = tie.close (tie.spec
+    (λ c. search needs)  -- array-read-wide
+    (λ c κs. search needs)  -- wide-requires
+    returns
+    (λ c. (sym (no-size (c .before .args .t1) (c .before .args .key) (search needs)), search needs)))  -- returns-2

@@ -22,65 +22,44 @@ room n l = mul-le-mul l l
 lent : (n : ℕ) (l xi w : List Float) → l ≡ replicate (n * n) plus-zero → xi ≡ replicate n plus-zero → w ≡ replicate (n * n) plus-zero → Lent n l xi w
 lent n l xi w el ex ew = record { of-l = rw el (length-replicate (n * n) plus-zero); of-x = rw ex (length-replicate n plus-zero); of-y = ew }
 
-mul-square : tie.Need-mul-square
-mul-square c = search needs
-
-sub-store-by : tie.Need-sub-store-by
-sub-store-by c = search needs
-
-part-l-start : tie.Need-part-l-start
-part-l-start c = search needs
-
 part-l-end : tie.Need-part-l-end
-part-l-end c = omega (arith, room (c .before .before .before .before .before .args .n) (c .before .before .before .before .before .pre .rows))
-
-sub-store-by-2 : tie.Need-sub-store-by-2
-sub-store-by-2 c = search needs
-
-part-xi-start : tie.Need-part-xi-start
-part-xi-start c = search needs
-
-part-xi-end : tie.Need-part-xi-end
-part-xi-end c = search needs
-
-sub-store-by-3 : tie.Need-sub-store-by-3
-sub-store-by-3 c = search needs
-
-part-w-start : tie.Need-part-w-start
-part-w-start c = search needs
+part-l-end c =
+    let entry = c .before .before .before .before .before in
+    omega (arith, room (entry .args .n) (entry .pre .rows))
 
 part-w-end : tie.Need-part-w-end
-part-w-end c = omega (arith, room (c .before .before .before .before .before .before .before .args .n) (c .before .before .before .before .before .before .before .pre .rows))
+part-w-end c =
+    let entry = c .before .before .before .before .before .before .before in
+    omega (arith, room (entry .args .n) (entry .pre .rows))
 
 store-by-requires : tie.Need-store-by-requires
 unfolding ofBits
 store-by-requires c κs =
-    let args = c .before .before .before .before .before .before .before .before .args in
-    let pre = c .before .before .before .before .before .before .before .before .pre in (
+    let entry = c .before .before .before .before .before .before .before .before in
+    let args = entry .args in
+    let pre = entry .pre in (
       pre,
-      lent (args .n) _ _ _ (front-replicate plus-zero (max-rows * max-rows) (args .n * args .n) (room (args .n) (pre .rows))) (front-replicate plus-zero max-rows (args .n) (pre .rows)) (front-replicate plus-zero (max-rows * max-rows) (args .n * args .n) (room (args .n) (pre .rows))),
+      lent (args .n) _ _ _ (front-replicate plus-zero (max-rows * max-rows) (args .n * args .n) (room (args .n) (pre .rows)))
+          (front-replicate plus-zero max-rows (args .n) (pre .rows)) (front-replicate plus-zero (max-rows * max-rows) (args .n * args .n)
+          (room (args .n) (pre .rows))),
     )
 
-same-length : tie.Need-same-length
-same-length c = search needs
-
 returns : tie.Need-returns
-returns c = let e = c .before .before .before .before .before .store-by .ensures in (e .0, (e .1, weighed-tells _ _ (e .0)))
+returns c =
+    let e = c .before .before .before .before .before .store-by .ensures in (e .0, (e .1, weighed-tells _ _ (e .0)))
 
 pub store-factor-spec : {M : Type 1} → statement M
 store-factor-spec =
-    tie.close
-    (tie.spec
-    mul-square
-    sub-store-by
-    part-l-start
+    tie.close (tie.spec
+    (λ c. search needs)  -- mul-square
+    (λ c. search needs)  -- sub-store-by
+    (λ c. search needs)  -- part-l-start
     part-l-end
-    sub-store-by-2
-    part-xi-start
-    part-xi-end
-    sub-store-by-3
-    part-w-start
-    part-w-end
-    store-by-requires
-    same-length
+    (λ c. search needs)  -- sub-store-by-2
+    (λ c. search needs)  -- part-xi-start
+    (λ c. search needs)  -- part-xi-end
+    (λ c. search needs)  -- sub-store-by-3
+    (λ c. search needs)  -- part-w-start
+    part-w-end store-by-requires
+    (λ c. search needs)  -- same-length
     returns)

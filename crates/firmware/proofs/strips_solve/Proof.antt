@@ -5,41 +5,27 @@ use borrow.Author.Needs.{needs}
 use Rattle.firmware.proofs.strips_solve.Statement.{statement}
 use Rattle.firmware.proofs.strips_solve.Tie as tie
 
-solve-requires : tie.Need-solve-requires
-solve-requires c κs = search needs
-
-enum-known-answer : tie.Need-enum-known-answer
-enum-known-answer c = search needs
-
-enum-told : tie.Need-enum-told
-enum-told c = search needs
-
-same-length : tie.Need-same-length
-same-length c = search needs
-
 returns : tie.Need-returns
-returns c = (
-  sym (ap answerOf (c .before .answer .given .1)) ∙ ap answerOf (c .before .before .before .before .before .solve .ensures .0),
-  c .before .before .before .before .before .solve .ensures .1,
-)
-
-same-length-2 : tie.Need-same-length-2
-same-length-2 c = search needs
+returns c =
+    let solve = c .before .before .before .before .before .solve in (
+      sym (ap answerOf (c .before .answer .given .1)) ∙ ap answerOf (solve .ensures .0),
+      solve .ensures .1,
+    )
 
 returns-2 : tie.Need-returns-2
-returns-2 c = (
-  sym (ap answerOf (c .enum-told .given .1)) ∙ ap answerOf (c .before .before .before .before .solve .ensures .0),
-  c .before .before .before .before .solve .ensures .1,
-)
+returns-2 c =
+    let solve = c .before .before .before .before .solve in (
+      sym (ap answerOf (c .enum-told .given .1)) ∙ ap answerOf (solve .ensures .0),
+      solve .ensures .1,
+    )
 
 pub strips-solve-spec : {M : Type 1} → statement M
 strips-solve-spec =
-    tie.close
-    (tie.spec
-    solve-requires
-    enum-known-answer
-    enum-told
-    same-length
+    tie.close (tie.spec
+    (λ c κs. search needs)  -- solve-requires
+    (λ c. search needs)  -- enum-known-answer
+    (λ c. search needs)  -- enum-told
+    (λ c. search needs)  -- same-length
     returns
-    same-length-2
+    (λ c. search needs)  -- same-length-2
     returns-2)

@@ -8,20 +8,12 @@ returns : tie.Need-returns
 unfolding change
 returns c = rw (c .if1 .taken)
 
-fill-upper-at-requires : tie.Need-fill-upper-at-requires
-fill-upper-at-requires c κs = search needs
-
-same-length : tie.Need-same-length
-same-length c = search needs
-
 returns-2 : tie.Need-returns-2
 returns-2 c = rw (c .before .before .before .before .if1 .left) (c .before .before .fill-upper-at .ensures)
 
 pub fill-upper-in-x-spec : {M : Type 1} → statement M
 fill-upper-in-x-spec =
-    tie.close
-    (tie.spec
-    returns
-    fill-upper-at-requires
-    same-length
+    tie.close (tie.spec returns
+    (λ c κs. search needs)  -- fill-upper-at-requires
+    (λ c. search needs)  -- same-length
     returns-2)

@@ -4,41 +4,23 @@ use Rattle.gaussian.proofs.Ending.{finish-done, finish-stopped}
 use Rattle.gaussian.proofs.finish.Statement.{statement}
 use Rattle.gaussian.proofs.finish.Tie as tie
 
-cholesky-at-requires : tie.Need-cholesky-at-requires
-cholesky-at-requires c κs = search needs
-
-enum-told : tie.Need-enum-told
-enum-told c = search needs
-
-lose-requires : tie.Need-lose-requires
-lose-requires c κs = search needs
-
-enum-told-2 : tie.Need-enum-told-2
-enum-told-2 c = search needs
-
-same-length : tie.Need-same-length
-same-length c = search needs
-
 returns : tie.Need-returns
 returns c =
     let cholesky-at = c .before .before .before .before .before .before .before .before .cholesky-at in
-    finish-done _ _ _ _ _ _ (cholesky-at .ensures .0) (cholesky-at .ensures .1) (c .before .before .before .before .enum-told .given .1) (c .before .before .lose .ensures)
-
-same-length-2 : tie.Need-same-length-2
-same-length-2 c = search needs
+    finish-done _ _ _ _ _ _ (cholesky-at .ensures .0) (cholesky-at .ensures .1) (c .before .before .before .before .enum-told .given .1)
+    (c .before .before .lose .ensures)
 
 returns-2 : tie.Need-returns-2
 returns-2 c = finish-stopped _ _ _ _ _ (c .before .before .before .before .cholesky-at .ensures .0) (c .enum-told2 .given .1)
 
 pub finish-spec : {M : Type 1} → statement M
 finish-spec =
-    tie.close
-    (tie.spec
-    cholesky-at-requires
-    enum-told
-    lose-requires
-    enum-told-2
-    same-length
+    tie.close (tie.spec
+    (λ c κs. search needs)  -- cholesky-at-requires
+    (λ c. search needs)  -- enum-told
+    (λ c κs. search needs)  -- lose-requires
+    (λ c. search needs)  -- enum-told-2
+    (λ c. search needs)  -- same-length
     returns
-    same-length-2
+    (λ c. search needs)  -- same-length-2
     returns-2)

@@ -7,7 +7,9 @@ use Rattle.gaussian.proofs.send.Statement.{statement}
 use Rattle.gaussian.proofs.send.Tie as tie
 
 frame-of-requires : tie.Need-frame-of-requires
-frame-of-requires c κs = let s = c .before .before .pre .0 .0 in let h = c .before .before .pre .0 .1 in (omega arith, omega arith, omega arith)
+frame-of-requires c κs =
+    let pre = c .before .before .pre in
+    let s = pre .0 .0 in let h = pre .0 .1 in (omega arith, omega arith, omega arith)
 
 sub-e : tie.Need-sub-e
 sub-e c =
@@ -20,15 +22,6 @@ add-e c =
     let pre = c .before .before .before .pre in
     let s = spans _ _ _ _ (c .frame-of .ensures) (pre .0 .0) (pre .0 .1) in
     omega (arith, s .ends, s .within, pre .0 .2, pre .1)
-
-mul-copy : tie.Need-mul-copy
-mul-copy c = search needs
-
-sub-copy : tie.Need-sub-copy
-sub-copy c = search needs
-
-part-copy-start : tie.Need-part-copy-start
-part-copy-start c = search needs
 
 part-copy-end : tie.Need-part-copy-end
 part-copy-end c =
@@ -60,32 +53,19 @@ part-copy-end-2 c =
     let s = spans _ _ _ _ (c .before .frame-of .ensures) (pre .0 .0) (pre .0 .1) in
     omega (arith, s .ends, s .within, pre .0 .2, pre .1)
 
-copy-requires : tie.Need-copy-requires
-copy-requires c κs = search needs
-
-same-length : tie.Need-same-length
-same-length c = search needs
-
 returns : tie.Need-returns
 returns c =
     let args = c .before .before .before .before .before .before .before .before .args in
-    sent-is (args .u) (args .rows) (args .d) (args .to) _ _ (args .messages .now) (args .work .now) _ (c .before .before .before .before .before .frame-of .ensures) refl (c .before .before .copy .ensures)
+    sent-is (args .u) (args .rows) (args .d) (args .to) _ _ (args .messages .now) (args .work .now) _
+    (c .before .before .before .before .before .frame-of .ensures) refl (c .before .before .copy .ensures)
 
 pub send-spec : {M : Type 1} → statement M
 send-spec =
-    tie.close
-    (tie.spec
-    frame-of-requires
-    sub-e
-    add-e
-    mul-copy
-    sub-copy
-    part-copy-start
-    part-copy-end
-    mul-copy-2
-    sub-copy-2
-    part-copy-start-2
-    part-copy-end-2
-    copy-requires
-    same-length
+    tie.close (tie.spec frame-of-requires sub-e add-e
+    (λ c. search needs)  -- mul-copy
+    (λ c. search needs)  -- sub-copy
+    (λ c. search needs)  -- part-copy-start
+    part-copy-end mul-copy-2 sub-copy-2 part-copy-start-2 part-copy-end-2
+    (λ c κs. search needs)  -- copy-requires
+    (λ c. search needs)  -- same-length
     returns)

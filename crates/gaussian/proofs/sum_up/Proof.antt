@@ -7,33 +7,26 @@ use Rattle.gaussian.proofs.Sending.{views-from}
 use Rattle.gaussian.proofs.sum_up.Statement.{statement}
 use Rattle.gaussian.proofs.sum_up.Tie as tie
 
-begin-sums-requires : tie.Need-begin-sums-requires
-begin-sums-requires c κs = search needs
-
-slice-aggregate-add-slots : tie.Need-slice-aggregate-add-slots
-slice-aggregate-add-slots c = search needs
-
 add-slots-requires : tie.Need-add-slots-requires
 add-slots-requires c κs =
-    let pre = c .before .before .before .before .before .before .before .before .before .before .before .before .pre in (
-      relaid (c .before .before .before .before .before .before .before .before .before .before .before .before .args .f) (c .before .before .before .before .begin-sums .kept .0) (pre .0 .0),
+    let entry = c .before .before .before .before .before .before .before .before .before .before .before .before in
+    let pre = entry .pre in (
+      relaid (entry .args .f) (c .before .before .before .before .begin-sums .kept .0) (pre .0 .0),
       (pre .1 .0, pre .1 .1),
     )
-
-same-length : tie.Need-same-length
-same-length c = search needs
 
 returns : tie.Need-returns
 returns c =
     let args = c .before .before .before .before .before .before .before .before .before .before .before .before .before .before .before .before .args in
-    views-from (args .z) (args .f) (args .layout) (viewAt (args .factors .now) (args .messages .now) (args .keys .now) (args .heads .now) (args .slots .now)) (length (args .slots .now)) _ (c .before .before .before .before .before .before .before .before .begin-sums .ensures) _ (c .before .before .before .add-slots .ensures)
+    views-from (args .z) (args .f) (args .layout) (viewAt (args .factors .now) (args .messages .now) (args .keys .now) (args .heads .now)
+    (args .slots .now)) (length (args .slots .now)) _ (c .before .before .before .before .before .before .before .before .begin-sums .ensures) _
+    (c .before .before .before .add-slots .ensures)
 
 pub sum-up-spec : {M : Type 1} → statement M
 sum-up-spec =
-    tie.close
-    (tie.spec
-    begin-sums-requires
-    slice-aggregate-add-slots
+    tie.close (tie.spec
+    (λ c κs. search needs)  -- begin-sums-requires
+    (λ c. search needs)  -- slice-aggregate-add-slots
     add-slots-requires
-    same-length
+    (λ c. search needs)  -- same-length
     returns)

@@ -17,55 +17,29 @@ Inv-loop letters indices n name key₀ key = (key ≤ n) × (all (λ j. not (sam
 abbrev μ-loop : tie.MeasureT-loop
 μ-loop letters indices n name key₀ key = n - key
 
-loop-holds : tie.Need-loop-holds Inv-loop μ-loop
-loop-holds c = (search needs, all-none _)
-
-mul-t8 : tie.Need-mul-t8 Inv-loop μ-loop
-mul-t8 c = search needs
-
-element-copy-out-t11 : tie.Need-element-copy-out-t11 Inv-loop μ-loop
-element-copy-out-t11 c = search needs
-
-mul-t12 : tie.Need-mul-t12 Inv-loop μ-loop
-mul-t12 c = search needs
-
-element-copy-out-t15 : tie.Need-element-copy-out-t15 Inv-loop μ-loop
-element-copy-out-t15 c = search needs
-
-same-requires : tie.Need-same-requires Inv-loop μ-loop
-same-requires c κs = search needs
-
 returns : tie.Need-returns Inv-loop μ-loop
 returns c =
     let args = c .before .before .before .before .before .before .args in
-    sym (all-fail (λ j. not (same (getD (args .letters .now) j 0, getD (args .indices .now) j 0) (args .name))) _ (c .before .before .before .before .before .loop .key) (omega arith) (ap not (tells (c .before .same .ensures) (c .if1 .taken))))
-
-add-key : tie.Need-add-key Inv-loop μ-loop
-add-key c = search needs
-
-loop-less : tie.Need-loop-less Inv-loop μ-loop
-loop-less c = search needs
+    sym (all-fail (λ j. not (same (getD (args .letters .now) j 0, getD (args .indices .now) j 0) (args .name))) _
+    (c .before .before .before .before .before .loop .key) (omega arith) (ap not (tells (c .before .same .ensures) (c .if1 .taken))))
 
 loop-again : tie.Need-loop-again Inv-loop μ-loop
 loop-again c = (omega arith, all-more _ _ (c .before .before .before .before .before .loop .inv .1) (ap not (tells (c .before .same .ensures) (c .if1 .left))))
 
 returns-2 : tie.Need-returns-2 Inv-loop μ-loop
-returns-2 c = let e : c .before .loop .key ≡ c .before .before .args .n = omega arith in sym (rw e at (c .before .loop .inv .1))
+returns-2 c =
+    let e : c .before .loop .key ≡ c .before .before .args .n = omega arith in sym (rw e at (c .before .loop .inv .1))
 
 pub new-name-spec : {M : Type 1} → statement M
 new-name-spec =
-    tie.close
-    (tie.spec
-    Inv-loop
-    μ-loop
-    loop-holds
-    mul-t8
-    element-copy-out-t11
-    mul-t12
-    element-copy-out-t15
-    same-requires
+    tie.close (tie.spec Inv-loop μ-loop
+    (λ c. (search needs, all-none _))  -- loop-holds
+    (λ c. search needs)  -- mul-t8
+    (λ c. search needs)  -- element-copy-out-t11
+    (λ c. search needs)  -- mul-t12
+    (λ c. search needs)  -- element-copy-out-t15
+    (λ c κs. search needs)  -- same-requires
     returns
-    add-key
-    loop-less
-    loop-again
-    returns-2)
+    (λ c. search needs)  -- add-key
+    (λ c. search needs)  -- loop-less
+    loop-again returns-2)

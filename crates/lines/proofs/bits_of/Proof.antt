@@ -16,11 +16,7 @@ returns : tie.Need-returns
 unfolding toBits
 returns c = sym (ap (toBits binary64) (nan-of (c .before .args .x) (c .if1 .taken)))
 
-float-to-bits-result : tie.Need-float-to-bits-result
-float-to-bits-result c = no-nan _ (c .if1 .left)
-
-returns-2 : tie.Need-returns-2
-returns-2 c = search needs
-
 pub bits-of-spec : {M : Type 1} → statement M
-bits-of-spec = tie.close (tie.spec returns float-to-bits-result returns-2)
+bits-of-spec = tie.close (tie.spec returns
+    (λ c. no-nan _ (c .if1 .left))  -- float-to-bits-result
+    (λ c. search needs))  -- returns-2

@@ -11,30 +11,17 @@ use Rattle.lines.proofs.lay_refusal.Statement.{statement}
 use Rattle.lines.proofs.lay_refusal.Tie as tie
 
 -- by the refusal's number
-of-number : (a b : List ℕ) (r code number stage place : ℕ) → code ≡ number → Puts a b 0 r (refusalText code stage place) → Puts a b 0 r (refusalText number stage place)
+of-number : (a b : List ℕ) (r code number stage place : ℕ) → code ≡ number → Puts a b 0 r (refusalText code stage place)
+    → Puts a b 0 r (refusalText number stage place)
 of-number a b r code number stage place e p = rw e at p
-
-code-requires : tie.Need-code-requires
-code-requires c κs = search needs
-
-slice-aggregate-put-refusal : tie.Need-slice-aggregate-put-refusal
-slice-aggregate-put-refusal c = search needs
-
-put-refusal-requires : tie.Need-put-refusal-requires
-put-refusal-requires c κs = search needs
 
 returns : tie.Need-returns
 returns c =
     let args = c .before .before .before .before .before .before .args in
     let code = c .before .before .before .before .code in
     let first = c .before .before .put-refusal in
-    short (args .out .now) _ (first .result) (of-number _ _ (first .result) (code .result) _ (args .stage) (args .place) (code .ensures) (first .ensures) .place) (c .if1 .taken)
-
-put-refusal-requires-2 : tie.Need-put-refusal-requires-2
-put-refusal-requires-2 c κs = search needs
-
-same-length : tie.Need-same-length
-same-length c = search needs
+    short (args .out .now) _ (first .result) (of-number _ _ (first .result) (code .result) _ (args .stage) (args .place) (code .ensures)
+    (first .ensures) .place) (c .if1 .taken)
 
 returns-2 : tie.Need-returns-2
 returns-2 c =
@@ -42,17 +29,17 @@ returns-2 c =
     let code = c .before .before .before .before .before .before .before .before .code in
     let first = c .before .before .before .before .before .before .put-refusal in
     let second = c .before .before .put-refusal2 in
-    whole (args .out .now) _ _ (first .result) (of-number _ _ (first .result) (code .result) _ (args .stage) (args .place) (code .ensures) (first .ensures) .place) (omega arith) (omega arith)
+    whole (args .out .now) _ _ (first .result) (of-number _ _ (first .result) (code .result) _ (args .stage) (args .place) (code .ensures)
+    (first .ensures) .place) (omega arith) (omega arith)
     (of-number (args .out .now) _ (second .result) (code .result) _ (args .stage) (args .place) (code .ensures) (second .ensures) .buffer)
 
 pub lay-refusal-spec : {M : Type 1} → statement M
 lay-refusal-spec =
-    tie.close
-    (tie.spec
-    code-requires
-    slice-aggregate-put-refusal
-    put-refusal-requires
+    tie.close (tie.spec
+    (λ c κs. search needs)  -- code-requires
+    (λ c. search needs)  -- slice-aggregate-put-refusal
+    (λ c κs. search needs)  -- put-refusal-requires
     returns
-    put-refusal-requires-2
-    same-length
+    (λ c κs. search needs)  -- put-refusal-requires-2
+    (λ c. search needs)  -- same-length
     returns-2)

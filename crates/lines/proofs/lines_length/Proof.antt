@@ -29,56 +29,36 @@ loop-holds : tie.Need-loop-holds Inv-loop μ-loop
 unfolding linesLength sum
 loop-holds c = (refl, omega arith, refl, omega arith)
 
-decimal-length-requires : tie.Need-decimal-length-requires Inv-loop μ-loop
-decimal-length-requires c κs = search needs
-
-numbers-of-requires : tie.Need-numbers-of-requires Inv-loop μ-loop
-numbers-of-requires c κs = (c .before .before .before .pre, omega arith)
-
-mul-sum : tie.Need-mul-sum Inv-loop μ-loop
-mul-sum c = omega (arith, c .numbers-of .ensures .1)
-
-add-sum : tie.Need-add-sum Inv-loop μ-loop
-add-sum c = omega (arith, c .numbers-of .ensures .1, c .before .decimal-length .ensures .1)
-
-add-sum-2 : tie.Need-add-sum-2 Inv-loop μ-loop
-add-sum-2 c = omega (arith, c .numbers-of .ensures .1, c .before .decimal-length .ensures .1)
-
 add-sum-3 : tie.Need-add-sum-3 Inv-loop μ-loop
-add-sum-3 c = omega (arith, c .numbers-of .ensures .1, c .before .decimal-length .ensures .1, valid-variables (c .before .before .before .before .args .g) (c .before .before .before .before .pre))
-
-add-key : tie.Need-add-key Inv-loop μ-loop
-add-key c = search needs
-
-loop-less : tie.Need-loop-less Inv-loop μ-loop
-loop-less c = search needs
+add-sum-3 c =
+    let entry = c .before .before .before .before in
+    omega (arith, c .numbers-of .ensures .1, c .before .decimal-length .ensures .1, valid-variables (entry .args .g) (entry .pre))
 
 loop-again : tie.Need-loop-again Inv-loop μ-loop
 loop-again c =
+    let decimal-length = c .before .decimal-length in
     let loop = c .before .before .before .loop in (
       loop .inv .0,
       omega arith,
-      grown (c .before .before .before .before .args .g) (loop .key) (loop .sum) (c .before .decimal-length .result) (c .numbers-of .result) (loop .inv .2) (c .before .decimal-length .ensures .0) (c .numbers-of .ensures .0),
-      omega (arith, c .numbers-of .ensures .1, c .before .decimal-length .ensures .1),
+      grown (c .before .before .before .before .args .g) (loop .key) (loop .sum) (decimal-length .result) (c .numbers-of .result) (loop .inv .2)
+          (decimal-length .ensures .0) (c .numbers-of .ensures .0),
+      omega (arith, c .numbers-of .ensures .1, decimal-length .ensures .1),
     )
 
 returns : tie.Need-returns Inv-loop μ-loop
-returns c = done (c .before .before .args .g) (c .before .loop .key) (c .before .loop .sum) _ (omega arith) (c .before .loop .inv .2)
+returns c =
+    let loop = c .before .loop in
+    done (c .before .before .args .g) (loop .key) (loop .sum) _ (omega arith) (loop .inv .2)
 
 pub lines-length-spec : {M : Type 1} → statement M
 lines-length-spec =
-    tie.close
-    (tie.spec
-    Inv-loop
-    μ-loop
-    loop-holds
-    decimal-length-requires
-    numbers-of-requires
-    mul-sum
-    add-sum
-    add-sum-2
+    tie.close (tie.spec Inv-loop μ-loop loop-holds
+    (λ c κs. search needs)  -- decimal-length-requires
+    (λ c κs. (c .before .before .before .pre, omega arith))  -- numbers-of-requires
+    (λ c. omega (arith, c .numbers-of .ensures .1))  -- mul-sum
+    (λ c. omega (arith, c .numbers-of .ensures .1, c .before .decimal-length .ensures .1))  -- add-sum
+    (λ c. omega (arith, c .numbers-of .ensures .1, c .before .decimal-length .ensures .1))  -- add-sum-2
     add-sum-3
-    add-key
-    loop-less
-    loop-again
-    returns)
+    (λ c. search needs)  -- add-key
+    (λ c. search needs)  -- loop-less
+    loop-again returns)

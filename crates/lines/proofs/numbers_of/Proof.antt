@@ -12,20 +12,27 @@ use Rattle.lines.proofs.numbers_of.Tie as tie
 small : (s t : ℕ) → s ≡ t → t ≤ max-size → s + s * s ≤ 42
 small s t e l = let k : s ≤ 6 = omega arith in omega (arith, mul-le-mul k k)
 
-size-of-requires : tie.Need-size-of-requires
-size-of-requires c κs = search needs
-
 mul-result : tie.Need-mul-result
-mul-result c = omega (arith, small (c .size-of .result) _ (c .size-of .ensures .0) (size-most _ (valid-size (c .before .before .args .g) (c .before .before .pre .0) (c .before .before .args .key) (c .before .before .pre .1))))
+mul-result c =
+    let args = c .before .before .args in
+    let pre = c .before .before .pre in
+    omega (arith, small (c .size-of .result) _ (c .size-of .ensures .0) (size-most _ (valid-size (args .g) (pre .0) (args .key) (pre .1))))
 
 add-result : tie.Need-add-result
-add-result c = omega (arith, small (c .size-of .result) _ (c .size-of .ensures .0) (size-most _ (valid-size (c .before .before .args .g) (c .before .before .pre .0) (c .before .before .args .key) (c .before .before .pre .1))))
+add-result c =
+    let args = c .before .before .args in
+    let pre = c .before .before .pre in
+    omega (arith, small (c .size-of .result) _ (c .size-of .ensures .0) (size-most _ (valid-size (args .g) (pre .0) (args .key) (pre .1))))
 
 returns : tie.Need-returns
-returns c = (
-  ap (λ (n : ℕ). n + n * n) (c .size-of .ensures .0),
-  small (c .size-of .result) _ (c .size-of .ensures .0) (size-most _ (valid-size (c .before .before .args .g) (c .before .before .pre .0) (c .before .before .args .key) (c .before .before .pre .1))),
-)
+returns c =
+    let args = c .before .before .args in
+    let pre = c .before .before .pre in (
+      ap (λ (n : ℕ). n + n * n) (c .size-of .ensures .0),
+      small (c .size-of .result) _ (c .size-of .ensures .0) (size-most _ (valid-size (args .g) (pre .0) (args .key) (pre .1))),
+    )
 
 pub numbers-of-spec : {M : Type 1} → statement M
-numbers-of-spec = tie.close (tie.spec size-of-requires mul-result add-result returns)
+numbers-of-spec = tie.close (tie.spec
+    (λ c κs. search needs)  -- size-of-requires
+    mul-result add-result returns)

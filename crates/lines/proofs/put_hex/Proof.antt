@@ -24,70 +24,35 @@ loop-holds : tie.Need-loop-holds Inv-loop μ-loop
 unfolding hexBy
 loop-holds c = (omega arith, refl, puts-begun (c .before .args .out .now) (c .before .args .at))
 
-mul-d : tie.Need-mul-d Inv-loop μ-loop
-mul-d c = search needs
-
-sub-d : tie.Need-sub-d Inv-loop μ-loop
-sub-d c = search needs
-
-shr-d : tie.Need-shr-d Inv-loop μ-loop
-shr-d c = search needs
-
-cast-hex-digit : tie.Need-cast-hex-digit Inv-loop μ-loop
-cast-hex-digit c = search needs
-
-hex-digit-requires : tie.Need-hex-digit-requires Inv-loop μ-loop
-hex-digit-requires c κs = search needs
-
-add-out : tie.Need-add-out Inv-loop μ-loop
-add-out c = search needs
-
-slice-write-out : tie.Need-slice-write-out Inv-loop μ-loop
-slice-write-out c = search needs
-
-add-i : tie.Need-add-i Inv-loop μ-loop
-add-i c = search needs
-
-loop-less : tie.Need-loop-less Inv-loop μ-loop
-loop-less c = search needs
-
 loop-again : tie.Need-loop-again Inv-loop μ-loop
 loop-again c =
     let args = c .before .before .before .before .args in
     let loop = c .before .before .loop in (
       omega arith,
       simp length-set (loop .inv .1),
-      puts-next (args .out .now) (loop .out) (args .at) (loop .i) _ (hexBy (loop .i) (args .bits)) _ (loop .inv .1) (omega arith) (loop .inv .2) (hex-more (loop .i) (args .bits) ∙ ap (λ (d : ℕ). hexBy (loop .i) (args .bits) ++ (d ∷ [])) (sym (c .hex-digit .ensures))),
+      puts-next (args .out .now) (loop .out) (args .at) (loop .i) _ (hexBy (loop .i) (args .bits)) _ (loop .inv .1) (omega arith) (loop .inv .2)
+          (hex-more (loop .i) (args .bits) ∙ ap (λ (d : ℕ). hexBy (loop .i) (args .bits) ++ (d ∷ [])) (sym (c .hex-digit .ensures))),
     )
-
-add-result : tie.Need-add-result Inv-loop μ-loop
-add-result c = search needs
-
-same-length : tie.Need-same-length Inv-loop μ-loop
-same-length c = c .before .loop .inv .1
 
 returns : tie.Need-returns Inv-loop μ-loop
 returns c =
+    let loop = c .before .loop in
     let args = c .before .before .before .args in
-    done (args .out .now) (c .before .loop .out) (args .at) (c .before .loop .i) (args .bits) (omega arith) (c .before .loop .inv .2)
+    done (args .out .now) (loop .out) (args .at) (loop .i) (args .bits) (omega arith) (loop .inv .2)
 
 pub put-hex-spec : {M : Type 1} → statement M
 put-hex-spec =
-    tie.close
-    (tie.spec
-    Inv-loop
-    μ-loop
-    loop-holds
-    mul-d
-    sub-d
-    shr-d
-    cast-hex-digit
-    hex-digit-requires
-    add-out
-    slice-write-out
-    add-i
-    loop-less
+    tie.close (tie.spec Inv-loop μ-loop loop-holds
+    (λ c. search needs)  -- mul-d
+    (λ c. search needs)  -- sub-d
+    (λ c. search needs)  -- shr-d
+    (λ c. search needs)  -- cast-hex-digit
+    (λ c κs. search needs)  -- hex-digit-requires
+    (λ c. search needs)  -- add-out
+    (λ c. search needs)  -- slice-write-out
+    (λ c. search needs)  -- add-i
+    (λ c. search needs)  -- loop-less
     loop-again
-    add-result
-    same-length
+    (λ c. search needs)  -- add-result
+    (λ c. c .before .loop .inv .1)  -- same-length
     returns)

@@ -20,7 +20,8 @@ use Rattle.lines.proofs.put_lines.Statement.{statement}
 use Rattle.lines.proofs.put_lines.Tie as tie
 
 abbrev Inv-loop : tie.InvT-loop
-Inv-loop out₀ g values next₀ from₀ key₀ key-end out next from key = (key-end ≡ g .variables) × (key ≤ key-end) × (length out ≡ length out₀) × (from ≡ startOf (g .sizes) key) × Puts out₀ out 0 next (linesText g values key)
+Inv-loop out₀ g values next₀ from₀ key₀ key-end out next from key = (key-end ≡ g .variables) × (key ≤ key-end) × (length out ≡ length out₀) ×
+    (from ≡ startOf (g .sizes) key) × Puts out₀ out 0 next (linesText g values key)
 
 abbrev μ-loop : tie.MeasureT-loop
 μ-loop out₀ g values next₀ from₀ key₀ key-end out next from key = key-end - key
@@ -33,37 +34,55 @@ within g key n l = (sum-le (λ i. numbersOf g i) (key + 1) n (omega arith), sum-
 begins : (g : Graph) (key from n : ℕ) → from ≡ startOf (g .sizes) key → n ≡ numbersOf g key → from + n ≡ startOf (g .sizes) (key + 1)
 begins g key from n ef en = rw (ef, en) (sym (start-more (g .sizes) key))
 
-grown : (g : Graph) (values : List Float) (key from n : ℕ) → from ≡ startOf (g .sizes) key → n ≡ numbersOf g key → linesText g values key ++ lineText key values from n ≡ linesText g values (key + 1)
+grown : (g : Graph) (values : List Float) (key from n : ℕ) → from ≡ startOf (g .sizes) key → n ≡ numbersOf g key
+    → linesText g values key ++ lineText key values from n ≡ linesText g values (key + 1)
 grown g values key from n ef en = rw (ef, en) (sym (lines-more g values key))
 
-done : (g : Graph) (values : List Float) (out₀ out : List ℕ) (next key n : ℕ) → key ≡ n → Puts out₀ out 0 next (linesText g values key) → out ≡ lay out₀ 0 (linesText g values n)
+done : (g : Graph) (values : List Float) (out₀ out : List ℕ) (next key n : ℕ) → key ≡ n → Puts out₀ out 0 next (linesText g values key) → out
+    ≡ lay out₀ 0 (linesText g values n)
 done g values out₀ out next key n e p = rw e at (p .0)
 
 loop-holds : tie.Need-loop-holds Inv-loop μ-loop
 unfolding linesText startOf sum
 loop-holds c = (refl, omega arith, refl, refl, puts-none (c .before .before .args .out .now) 0)
 
-numbers-of-requires : tie.Need-numbers-of-requires Inv-loop μ-loop
-numbers-of-requires c κs = (c .before .before .before .before .pre .0, omega arith)
-
 put-line-requires : tie.Need-put-line-requires Inv-loop μ-loop
 put-line-requires c κs =
-    let args = c .before .before .before .before .before .before .args in
+    let entry = c .before .before .before .before .before .before in
+    let pre = entry .pre in
+    let numbers-of = c .before .numbers-of in
+    let args = entry .args in
     let loop = c .before .before .before .loop in (
-      omega (arith, within (args .g) (loop .key) (args .g .variables) (omega arith) .1, length-more (args .g) (loop .key), c .before .numbers-of .ensures .0, loop .inv .4 .1, lines-long (args .g) (args .values .now) (loop .key), c .before .before .before .before .before .before .pre .2),
-      omega (arith, within (args .g) (loop .key) (args .g .variables) (omega arith) .0, start-more (args .g .sizes) (loop .key), c .before .numbers-of .ensures .0, c .before .before .before .before .before .before .pre .1),
+      omega (
+        arith,
+        within (args .g) (loop .key) (args .g .variables) (omega arith) .1,
+        length-more (args .g) (loop .key),
+        numbers-of .ensures .0,
+        loop .inv .4 .1,
+        lines-long (args .g) (args .values .now) (loop .key),
+        pre .2,
+      ),
+      omega (
+        arith,
+        within (args .g) (loop .key) (args .g .variables) (omega arith) .0,
+        start-more (args .g .sizes) (loop .key),
+        numbers-of .ensures .0,
+        pre .1,
+      ),
     )
 
 add-from : tie.Need-add-from Inv-loop μ-loop
 add-from c =
-    let args = c .before .before .before .before .before .before .before .before .before .args in
-    omega (arith, within (args .g) (c .before .before .before .before .before .before .loop .key) (args .g .variables) (omega arith) .0, start-more (args .g .sizes) (c .before .before .before .before .before .before .loop .key), c .before .before .before .before .numbers-of .ensures .0, c .before .before .before .before .before .before .before .before .before .pre .1)
-
-add-key : tie.Need-add-key Inv-loop μ-loop
-add-key c = search needs
-
-loop-less : tie.Need-loop-less Inv-loop μ-loop
-loop-less c = search needs
+    let entry = c .before .before .before .before .before .before .before .before .before in
+    let loop = c .before .before .before .before .before .before .loop in
+    let args = entry .args in
+    omega (
+      arith,
+      within (args .g) (loop .key) (args .g .variables) (omega arith) .0,
+      start-more (args .g .sizes) (loop .key),
+      c .before .before .before .before .numbers-of .ensures .0,
+      entry .pre .1,
+    )
 
 loop-again : tie.Need-loop-again Inv-loop μ-loop
 loop-again c =
@@ -74,29 +93,24 @@ loop-again c =
       omega arith,
       omega arith,
       begins (args .g) (loop .key) (loop .from) (numbers-of .result) (loop .inv .3) (numbers-of .ensures .0),
-      puts-same (args .out .now) _ 0 _ _ _ (grown (args .g) (args .values .now) (loop .key) (loop .from) (numbers-of .result) (loop .inv .3) (numbers-of .ensures .0)) (puts-both (args .out .now) (loop .out) _ 0 (loop .next) _ (linesText (args .g) (args .values .now) (loop .key)) _ (omega arith) (loop .inv .4) (c .before .before .put-line .ensures)),
+      puts-same (args .out .now) _ 0 _ _ _ (grown (args .g) (args .values .now) (loop .key) (loop .from) (numbers-of .result) (loop .inv .3)
+          (numbers-of .ensures .0)) (puts-both (args .out .now) (loop .out) _ 0 (loop .next) _ (linesText (args .g) (args .values .now) (loop .key)) _
+          (omega arith) (loop .inv .4) (c .before .before .put-line .ensures)),
     )
-
-same-length : tie.Need-same-length Inv-loop μ-loop
-same-length c = c .before .loop .inv .2
 
 returns : tie.Need-returns Inv-loop μ-loop
 returns c =
+    let loop = c .before .loop in
     let args = c .before .before .before .before .args in
-    done (args .g) (args .values .now) (args .out .now) (c .before .loop .out) (c .before .loop .next) (c .before .loop .key) _ (omega arith) (c .before .loop .inv .4)
+    done (args .g) (args .values .now) (args .out .now) (loop .out) (loop .next) (loop .key) _ (omega arith) (loop .inv .4)
 
 pub put-lines-spec : {M : Type 1} → statement M
 put-lines-spec =
-    tie.close
-    (tie.spec
-    Inv-loop
-    μ-loop
-    loop-holds
-    numbers-of-requires
-    put-line-requires
-    add-from
-    add-key
-    loop-less
+    tie.close (tie.spec Inv-loop μ-loop loop-holds
+    (λ c κs. (c .before .before .before .before .pre .0, omega arith))  -- numbers-of-requires
+    put-line-requires add-from
+    (λ c. search needs)  -- add-key
+    (λ c. search needs)  -- loop-less
     loop-again
-    same-length
+    (λ c. c .before .loop .inv .2)  -- same-length
     returns)

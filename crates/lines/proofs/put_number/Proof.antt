@@ -12,15 +12,10 @@ use borrow.Author.Needs.{needs}
 use Rattle.lines.proofs.put_number.Statement.{statement}
 use Rattle.lines.proofs.put_number.Tie as tie
 
-of-bits : (out after : List ℕ) (at next : ℕ) (x : Float) (bits : ℕ) → bits ≡ toBits binary64 x → Puts out after at next (space ∷ hexBy 16 bits) → Puts out after at next (numberText x)
+of-bits : (out after : List ℕ) (at next : ℕ) (x : Float) (bits : ℕ) → bits ≡ toBits binary64 x → Puts out after at next (space ∷ hexBy 16 bits)
+    → Puts out after at next (numberText x)
 unfolding numberText
 of-bits out after at next x bits e p = rw e at p
-
-put-requires : tie.Need-put-requires
-put-requires c κs = search needs
-
-bits-of-requires : tie.Need-bits-of-requires
-bits-of-requires c κs = search needs
 
 put-hex-requires : tie.Need-put-hex-requires
 put-hex-requires c κs =
@@ -28,15 +23,20 @@ put-hex-requires c κs =
     let put = c .before .before .before .before .put in
     omega (arith, fits (args .out .now) _ (args .at) (put .result) (space ∷ []) (omega arith) (omega arith) (put .ensures) .1)
 
-same-length : tie.Need-same-length
-same-length c = search needs
-
 returns : tie.Need-returns
 returns c =
     let args = c .before .before .before .before .before .before .before .before .before .before .args in
     let bits-of = c .before .before .before .bits-of in
-    of-bits (args .out .now) _ (args .at) _ (args .x) (bits-of .result) (bits-of .ensures) (puts-both (args .out .now) _ _ (args .at) _ _ (space ∷ []) (hexBy 16 (bits-of .result)) (omega arith) (fits (args .out .now) _ (args .at) _ (space ∷ []) (omega arith) (omega arith) (c .before .before .before .before .before .before .before .put .ensures)) (c .before .before .put-hex .ensures))
+    of-bits (args .out .now) _ (args .at) _ (args .x) (bits-of .result) (bits-of .ensures)
+    (puts-both (args .out .now) _ _ (args .at) _ _ (space ∷ []) (hexBy 16 (bits-of .result)) (omega arith)
+    (fits (args .out .now) _ (args .at) _ (space ∷ []) (omega arith) (omega arith)
+    (c .before .before .before .before .before .before .before .put .ensures)) (c .before .before .put-hex .ensures))
 
 pub put-number-spec : {M : Type 1} → statement M
 put-number-spec =
-    tie.close (tie.spec put-requires bits-of-requires put-hex-requires same-length returns)
+    tie.close (tie.spec
+    (λ c κs. search needs)  -- put-requires
+    (λ c κs. search needs)  -- bits-of-requires
+    put-hex-requires
+    (λ c. search needs)  -- same-length
+    returns)

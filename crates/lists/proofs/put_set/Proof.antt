@@ -24,61 +24,39 @@ loop-holds c =
     let args = c .before .args in
     rw (rising-zero (λ i. has i (args .set)), append-nil (take (args .at) (args .list .now))) (omega arith, omega arith, refl, refl)
 
-single-requires : tie.Need-single-requires Inv-loop μ-loop
-single-requires c κs = search needs
-
-add-list : tie.Need-add-list Inv-loop μ-loop
-add-list c = search needs
-
-mul-list : tie.Need-mul-list Inv-loop μ-loop
-mul-list c = search needs
-
-slice-write-list : tie.Need-slice-write-list Inv-loop μ-loop
-slice-write-list c = search needs
-
-add-to : tie.Need-add-to Inv-loop μ-loop
-add-to c = search needs
-
-add-j : tie.Need-add-j Inv-loop μ-loop
-add-j c = search needs
-
-loop-less : tie.Need-loop-less Inv-loop μ-loop
-loop-less c = search needs
-
 loop-again : tie.Need-loop-again Inv-loop μ-loop
 loop-again c =
-    let args = c .before .before .before .before .before .args in
+    let entry = c .before .before .before .before .before in
+    let pre = entry .pre in
+    let loop-test = c .before .before .loop-test in
+    let args = entry .args in
     let loop = c .before .before .before .loop in
     let single = c .before .single in
     ⊎-elim
-    (λ w. put-in (λ i. args .shift + i) (λ i. has i (args .set)) (args .list .now) (loop .list) _ (args .at) (loop .to) (loop .j) (c .before .before .loop-test .taken) (c .before .before .before .before .before .pre .0) (loop .inv) _
+    (λ w. put-in (λ i. args .shift + i) (λ i. has i (args .set)) (args .list .now) (loop .list) _ (args .at) (loop .to) (loop .j) (loop-test .taken)
+    (pre .0) (loop .inv) _
     (in-set (args .set) (loop .j) (single .result) (single .ensures) (w .0 .taken)) (w .1) (w .2))
-    (λ w. put-off (λ i. args .shift + i) (λ i. has i (args .set)) (args .list .now) (loop .list) _ (args .at) (loop .to) (loop .j) (c .before .before .loop-test .taken) (c .before .before .before .before .before .pre .0) (loop .inv) _
+    (λ w. put-off (λ i. args .shift + i) (λ i. has i (args .set)) (args .list .now) (loop .list) _ (args .at) (loop .to) (loop .j) (loop-test .taken)
+    (pre .0) (loop .inv) _
     (off-set (args .set) (loop .j) (single .result) (single .ensures) (w .0 .left)) (w .1) (w .2))
     (c .if1 .came)
 
-same-length : tie.Need-same-length Inv-loop μ-loop
-same-length c = search needs
-
 returns : tie.Need-returns Inv-loop μ-loop
 returns c =
+    let loop = c .before .loop in
     let args = c .before .before .before .args in
-    put-done (λ i. args .shift + i) (args .set) (args .list .now) (c .before .loop .list) (args .at) (c .before .loop .to) (c .before .loop .j) (c .before .loop .inv) (omega arith)
+    put-done (λ i. args .shift + i) (args .set) (args .list .now) (loop .list) (args .at) (loop .to) (loop .j) (loop .inv) (omega arith)
 
 pub put-set-spec : {M : Type 1} → statement M
 put-set-spec =
-    tie.close
-    (tie.spec
-    Inv-loop
-    μ-loop
-    loop-holds
-    single-requires
-    add-list
-    mul-list
-    slice-write-list
-    add-to
-    add-j
-    loop-less
+    tie.close (tie.spec Inv-loop μ-loop loop-holds
+    (λ c κs. search needs)  -- single-requires
+    (λ c. search needs)  -- add-list
+    (λ c. search needs)  -- mul-list
+    (λ c. search needs)  -- slice-write-list
+    (λ c. search needs)  -- add-to
+    (λ c. search needs)  -- add-j
+    (λ c. search needs)  -- loop-less
     loop-again
-    same-length
+    (λ c. search needs)  -- same-length
     returns)

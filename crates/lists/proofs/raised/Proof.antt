@@ -8,9 +8,6 @@ use borrow.Author.Needs.{needs}
 use Rattle.lists.proofs.raised.Statement.{statement}
 use Rattle.lists.proofs.raised.Tie as tie
 
-add-result : tie.Need-add-result
-add-result c = search needs
-
 returns : tie.Need-returns
 unfolding raised
 returns c = rw (lt-ltb (c .before .args .s) max-factors (c .if1 .taken)) refl
@@ -20,4 +17,6 @@ unfolding raised
 returns-2 c = rw (le-ltb (c .before .args .s) max-factors (omega arith)) refl
 
 pub raised-spec : {M : Type 1} → statement M
-raised-spec = tie.close (tie.spec add-result returns returns-2)
+raised-spec = tie.close (tie.spec
+    (λ c. search needs)  -- add-result
+    returns returns-2)

@@ -14,23 +14,8 @@ Inv-loop items count r₀ seen₀ i₀ r seen i = Counted items count r seen i
 abbrev μ-loop : tie.MeasureT-loop
 μ-loop items count r₀ seen₀ i₀ r seen i = i
 
-loop-holds : tie.Need-loop-holds Inv-loop μ-loop
-loop-holds c = counted-none (c .args .items .now) (c .args .count)
-
-sub-i : tie.Need-sub-i Inv-loop μ-loop
-sub-i c = search needs
-
-element-copy-out-x : tie.Need-element-copy-out-x Inv-loop μ-loop
-element-copy-out-x c = search needs
-
 cast-x : tie.Need-cast-x Inv-loop μ-loop
 cast-x c = record { fits = omega (arith, c .before .before .before .pre .low (c .before .before .loop .i - 1) (omega arith)) }
-
-single64-requires : tie.Need-single64-requires Inv-loop μ-loop
-single64-requires c κs = c .before .before .before .pre .low (c .before .before .loop .i - 1) (omega arith)
-
-loop-less : tie.Need-loop-less Inv-loop μ-loop
-loop-less c = search needs
 
 loop-again : tie.Need-loop-again Inv-loop μ-loop
 loop-again c =
@@ -38,8 +23,10 @@ loop-again c =
     let loop = c .before .before .before .before .loop in
     let single64 = c .before .single64 in
     ⊎-elim
-    (λ w. rw (w .1) (counted-again (args .items .now) (args .count) (loop .r) (loop .seen) (loop .i) (single64 .result) (omega arith) (omega arith) (loop .inv) (single64 .ensures) (w .0 .taken)))
-    (λ w. rw (w .1) (counted-new (args .items .now) (args .count) (loop .r) (loop .seen) (loop .i) (single64 .result) (omega arith) (omega arith) (loop .inv) (single64 .ensures) (w .0 .left)))
+    (λ w. rw (w .1) (counted-again (args .items .now) (args .count) (loop .r) (loop .seen) (loop .i) (single64 .result) (omega arith) (omega arith)
+    (loop .inv) (single64 .ensures) (w .0 .taken)))
+    (λ w. rw (w .1) (counted-new (args .items .now) (args .count) (loop .r) (loop .seen) (loop .i) (single64 .result) (omega arith) (omega arith)
+    (loop .inv) (single64 .ensures) (w .0 .left)))
     (c .if1 .came)
 
 returns : tie.Need-returns Inv-loop μ-loop
@@ -50,15 +37,11 @@ returns c =
 
 pub counted-twice-spec : {M : Type 1} → statement M
 counted-twice-spec =
-    tie.close
-    (tie.spec
-    Inv-loop
-    μ-loop
-    loop-holds
-    sub-i
-    element-copy-out-x
+    tie.close (tie.spec Inv-loop μ-loop
+    (λ c. counted-none (c .args .items .now) (c .args .count))  -- loop-holds
+    (λ c. search needs)  -- sub-i
+    (λ c. search needs)  -- element-copy-out-x
     cast-x
-    single64-requires
-    loop-less
-    loop-again
-    returns)
+    (λ c κs. c .before .before .before .pre .low (c .before .before .loop .i - 1) (omega arith))  -- single64-requires
+    (λ c. search needs)  -- loop-less
+    loop-again returns)

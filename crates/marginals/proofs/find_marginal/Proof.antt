@@ -4,99 +4,82 @@ use Rattle.marginals.proofs.Findings.{twice-told, cleared-told, pivot-t
 use Rattle.marginals.proofs.find_marginal.Statement.{statement}
 use Rattle.marginals.proofs.find_marginal.Tie as tie
 
-counted-twice-requires : tie.Need-counted-twice-requires
-counted-twice-requires c κs = search needs
-
 returns : tie.Need-returns
 returns c =
     let args = c .before .before .before .before .before .before .before .before .before .before .args in
     let look = c .before .counted-twice in
-    twice-told (args .sizes) (args .factors .now) (args .messages .now) (args .keys .now) (args .heads .now) (args .key) (args .to) (args .q) (args .results .now) (look .result) (look .ensures) (c .if1 .taken)
-
-marginal-of-requires : tie.Need-marginal-of-requires
-marginal-of-requires c κs = search needs
-
-enum-told : tie.Need-enum-told
-enum-told c = search needs
+    twice-told (args .sizes) (args .factors .now) (args .messages .now) (args .keys .now) (args .heads .now) (args .key) (args .to) (args .q)
+    (args .results .now) (look .result) (look .ensures) (c .if1 .taken)
 
 put-marginal-requires : tie.Need-put-marginal-requires
 put-marginal-requires c κs =
-    let args = c .before .before .before .before .before .before .before .before .before .before .before .before .before .before .before .before .before .before .args in
+    let entry = c .before .before .before .before .before .before .before .before .before .before .before .before .before .before .before .before
+    .before .before in
+    let args = entry .args in
     let look = c .before .before .before .before .before .before .before .before .before .counted-twice in
     let made = c .before .before .before .before .before .before .marginal-of in
-    let pre = c .before .before .before .before .before .before .before .before .before .before .before .before .before .before .before .before .before .before .pre in
-    rw (done-size (args .sizes) (args .factors .now) (args .messages .now) (args .keys .now) (args .heads .now) (args .key) (args .to) (args .q) (args .results .now) (look .result) (look .ensures) (c .before .before .before .before .before .before .before .before .if1 .left) (made .result) (made .ensures) (c .before .enum-told .given .1)) (pre .0 .2, pre .1)
-
-enum-told-2 : tie.Need-enum-told-2
-enum-told-2 c = search needs
-
-enum-told-3 : tie.Need-enum-told-3
-enum-told-3 c = search needs
-
-enum-told-4 : tie.Need-enum-told-4
-enum-told-4 c = search needs
-
-same-length : tie.Need-same-length
-same-length c = search needs
-
-same-length-2 : tie.Need-same-length-2
-same-length-2 c = search needs
+    let pre = entry .pre in
+    rw (done-size (args .sizes) (args .factors .now) (args .messages .now) (args .keys .now) (args .heads .now) (args .key) (args .to) (args .q)
+    (args .results .now) (look .result) (look .ensures) (c .before .before .before .before .before .before .before .before .if1 .left)
+    (made .result) (made .ensures) (c .before .enum-told .given .1)) (pre .0 .2, pre .1)
 
 returns-2 : tie.Need-returns-2
 returns-2 c =
-    let args = c .before .before .before .before .before .before .before .before .before .before .before .before .before .before .before .before .before .before .before .before .before .args in
+    let args = c .before .before .before .before .before .before .before .before .before .before .before .before .before .before .before .before
+    .before .before .before .before .before .args in
     let look = c .before .before .before .before .before .before .before .before .before .before .before .before .counted-twice in
     let made = c .before .before .before .before .before .before .before .before .before .marginal-of in
-    done-told (args .sizes) (args .factors .now) (args .messages .now) (args .keys .now) (args .heads .now) (args .key) (args .to) (args .q) (args .results .now) (look .result) (look .ensures) (c .before .before .before .before .before .before .before .before .before .before .before .if1 .left) (made .result) (made .ensures) (c .before .before .before .before .enum-told .given .1) _ (c .before .before .put-marginal .ensures)
-
-same-length-3 : tie.Need-same-length-3
-same-length-3 c = search needs
+    done-told (args .sizes) (args .factors .now) (args .messages .now) (args .keys .now) (args .heads .now) (args .key) (args .to) (args .q)
+    (args .results .now) (look .result) (look .ensures) (c .before .before .before .before .before .before .before .before .before .before .before
+    .if1 .left) (made .result) (made .ensures) (c .before .before .before .before .enum-told .given .1) _ (c .before .before .put-marginal .ensures)
 
 returns-3 : tie.Need-returns-3
 returns-3 c =
-    let args = c .before .before .before .before .before .before .before .before .before .before .before .before .before .before .before .before .before .args in
+    let args = c .before .before .before .before .before .before .before .before .before .before .before .before .before .before .before .before
+    .before .args in
     let look = c .before .before .before .before .before .before .before .before .counted-twice in
     let made = c .before .before .before .before .before .marginal-of in
-    cleared-told (args .sizes) (args .factors .now) (args .messages .now) (args .keys .now) (args .heads .now) (args .key) (args .to) (args .q) (args .results .now) (look .result) (look .ensures) (c .before .before .before .before .before .before .before .if1 .left) (made .result) (made .ensures) (c .enum-told2 .given .1)
-
-same-length-4 : tie.Need-same-length-4
-same-length-4 c = search needs
+    cleared-told (args .sizes) (args .factors .now) (args .messages .now) (args .keys .now) (args .heads .now) (args .key) (args .to) (args .q)
+    (args .results .now) (look .result) (look .ensures) (c .before .before .before .before .before .before .before .if1 .left) (made .result)
+    (made .ensures) (c .enum-told2 .given .1)
 
 returns-4 : tie.Need-returns-4
 returns-4 c =
-    let args = c .before .before .before .before .before .before .before .before .before .before .before .before .before .before .before .before .before .args in
+    let args = c .before .before .before .before .before .before .before .before .before .before .before .before .before .before .before .before
+    .before .args in
     let look = c .before .before .before .before .before .before .before .before .counted-twice in
     let made = c .before .before .before .before .before .marginal-of in
-    pivot-told (args .sizes) (args .factors .now) (args .messages .now) (args .keys .now) (args .heads .now) (args .key) (args .to) (args .q) (args .results .now) (look .result) (look .ensures) (c .before .before .before .before .before .before .before .if1 .left) (made .result) (made .ensures) (c .enum-told3 .given .1)
-
-same-length-5 : tie.Need-same-length-5
-same-length-5 c = search needs
+    pivot-told (args .sizes) (args .factors .now) (args .messages .now) (args .keys .now) (args .heads .now) (args .key) (args .to) (args .q)
+    (args .results .now) (look .result) (look .ensures) (c .before .before .before .before .before .before .before .if1 .left) (made .result)
+    (made .ensures) (c .enum-told3 .given .1)
 
 returns-5 : tie.Need-returns-5
 returns-5 c =
-    let args = c .before .before .before .before .before .before .before .before .before .before .before .before .before .before .before .before .before .args in
+    let args = c .before .before .before .before .before .before .before .before .before .before .before .before .before .before .before .before
+    .before .args in
     let look = c .before .before .before .before .before .before .before .before .counted-twice in
     let made = c .before .before .before .before .before .marginal-of in
-    unbounded-told (args .sizes) (args .factors .now) (args .messages .now) (args .keys .now) (args .heads .now) (args .key) (args .to) (args .q) (args .results .now) (look .result) (look .ensures) (c .before .before .before .before .before .before .before .if1 .left) (made .result) (made .ensures) (c .enum-told4 .given .1)
+    unbounded-told (args .sizes) (args .factors .now) (args .messages .now) (args .keys .now) (args .heads .now) (args .key) (args .to) (args .q)
+    (args .results .now) (look .result) (look .ensures) (c .before .before .before .before .before .before .before .if1 .left) (made .result)
+    (made .ensures) (c .enum-told4 .given .1)
 
 pub find-marginal-spec : {M : Type 1} → statement M
 find-marginal-spec =
-    tie.close
-    (tie.spec
-    counted-twice-requires
+    tie.close (tie.spec
+    (λ c κs. search needs)  -- counted-twice-requires
     returns
-    marginal-of-requires
-    enum-told
+    (λ c κs. search needs)  -- marginal-of-requires
+    (λ c. search needs)  -- enum-told
     put-marginal-requires
-    enum-told-2
-    enum-told-3
-    enum-told-4
-    same-length
-    same-length-2
+    (λ c. search needs)  -- enum-told-2
+    (λ c. search needs)  -- enum-told-3
+    (λ c. search needs)  -- enum-told-4
+    (λ c. search needs)  -- same-length
+    (λ c. search needs)  -- same-length-2
     returns-2
-    same-length-3
+    (λ c. search needs)  -- same-length-3
     returns-3
-    same-length-4
+    (λ c. search needs)  -- same-length-4
     returns-4
-    same-length-5
+    (λ c. search needs)  -- same-length-5
     returns-5)

@@ -31,25 +31,15 @@ slice-aggregate-marginalize-2 : tie.Need-slice-aggregate-marginalize-2
 slice-aggregate-marginalize-2 c =
     let l = c .before .before .before .before .before .before .before .before .before .before .args .l in
     let long : length (l .slots) ≡ max-slots = search needs in
-    sym (length-take-le (l .count) (l .slots) (omega (arith, long, c .before .before .before .before .before .before .before .before .before .before .pre .0 .1)))
-
-marginalize-requires : tie.Need-marginalize-requires
-marginalize-requires c κs = search needs
-
-same-length : tie.Need-same-length
-same-length c = search needs
-
-returns : tie.Need-returns
-returns c = c .before .before .marginalize .ensures .0
+    sym (length-take-le (l .count) (l .slots) (omega (
+      arith,
+      long,
+      c .before .before .before .before .before .before .before .before .before .before .pre .0 .1,
+    )))
 
 pub marginal-by-spec : {M : Type 1} → statement M
 marginal-by-spec =
-    tie.close
-    (tie.spec
-    array-share-prefix-cleared
-    slice-aggregate-marginalize
-    array-share-prefix-slots
-    slice-aggregate-marginalize-2
-    marginalize-requires
-    same-length
-    returns)
+    tie.close (tie.spec array-share-prefix-cleared slice-aggregate-marginalize array-share-prefix-slots slice-aggregate-marginalize-2
+    (λ c κs. search needs)  -- marginalize-requires
+    (λ c. search needs)  -- same-length
+    (λ c. c .before .before .marginalize .ensures .0))  -- returns

@@ -17,31 +17,21 @@ loop-holds : tie.Need-loop-holds Inv-loop μ-loop
 unfolding deductOf deduct
 loop-holds c = (omega arith, refl)
 
-add-get : tie.Need-add-get Inv-loop μ-loop
-add-get c = omega arith
-
-get-requires : tie.Need-get-requires Inv-loop μ-loop
-get-requires c κs = c .before .before .before .before .pre .1 .0 _ (c .loop-test .taken)
-
-add-get-2 : tie.Need-add-get-2 Inv-loop μ-loop
-add-get-2 c = omega arith
-
-get-requires-2 : tie.Need-get-requires-2 Inv-loop μ-loop
-get-requires-2 c κs = c .before .before .before .before .before .pre .1 .1 _ (c .before .loop-test .taken)
-
-add-k : tie.Need-add-k Inv-loop μ-loop
-add-k c = omega arith
-
-loop-less : tie.Need-loop-less Inv-loop μ-loop
-loop-less c = omega arith
-
 loop-again : tie.Need-loop-again Inv-loop μ-loop
 unfolding deductOf deduct
 loop-again c = (omega arith, rw add-one (cc))
 
 returns : tie.Need-returns Inv-loop μ-loop
-returns c = let e : c .before .loop .k ≡ c .before .before .before .before .args .n = omega arith in cc
+returns c =
+    let e : c .before .loop .k ≡ c .before .before .before .before .args .n = omega arith in cc
 
 pub deduct-spec : {M : Type 1} → statement M
 deduct-spec =
-    tie.close (tie.spec Inv-loop μ-loop loop-holds add-get get-requires add-get-2 get-requires-2 add-k loop-less loop-again returns)
+    tie.close (tie.spec Inv-loop μ-loop loop-holds
+    (λ c. omega arith)  -- add-get
+    (λ c κs. c .before .before .before .before .pre .1 .0 _ (c .loop-test .taken))  -- get-requires
+    (λ c. omega arith)  -- add-get-2
+    (λ c κs. c .before .before .before .before .before .pre .1 .1 _ (c .before .loop-test .taken))  -- get-requires-2
+    (λ c. omega arith)  -- add-k
+    (λ c. omega arith)  -- loop-less
+    loop-again returns)

@@ -19,20 +19,11 @@ loop-holds : tie.Need-loop-holds Inv-loop μ-loop
 unfolding dotOf accumulate ofBits
 loop-holds c = (omega arith, refl, refl, refl, refl)
 
-get-requires : tie.Need-get-requires Inv-loop μ-loop
-get-requires c κs = c .before .before .before .before .pre .1 _ (c .loop-test .taken)
-
 get-requires-2 : tie.Need-get-requires-2 Inv-loop μ-loop
 get-requires-2 c κs = c .before .before .before .before .before .pre .0 .1 _ _ (omega arith) (c .before .loop-test .taken)
 
-add-get : tie.Need-add-get Inv-loop μ-loop
-add-get c = omega (arith, c .before .before .before .before .before .before .pre .0 .0)
-
 get-requires-3 : tie.Need-get-requires-3 Inv-loop μ-loop
 get-requires-3 c κs = c .before .before .before .before .before .before .pre .0 .1 _ _ (omega arith) (c .before .before .loop-test .taken)
-
-add-get-2 : tie.Need-add-get-2 Inv-loop μ-loop
-add-get-2 c = omega (arith, c .before .before .before .before .before .before .before .pre .0 .0)
 
 get-requires-4 : tie.Need-get-requires-4 Inv-loop μ-loop
 get-requires-4 c κs = c .before .before .before .before .before .before .before .pre .0 .1 _ _ (omega arith) (c .before .before .before .loop-test .taken)
@@ -41,42 +32,33 @@ add-get-3 : tie.Need-add-get-3 Inv-loop μ-loop
 add-get-3 c = omega (arith, c .before .before .before .before .before .before .before .before .pre .0 .0)
 
 get-requires-5 : tie.Need-get-requires-5 Inv-loop μ-loop
-get-requires-5 c κs = c .before .before .before .before .before .before .before .before .pre .0 .1 _ _ (omega arith) (c .before .before .before .before .loop-test .taken)
-
-add-k : tie.Need-add-k Inv-loop μ-loop
-add-k c = omega arith
-
-loop-less : tie.Need-loop-less Inv-loop μ-loop
-loop-less c = omega arith
+get-requires-5 c κs = c .before .before .before .before .before .before .before .before .pre .0 .1 _ _ (omega arith)
+    (c .before .before .before .before .loop-test .taken)
 
 loop-again : tie.Need-loop-again Inv-loop μ-loop
-loop-again c = (
-  omega arith,
-  dot-more _ _ _ _ _ _ _ _ _ _ (c .before .before .before .before .before .before .loop .inv .1) (c .before .before .before .get2 .ensures) (c .before .before .before .before .get .ensures),
-  dot-more _ _ _ _ _ _ _ _ _ _ (c .before .before .before .before .before .before .loop .inv .2) (c .before .before .get3 .ensures) (c .before .before .before .before .get .ensures),
-  dot-more _ _ _ _ _ _ _ _ _ _ (c .before .before .before .before .before .before .loop .inv .3) (c .before .get4 .ensures) (c .before .before .before .before .get .ensures),
-  dot-more _ _ _ _ _ _ _ _ _ _ (c .before .before .before .before .before .before .loop .inv .4) (c .get5 .ensures) (c .before .before .before .before .get .ensures),
-)
+loop-again c =
+    let loop = c .before .before .before .before .before .before .loop in
+    let get = c .before .before .before .before .get in (
+      omega arith,
+      dot-more _ _ _ _ _ _ _ _ _ _ (loop .inv .1) (c .before .before .before .get2 .ensures) (get .ensures),
+      dot-more _ _ _ _ _ _ _ _ _ _ (loop .inv .2) (c .before .before .get3 .ensures) (get .ensures),
+      dot-more _ _ _ _ _ _ _ _ _ _ (loop .inv .3) (c .before .get4 .ensures) (get .ensures),
+      dot-more _ _ _ _ _ _ _ _ _ _ (loop .inv .4) (c .get5 .ensures) (get .ensures),
+    )
 
 returns : tie.Need-returns Inv-loop μ-loop
-returns c = let e : c .before .loop .k ≡ c .before .before .before .before .args .n = omega arith in (cc, cc, cc, cc)
+returns c =
+    let e : c .before .loop .k ≡ c .before .before .before .before .args .n = omega arith in (cc, cc, cc, cc)
 
 pub dots-spec : {M : Type 1} → statement M
 dots-spec =
-    tie.close
-    (tie.spec
-    Inv-loop
-    μ-loop
-    loop-holds
-    get-requires
+    tie.close (tie.spec Inv-loop μ-loop loop-holds
+    (λ c κs. c .before .before .before .before .pre .1 _ (c .loop-test .taken))  -- get-requires
     get-requires-2
-    add-get
+    (λ c. omega (arith, c .before .before .before .before .before .before .pre .0 .0))  -- add-get
     get-requires-3
-    add-get-2
-    get-requires-4
-    add-get-3
-    get-requires-5
-    add-k
-    loop-less
-    loop-again
-    returns)
+    (λ c. omega (arith, c .before .before .before .before .before .before .before .pre .0 .0))  -- add-get-2
+    get-requires-4 add-get-3 get-requires-5
+    (λ c. omega arith)  -- add-k
+    (λ c. omega arith)  -- loop-less
+    loop-again returns)

@@ -24,32 +24,15 @@ loop-holds c = (omega arith, refl, refl)
 put-requires : tie.Need-put-requires Inv-loop μ-loop
 put-requires c κs = within (c .before .before .loop .inv .1) (c .before .before .before .before .pre _ (c .before .loop-test .taken))
 
-add-d : tie.Need-add-d Inv-loop μ-loop
-add-d c = omega arith
-
-loop-less : tie.Need-loop-less Inv-loop μ-loop
-loop-less c = omega arith
-
 loop-again : tie.Need-loop-again Inv-loop μ-loop
 unfolding filledDiagonal steps
 loop-again c = (omega arith, omega (arith, c .before .before .put .kept .0), rw add-one (cc))
 
-same-length : tie.Need-same-length Inv-loop μ-loop
-same-length c = search needs
-
-returns : tie.Need-returns Inv-loop μ-loop
-returns c = let e : c .before .loop .d ≡ c .before .before .before .args .n = omega arith in cc
-
 pub fill-diagonal-spec : {M : Type 1} → statement M
 fill-diagonal-spec =
-    tie.close
-    (tie.spec
-    Inv-loop
-    μ-loop
-    loop-holds
-    put-requires
-    add-d
-    loop-less
+    tie.close (tie.spec Inv-loop μ-loop loop-holds put-requires
+    (λ c. omega arith)  -- add-d
+    (λ c. omega arith)  -- loop-less
     loop-again
-    same-length
-    returns)
+    (λ c. search needs)  -- same-length
+    (λ c. let e : c .before .loop .d ≡ c .before .before .before .args .n = omega arith in cc))  -- returns

@@ -15,26 +15,9 @@ Inv-loop s i₀ i-end i = (i-end ≡ length s) × (i ≤ length s) × (allFinite
 abbrev μ-loop : tie.MeasureT-loop
 μ-loop s i₀ i-end i = length s - i
 
-loop-holds : tie.Need-loop-holds Inv-loop μ-loop
-loop-holds c = (refl, omega arith, refl)
-
-mul-is-finite : tie.Need-mul-is-finite Inv-loop μ-loop
-mul-is-finite c = omega arith
-
-shared-slice-read-is-finite : tie.Need-shared-slice-read-is-finite Inv-loop μ-loop
-shared-slice-read-is-finite c = omega arith
-
-is-finite-requires : tie.Need-is-finite-requires Inv-loop μ-loop
-is-finite-requires c κs = tt
-
 returns : tie.Need-returns Inv-loop μ-loop
-returns c = sym (one-settles _ _ (omega arith) (c .before .before .before .before .loop .inv .2) (sym (c .before .is-finite .ensures) ∙ not-true _ (c .if1 .taken)))
-
-add-i : tie.Need-add-i Inv-loop μ-loop
-add-i c = omega arith
-
-loop-less : tie.Need-loop-less Inv-loop μ-loop
-loop-less c = omega arith
+returns c = sym (one-settles _ _ (omega arith) (c .before .before .before .before .loop .inv .2)
+    (sym (c .before .is-finite .ensures) ∙ not-true _ (c .if1 .taken)))
 
 loop-again : tie.Need-loop-again Inv-loop μ-loop
 loop-again c = (
@@ -48,16 +31,12 @@ returns-2 c = sym (none-left (c .before .before .before .args .s .now) (c .befor
 
 pub finite-spec : {M : Type 1} → statement M
 finite-spec =
-    tie.close
-    (tie.spec
-    Inv-loop
-    μ-loop
-    loop-holds
-    mul-is-finite
-    shared-slice-read-is-finite
-    is-finite-requires
+    tie.close (tie.spec Inv-loop μ-loop
+    (λ c. (refl, omega arith, refl))  -- loop-holds
+    (λ c. omega arith)  -- mul-is-finite
+    (λ c. omega arith)  -- shared-slice-read-is-finite
+    (λ c κs. tt)  -- is-finite-requires
     returns
-    add-i
-    loop-less
-    loop-again
-    returns-2)
+    (λ c. omega arith)  -- add-i
+    (λ c. omega arith)  -- loop-less
+    loop-again returns-2)

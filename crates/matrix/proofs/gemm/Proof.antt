@@ -26,22 +26,19 @@ gemm-column-requires c κs =
     let low = c .before .loop-test .taken in
     (λ i h. omega (arith, start .pre .0 i _ h low), (start .pre .1 .0, λ k h. start .pre .1 .1 k _ h low))
 
-add-j : tie.Need-add-j Inv-loop μ-loop
-add-j c = omega arith
-
-loop-less : tie.Need-loop-less Inv-loop μ-loop
-loop-less c = omega arith
-
 loop-again : tie.Need-loop-again Inv-loop μ-loop
 unfolding product block sweep
 loop-again c = (omega arith, omega (arith, c .before .before .gemm-column .kept .0), rw add-one (cc))
 
-same-length : tie.Need-same-length Inv-loop μ-loop
-same-length c = search needs
-
 returns : tie.Need-returns Inv-loop μ-loop
-returns c = let e : c .before .loop .j ≡ c .before .before .before .before .before .args .w = omega arith in cc
+returns c =
+    let e : c .before .loop .j ≡ c .before .before .before .before .before .args .w = omega arith in cc
 
 pub gemm-spec : {M : Type 1} → statement M
 gemm-spec =
-    tie.close (tie.spec Inv-loop μ-loop loop-holds gemm-column-requires add-j loop-less loop-again same-length returns)
+    tie.close (tie.spec Inv-loop μ-loop loop-holds gemm-column-requires
+    (λ c. omega arith)  -- add-j
+    (λ c. omega arith)  -- loop-less
+    loop-again
+    (λ c. search needs)  -- same-length
+    returns)

@@ -20,51 +20,38 @@ loop-holds : tie.Need-loop-holds Inv-loop μ-loop
 unfolding blockColumn steps
 loop-holds c = (omega arith, refl, refl)
 
-sub-loop : tie.Need-sub-loop Inv-loop μ-loop
-sub-loop c = c .loop .inv .0
-
 gemm-four-requires : tie.Need-gemm-four-requires Inv-loop μ-loop
 gemm-four-requires c κs =
+    let pre = c .before .before .before .before .before .before .pre in
     let left = c .before .loop-test .taken in
-    ((omega arith, λ r h. omega (arith, c .before .before .loop .inv .1, c .before .before .before .before .before .before .pre .0 r (omega arith)), λ r k h. c .before .before .before .before .before .before .pre .1 .0 r k (omega arith)), c .before .before .before .before .before .before .pre .1 .1)
-
-add-i : tie.Need-add-i Inv-loop μ-loop
-add-i c = omega (arith, c .before .before .before .before .loop-test .taken)
-
-loop-less : tie.Need-loop-less Inv-loop μ-loop
-loop-less c = omega (arith, c .before .before .before .before .loop-test .taken)
+    ((omega arith, λ r h. omega (arith, c .before .before .loop .inv .1, pre .0 r (omega arith)), λ r k h. pre .1 .0 r k (omega arith)), pre .1 .1)
 
 loop-again : tie.Need-loop-again Inv-loop μ-loop
-loop-again c = (
-  omega (arith, c .before .before .before .before .loop-test .taken),
-  omega (arith, c .before .before .gemm-four .kept .0),
-  c .before .before .gemm-four .ensures _ (c .before .before .before .before .before .loop .inv .2),
-)
+loop-again c =
+    let gemm-four = c .before .before .gemm-four in (
+      omega (arith, c .before .before .before .before .loop-test .taken),
+      omega (arith, gemm-four .kept .0),
+      gemm-four .ensures _ (c .before .before .before .before .before .loop .inv .2),
+    )
 
 gemm-rows-requires : tie.Need-gemm-rows-requires Inv-loop μ-loop
-gemm-rows-requires c κs = (
-  (c .before .before .loop .inv .0, λ r h. omega (arith, c .before .before .loop .inv .1, c .before .before .before .before .before .before .pre .0 r h)),
-  c .before .before .before .before .before .before .pre .1,
-)
-
-same-length : tie.Need-same-length Inv-loop μ-loop
-same-length c = search needs
+gemm-rows-requires c κs =
+    let pre = c .before .before .before .before .before .before .pre in
+    let loop = c .before .before .loop in (
+      (loop .inv .0, λ r h. omega (arith, loop .inv .1, pre .0 r h)),
+      pre .1,
+    )
 
 returns : tie.Need-returns Inv-loop μ-loop
 returns c = c .before .before .gemm-rows .ensures _ (c .before .before .before .before .before .loop .inv .2)
 
 pub gemm-column-spec : {M : Type 1} → statement M
 gemm-column-spec =
-    tie.close
-    (tie.spec
-    Inv-loop
-    μ-loop
-    loop-holds
-    sub-loop
+    tie.close (tie.spec Inv-loop μ-loop loop-holds
+    (λ c. c .loop .inv .0)  -- sub-loop
     gemm-four-requires
-    add-i
-    loop-less
-    loop-again
-    gemm-rows-requires
-    same-length
+    (λ c. omega (arith, c .before .before .before .before .loop-test .taken))  -- add-i
+    (λ c. omega (arith, c .before .before .before .before .loop-test .taken))  -- loop-less
+    loop-again gemm-rows-requires
+    (λ c. search needs)  -- same-length
     returns)

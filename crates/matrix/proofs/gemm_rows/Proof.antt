@@ -17,33 +17,24 @@ Inv-loop c₀ cv from m j how a av b bv n i₀ c i =
 abbrev μ-loop : tie.MeasureT-loop
 μ-loop c₀ cv from m j how a av b bv n i₀ c i = m - i
 
-loop-holds : tie.Need-loop-holds Inv-loop μ-loop
-loop-holds c = (omega arith, refl, λ u e. e)
-
 dot-requires : tie.Need-dot-requires Inv-loop μ-loop
-dot-requires c κs = (
-  λ k h. c .before .before .before .before .before .before .pre .1 .0 _ k (c .before .loop-test .taken) h,
-  c .before .before .before .before .before .before .pre .1 .1,
-)
+dot-requires c κs =
+    let pre = c .before .before .before .before .before .before .pre in (
+      λ k h. pre .1 .0 _ k (c .before .loop-test .taken) h,
+      pre .1 .1,
+    )
 
 meet-requires : tie.Need-meet-requires Inv-loop μ-loop
 meet-requires c κs = omega (arith, c .before .before .before .before .before .before .before .pre .0 .1 _ (c .before .before .loop-test .taken))
 
-add-i : tie.Need-add-i Inv-loop μ-loop
-add-i c = omega arith
-
-loop-less : tie.Need-loop-less Inv-loop μ-loop
-loop-less c = omega arith
-
 loop-again : tie.Need-loop-again Inv-loop μ-loop
-loop-again c = (
-  omega arith,
-  omega (arith, c .before .before .meet .kept .0),
-  λ u e. row-met _ (c .before .before .before .before .before .before .before .before .before .before .args .how) _ _ _ _ _ _ _ _ u _ _ _ refl (c .before .before .before .before .before .before .loop .inv .2 u e) (c .before .before .before .dot .ensures) (c .before .before .meet .ensures),
-)
-
-same-length : tie.Need-same-length Inv-loop μ-loop
-same-length c = search needs
+loop-again c =
+    let meet = c .before .before .meet in (
+      omega arith,
+      omega (arith, meet .kept .0),
+      λ u e. row-met _ (c .before .before .before .before .before .before .before .before .before .before .args .how) _ _ _ _ _ _ _ _ u _ _ _ refl
+          (c .before .before .before .before .before .before .loop .inv .2 u e) (c .before .before .before .dot .ensures) (meet .ensures),
+    )
 
 returns : tie.Need-returns Inv-loop μ-loop
 returns c =
@@ -52,15 +43,11 @@ returns c =
 
 pub gemm-rows-spec : {M : Type 1} → statement M
 gemm-rows-spec =
-    tie.close
-    (tie.spec
-    Inv-loop
-    μ-loop
-    loop-holds
-    dot-requires
-    meet-requires
-    add-i
-    loop-less
+    tie.close (tie.spec Inv-loop μ-loop
+    (λ c. (omega arith, refl, λ u e. e))  -- loop-holds
+    dot-requires meet-requires
+    (λ c. omega arith)  -- add-i
+    (λ c. omega arith)  -- loop-less
     loop-again
-    same-length
+    (λ c. search needs)  -- same-length
     returns)

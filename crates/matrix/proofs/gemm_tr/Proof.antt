@@ -4,19 +4,14 @@ use borrow.Author.Needs.{needs}
 use Rattle.matrix.proofs.gemm_tr.Statement.{statement}
 use Rattle.matrix.proofs.gemm_tr.Tie as tie
 
-flip-requires : tie.Need-flip-requires
-flip-requires c κs = search needs
-
 gemm-requires : tie.Need-gemm-requires
 gemm-requires c κs =
     let pre = c .before .before .before .before .before .pre in
     (pre .0, (λ i j hi hj. rw (c .flip .ensures) (omega (arith, pre .1 .0 j i hj hi)), pre .1 .1))
 
-same-length : tie.Need-same-length
-same-length c = search needs
-
-returns : tie.Need-returns
-returns c = rw (c .before .before .gemm .ensures, c .before .before .before .flip .ensures)
-
 pub gemm-tr-spec : {M : Type 1} → statement M
-gemm-tr-spec = tie.close (tie.spec flip-requires gemm-requires same-length returns)
+gemm-tr-spec = tie.close (tie.spec
+    (λ c κs. search needs)  -- flip-requires
+    gemm-requires
+    (λ c. search needs)  -- same-length
+    (λ c. rw (c .before .before .gemm .ensures, c .before .before .before .flip .ensures)))  -- returns

@@ -3,8 +3,6 @@ use Rattle.matrix.proofs.Numbers.{finite-is}
 use Rattle.matrix.proofs.is_finite.Statement.{statement}
 use Rattle.matrix.proofs.is_finite.Tie as tie
 
-returns : tie.Need-returns
-returns c = finite-is _
-
 pub is-finite-spec : {M : Type 1} → statement M
-is-finite-spec = tie.close (tie.spec returns)
+is-finite-spec = tie.close (tie.spec
+    (λ c. finite-is _))  -- returns

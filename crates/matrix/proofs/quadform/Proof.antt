@@ -15,15 +15,13 @@ gemm-tr-requires c κs =
     let start = c .before .before .before .before .before .before .before .before .before .before in
     (start .pre .0, (start .pre .1 .1 .0, λ i j hi hj. within (c .before .before .before .before .gemm .kept .0) (dense _ _ _ (start .pre .1 .1 .1) i j hi hj)))
 
-same-length : tie.Need-same-length
-same-length c = search needs
-
-same-length-2 : tie.Need-same-length-2
-same-length-2 c = search needs
-
 returns : tie.Need-returns
-returns c = quadform-is _ _ _ _ _ _ _ _ _ _ _ (c .before .before .before .before .before .before .before .before .before .before .before .before .before .pre .1 .1 .1) (c .before .before .before .before .before .before .before .gemm .ensures) (c .before .before .gemm-tr .ensures)
+returns c = quadform-is _ _ _ _ _ _ _ _ _ _ _ (c .before .before .before .before .before .before .before .before .before .before .before .before
+    .before .pre .1 .1 .1) (c .before .before .before .before .before .before .before .gemm .ensures) (c .before .before .gemm-tr .ensures)
 
 pub quadform-spec : {M : Type 1} → statement M
 quadform-spec =
-    tie.close (tie.spec gemm-requires gemm-tr-requires same-length same-length-2 returns)
+    tie.close (tie.spec gemm-requires gemm-tr-requires
+    (λ c. search needs)  -- same-length
+    (λ c. search needs)  -- same-length-2
+    returns)

@@ -14,26 +14,20 @@ Inv-loop g times count₀ counter₀ count counter = (counter ≤ times) × (cou
 abbrev μ-loop : tie.MeasureT-loop
 μ-loop g times count₀ counter₀ count counter = times - counter
 
-loop-holds : tie.Need-loop-holds Inv-loop μ-loop
-loop-holds c = (omega arith, no-plan (c .args .g))
-
-arrange-requires : tie.Need-arrange-requires Inv-loop μ-loop
-arrange-requires c κs = search needs
-
-add-counter : tie.Need-add-counter Inv-loop μ-loop
-add-counter c = omega (arith, c .before .before .before .loop-test .taken)
-
-loop-less : tie.Need-loop-less Inv-loop μ-loop
-loop-less c = omega (arith, c .before .before .before .loop-test .taken)
-
 loop-again : tie.Need-loop-again Inv-loop μ-loop
-loop-again c = (
-  omega (arith, c .before .before .before .loop-test .taken),
-  one-plan (c .before .before .before .before .before .args .g) (c .before .before .arrange .result) (c .before .before .before .before .loop .counter) (c .before .before .arrange .ensures .0),
-)
+loop-again c =
+    let arrange = c .before .before .arrange in (
+      omega (arith, c .before .before .before .loop-test .taken),
+      one-plan (c .before .before .before .before .before .args .g) (arrange .result) (c .before .before .before .before .loop .counter) (arrange .ensures .0),
+    )
 
 returns : tie.Need-returns Inv-loop μ-loop
 returns c = c .before .loop .inv .1 ∙ ap (replanned (c .before .before .args .g)) (omega (arith, c .loop-test .left, c .before .loop .inv .0))
 
 pub replan-spec : {M : Type 1} → statement M
-replan-spec = tie.close (tie.spec Inv-loop μ-loop loop-holds arrange-requires add-counter loop-less loop-again returns)
+replan-spec = tie.close (tie.spec Inv-loop μ-loop
+    (λ c. (omega arith, no-plan (c .args .g)))  -- loop-holds
+    (λ c κs. search needs)  -- arrange-requires
+    (λ c. omega (arith, c .before .before .before .loop-test .taken))  -- add-counter
+    (λ c. omega (arith, c .before .before .before .loop-test .taken))  -- loop-less
+    loop-again returns)

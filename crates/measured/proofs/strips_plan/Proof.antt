@@ -7,18 +7,14 @@ use Rattle.measured.specs.Measured.{replanned}
 use Rattle.measured.proofs.strips_plan.Statement.{statement}
 use Rattle.measured.proofs.strips_plan.Tie as tie
 
-slice-aggregate-read : tie.Need-slice-aggregate-read
-slice-aggregate-read c = search needs
-
-read-requires : tie.Need-read-requires
-read-requires c κs = search needs
-
-replan-requires : tie.Need-replan-requires
-replan-requires c κs = search needs
-
 returns : tie.Need-returns
 unfolding ofBits
-returns c = c .replan .ensures ∙ ap (λ (r : Read). replanned (r .graph) (c .before .before .before .before .before .before .args .times)) (c .before .before .before .read .ensures .0 .0)
+returns c = c .replan .ensures ∙ ap (λ (r : Read). replanned (r .graph) (c .before .before .before .before .before .before .args .times))
+    (c .before .before .before .read .ensures .0 .0)
 
 pub strips-plan-spec : {M : Type 1} → statement M
-strips-plan-spec = tie.close (tie.spec slice-aggregate-read read-requires replan-requires returns)
+strips-plan-spec = tie.close (tie.spec
+    (λ c. search needs)  -- slice-aggregate-read
+    (λ c κs. search needs)  -- read-requires
+    (λ c κs. search needs)  -- replan-requires
+    returns)

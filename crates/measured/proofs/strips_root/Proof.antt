@@ -5,15 +5,6 @@ use Rattle.measured.proofs.Runs.{root-given, root-refused}
 use Rattle.measured.proofs.strips_root.Statement.{statement}
 use Rattle.measured.proofs.strips_root.Tie as tie
 
-root-requires : tie.Need-root-requires
-root-requires c κs = search needs
-
-enum-known-r : tie.Need-enum-known-r
-enum-known-r c = search needs
-
-enum-told : tie.Need-enum-told
-enum-told c = search needs
-
 returns : tie.Need-returns
 returns c = root-given (c .before .before .before .before .args .pivot) _ _ (c .before .before .before .root .ensures .0) (c .before .r .given .1)
 
@@ -22,4 +13,8 @@ unfolding ofBits
 returns-2 c = root-refused (c .before .before .before .args .pivot) _ (c .before .before .root .ensures .0) (c .enum-told .given .1)
 
 pub strips-root-spec : {M : Type 1} → statement M
-strips-root-spec = tie.close (tie.spec root-requires enum-known-r enum-told returns returns-2)
+strips-root-spec = tie.close (tie.spec
+    (λ c κs. search needs)  -- root-requires
+    (λ c. search needs)  -- enum-known-r
+    (λ c. search needs)  -- enum-told
+    returns returns-2)

@@ -10,70 +10,52 @@ use borrow.Author.Needs.{needs}
 use Rattle.messages.proofs.eliminate_listed.Statement.{statement}
 use Rattle.messages.proofs.eliminate_listed.Tie as tie
 
-sub-eliminate-slots : tie.Need-sub-eliminate-slots
-sub-eliminate-slots c = search needs
-
-part-eliminate-slots-start : tie.Need-part-eliminate-slots-start
-part-eliminate-slots-start c = search needs
-
 part-eliminate-slots-end : tie.Need-part-eliminate-slots-end
 part-eliminate-slots-end c =
     let y : length (c .before .before .before .before .before .before .before .before .before .before .before .args .l .kept) ≡ max-variables = search needs in
     omega (arith, c .before .before .before .before .before .before .before .before .before .before .before .pre .0 .kept)
 
-sub-eliminate-slots-2 : tie.Need-sub-eliminate-slots-2
-sub-eliminate-slots-2 c = search needs
-
-part-eliminate-slots-start-2 : tie.Need-part-eliminate-slots-start-2
-part-eliminate-slots-start-2 c = search needs
-
 part-eliminate-slots-end-2 : tie.Need-part-eliminate-slots-end-2
 part-eliminate-slots-end-2 c =
-    let y : length (c .before .before .before .before .before .before .before .before .before .before .before .before .before .args .l .cleared) ≡ max-variables = search needs in
+    let y : length (c .before .before .before .before .before .before .before .before .before .before .before .before .before .args .l .cleared)
+    ≡ max-variables = search needs in
     omega (arith, c .before .before .before .before .before .before .before .before .before .before .before .before .before .pre .0 .cleared)
-
-sub-eliminate-slots-3 : tie.Need-sub-eliminate-slots-3
-sub-eliminate-slots-3 c = search needs
-
-part-eliminate-slots-start-3 : tie.Need-part-eliminate-slots-start-3
-part-eliminate-slots-start-3 c = search needs
 
 part-eliminate-slots-end-3 : tie.Need-part-eliminate-slots-end-3
 part-eliminate-slots-end-3 c =
-    let y : length (c .before .before .before .before .before .before .before .before .before .before .before .before .before .before .before .args .l .slots) ≡ max-slots = search needs in
+    let y : length (c .before .before .before .before .before .before .before .before .before .before .before .before .before .before .before .args .l
+    .slots) ≡ max-slots = search needs in
     omega (arith, c .before .before .before .before .before .before .before .before .before .before .before .before .before .before .before .pre .0 .slots)
 
 eliminate-slots-requires : tie.Need-eliminate-slots-requires
 eliminate-slots-requires c κs =
-    let args = c .before .before .before .before .before .before .before .before .before .before .before .before .before .before .before .before .args in
-    let pre = c .before .before .before .before .before .before .before .before .before .before .before .before .before .before .before .before .pre in
-    to-parts (args .l) (λ kept cleared slots. Asked kept cleared (args .sizes) (args .factors .now) (args .messages .now) (length (args .work .now)) (args .keys .now) (args .heads .now) slots × Roomy kept cleared (args .sizes) (args .keys .now) (args .heads .now) slots (args .to) (length (args .messages .now))) (pre .1 .0, pre .1 .1)
-
-same-length : tie.Need-same-length
-same-length c = search needs
-
-same-length-2 : tie.Need-same-length-2
-same-length-2 c = search needs
+    let entry = c .before .before .before .before .before .before .before .before .before .before .before .before .before .before .before .before in
+    let args = entry .args in
+    let pre = entry .pre in
+    to-parts (args .l) (λ kept cleared slots. Asked kept cleared (args .sizes) (args .factors .now) (args .messages .now) (length (args .work .now))
+    (args .keys .now) (args .heads .now) slots × Roomy kept cleared (args .sizes) (args .keys .now) (args .heads .now) slots (args .to)
+    (length (args .messages .now))) (pre .1 .0, pre .1 .1)
 
 returns : tie.Need-returns
 returns c =
-    let args = c .before .before .before .before .before .before .before .before .before .before .before .before .before .before .before .before .before .before .before .before .before .args in
-    from-parts (args .l) (EliminatedBy (args .sizes) (args .factors .now) (args .messages .now) (args .keys .now) (args .heads .now) (args .to) _ _) (c .before .before .before .before .eliminate-slots .ensures .0, c .before .before .before .before .eliminate-slots .ensures .1 .0)
+    let eliminate-slots = c .before .before .before .before .eliminate-slots in
+    let args = c .before .before .before .before .before .before .before .before .before .before .before .before .before .before .before .before
+    .before .before .before .before .before .args in
+    from-parts (args .l) (EliminatedBy (args .sizes) (args .factors .now) (args .messages .now) (args .keys .now) (args .heads .now) (args .to) _ _)
+    (eliminate-slots .ensures .0, eliminate-slots .ensures .1 .0)
 
 pub eliminate-listed-spec : {M : Type 1} → statement M
 eliminate-listed-spec =
-    tie.close
-    (tie.spec
-    sub-eliminate-slots
-    part-eliminate-slots-start
+    tie.close (tie.spec
+    (λ c. search needs)  -- sub-eliminate-slots
+    (λ c. search needs)  -- part-eliminate-slots-start
     part-eliminate-slots-end
-    sub-eliminate-slots-2
-    part-eliminate-slots-start-2
+    (λ c. search needs)  -- sub-eliminate-slots-2
+    (λ c. search needs)  -- part-eliminate-slots-start-2
     part-eliminate-slots-end-2
-    sub-eliminate-slots-3
-    part-eliminate-slots-start-3
-    part-eliminate-slots-end-3
-    eliminate-slots-requires
-    same-length
-    same-length-2
+    (λ c. search needs)  -- sub-eliminate-slots-3
+    (λ c. search needs)  -- part-eliminate-slots-start-3
+    part-eliminate-slots-end-3 eliminate-slots-requires
+    (λ c. search needs)  -- same-length
+    (λ c. search needs)  -- same-length-2
     returns)

@@ -10,33 +10,15 @@ use borrow.Author.Needs.{needs}
 use Rattle.messages.proofs.place_listed.Statement.{statement}
 use Rattle.messages.proofs.place_listed.Tie as tie
 
-sub-place-message : tie.Need-sub-place-message
-sub-place-message c = search needs
-
-part-place-message-start : tie.Need-part-place-message-start
-part-place-message-start c = search needs
-
 part-place-message-end : tie.Need-part-place-message-end
 part-place-message-end c =
     let y : length (c .before .before .before .before .before .before .args .l .kept) ≡ max-variables = search needs in
     omega (arith, c .before .before .before .before .before .before .pre .0 .kept)
 
-sub-place-message-2 : tie.Need-sub-place-message-2
-sub-place-message-2 c = search needs
-
-part-place-message-start-2 : tie.Need-part-place-message-start-2
-part-place-message-start-2 c = search needs
-
 part-place-message-end-2 : tie.Need-part-place-message-end-2
 part-place-message-end-2 c =
     let y : length (c .before .before .before .before .before .before .before .before .args .l .cleared) ≡ max-variables = search needs in
     omega (arith, c .before .before .before .before .before .before .before .before .pre .0 .cleared)
-
-sub-place-message-3 : tie.Need-sub-place-message-3
-sub-place-message-3 c = search needs
-
-part-place-message-start-3 : tie.Need-part-place-message-start-3
-part-place-message-start-3 c = search needs
 
 part-place-message-end-3 : tie.Need-part-place-message-end-3
 part-place-message-end-3 c =
@@ -45,35 +27,31 @@ part-place-message-end-3 c =
 
 place-message-requires : tie.Need-place-message-requires
 place-message-requires c κs =
-    let args = c .before .before .before .before .before .before .before .before .before .before .before .before .before .args in
-    to-parts (args .l) (λ kept cleared slots. Placeable kept cleared slots (args .sizes) (args .keys .now) (args .heads .now) (args .number) (args .start)) (c .before .before .before .before .before .before .before .before .before .before .before .before .before .pre .1)
-
-same-length : tie.Need-same-length
-same-length c = search needs
-
-same-length-2 : tie.Need-same-length-2
-same-length-2 c = search needs
+    let entry = c .before .before .before .before .before .before .before .before .before .before .before .before .before in
+    let args = entry .args in
+    to-parts (args .l) (λ kept cleared slots. Placeable kept cleared slots (args .sizes) (args .keys .now) (args .heads .now) (args .number)
+    (args .start)) (entry .pre .1)
 
 returns : tie.Need-returns
 returns c =
-    let args = c .before .before .before .before .before .before .before .before .before .before .before .before .before .before .before .before .before .before .args in
+    let args = c .before .before .before .before .before .before .before .before .before .before .before .before .before .before .before .before
+    .before .before .args in
     let place-message = c .before .before .before .before .place-message in
-    from-parts (args .l) (PlacedBy (args .sizes) (args .keys .now) (args .heads .now) (args .number) (args .start) _ _ _) (place-message .ensures .0, (place-message .ensures .1 .0, place-message .ensures .1 .1))
+    from-parts (args .l) (PlacedBy (args .sizes) (args .keys .now) (args .heads .now) (args .number) (args .start) _ _ _)
+    (place-message .ensures .0, (place-message .ensures .1 .0, place-message .ensures .1 .1))
 
 pub place-listed-spec : {M : Type 1} → statement M
 place-listed-spec =
-    tie.close
-    (tie.spec
-    sub-place-message
-    part-place-message-start
+    tie.close (tie.spec
+    (λ c. search needs)  -- sub-place-message
+    (λ c. search needs)  -- part-place-message-start
     part-place-message-end
-    sub-place-message-2
-    part-place-message-start-2
+    (λ c. search needs)  -- sub-place-message-2
+    (λ c. search needs)  -- part-place-message-start-2
     part-place-message-end-2
-    sub-place-message-3
-    part-place-message-start-3
-    part-place-message-end-3
-    place-message-requires
-    same-length
-    same-length-2
+    (λ c. search needs)  -- sub-place-message-3
+    (λ c. search needs)  -- part-place-message-start-3
+    part-place-message-end-3 place-message-requires
+    (λ c. search needs)  -- same-length
+    (λ c. search needs)  -- same-length-2
     returns)

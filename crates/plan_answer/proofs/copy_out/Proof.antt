@@ -4,15 +4,6 @@ use borrow.Author.Needs.{needs}
 use Rattle.plan_answer.proofs.copy_out.Statement.{statement}
 use Rattle.plan_answer.proofs.copy_out.Tie as tie
 
-message-table-requires : tie.Need-message-table-requires
-message-table-requires c κs = search needs
-
-message-table-requires-2 : tie.Need-message-table-requires-2
-message-table-requires-2 c κs = search needs
-
-key-table-requires : tie.Need-key-table-requires
-key-table-requires c κs = search needs
-
 returns : tie.Need-returns
 returns c =
     let args = c .before .before .before .before .before .before .args in
@@ -20,4 +11,8 @@ returns c =
 
 pub copy-out-spec : {M : Type 1} → statement M
 copy-out-spec =
-    tie.close (tie.spec message-table-requires message-table-requires-2 key-table-requires returns)
+    tie.close (tie.spec
+    (λ c κs. search needs)  -- message-table-requires
+    (λ c κs. search needs)  -- message-table-requires-2
+    (λ c κs. search needs)  -- key-table-requires
+    returns)

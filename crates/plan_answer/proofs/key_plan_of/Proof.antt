@@ -4,18 +4,15 @@ use borrow.Author.Needs.{needs}
 use Rattle.plan_answer.proofs.key_plan_of.Statement.{statement}
 use Rattle.plan_answer.proofs.key_plan_of.Tie as tie
 
-slice-aggregate-lay : tie.Need-slice-aggregate-lay
-slice-aggregate-lay c = search needs
-
-slice-aggregate-lay-2 : tie.Need-slice-aggregate-lay-2
-slice-aggregate-lay-2 c = search needs
-
-lay-requires : tie.Need-lay-requires
-lay-requires c κs = search needs
-
 returns : tie.Need-returns
-returns c = key-plan-is (c .before .before .before .before .before .args .q) _ (c .before .before .before .before .before .pre) (search needs) (search needs) (search needs) (c .before .lay .ensures)
+returns c =
+    let entry = c .before .before .before .before .before in
+    key-plan-is (entry .args .q) _ (entry .pre) (search needs) (search needs) (search needs) (c .before .lay .ensures)
 
 pub key-plan-of-spec : {M : Type 1} → statement M
 key-plan-of-spec =
-    tie.close (tie.spec slice-aggregate-lay slice-aggregate-lay-2 lay-requires returns)
+    tie.close (tie.spec
+    (λ c. search needs)  -- slice-aggregate-lay
+    (λ c. search needs)  -- slice-aggregate-lay-2
+    (λ c κs. search needs)  -- lay-requires
+    returns)

@@ -1,4 +1,5 @@
--- `plan_answer::key_table` meets its contract. The loop's invariant: what the keys passed gather stands in the first places, the others are blank. Assumes nothing.
+-- `plan_answer::key_table` meets its contract. The loop's invariant: what the keys passed gather stands in the first places, the others are blank.
+-- Assumes nothing.
 use mathlib.Core.Path.{_≡_, refl, ap, _∙_}
 use mathlib.Core.List.{_++_, map}
 use Prim.Native.Nat.{_-_, _≤_}
@@ -21,56 +22,36 @@ Inv-loop n at keys₀ k₀ keys k = (k ≤ n) × (keys ≡ map keyPlanOf (take k
 abbrev μ-loop : tie.MeasureT-loop
 μ-loop n at keys₀ k₀ keys k = n - k
 
-loop-holds : tie.Need-loop-holds Inv-loop μ-loop
-loop-holds c = (omega arith, refl)
-
-mul-q : tie.Need-mul-q Inv-loop μ-loop
-mul-q c = search needs
-
-array-copy-out-q : tie.Need-array-copy-out-q Inv-loop μ-loop
-array-copy-out-q c = search needs
-
 key-plan-of-requires : tie.Need-key-plan-of-requires Inv-loop μ-loop
 key-plan-of-requires c κs = c .before .before .before .pre .1 (c .before .before .loop .k) (c .before .loop-test .taken)
-
-mul-keys : tie.Need-mul-keys Inv-loop μ-loop
-mul-keys c = search needs
-
-array-set-from-keys : tie.Need-array-set-from-keys Inv-loop μ-loop
-array-set-from-keys c = search needs
-
-add-k : tie.Need-add-k Inv-loop μ-loop
-add-k c = search needs
-
-loop-less : tie.Need-loop-less Inv-loop μ-loop
-loop-less c = search needs
 
 loop-again : tie.Need-loop-again Inv-loop μ-loop
 loop-again c =
     let args = c .before .before .before .before .args in
-    let loop = c .before .before .before .loop in
-    (omega arith, map-more keyPlanOf (map gatheredOf (take (args .n) (args .t1))) _ (loop .keys) (loop .k) (gatheredOf noGathered) _ (omega (arith, keys-length (args .t1) (args .n) (omega arith))) (omega arith) (loop .inv .1) (c .key-plan-of .ensures ∙ ap keyPlanOf (key-at (args .t1) (args .n) (loop .k) (c .before .before .loop-test .taken))))
+    let loop = c .before .before .before .loop in (
+      omega arith,
+      map-more keyPlanOf (map gatheredOf (take (args .n) (args .t1))) _ (loop .keys) (loop .k) (gatheredOf noGathered) _
+          (omega (arith, keys-length (args .t1) (args .n) (omega arith))) (omega arith) (loop .inv .1)
+          (c .key-plan-of .ensures ∙ ap keyPlanOf (key-at (args .t1) (args .n) (loop .k) (c .before .before .loop-test .taken))),
+    )
 
 returns : tie.Need-returns Inv-loop μ-loop
 unfolding spec.keyTable
 returns c =
     let args = c .before .before .args in
     let loop = c .before .loop in
-    loop .inv .1 ∙ map-done keyPlanOf (map gatheredOf (take (args .n) (args .t1))) spec.noKeyPlan max-variables (loop .k) (omega (arith, keys-length (args .t1) (args .n) (omega arith)))
+    loop .inv .1 ∙ map-done keyPlanOf (map gatheredOf (take (args .n) (args .t1))) spec.noKeyPlan max-variables (loop .k)
+    (omega (arith, keys-length (args .t1) (args .n) (omega arith)))
 
 pub key-table-spec : {M : Type 1} → statement M
 key-table-spec =
-    tie.close
-    (tie.spec
-    Inv-loop
-    μ-loop
-    loop-holds
-    mul-q
-    array-copy-out-q
+    tie.close (tie.spec Inv-loop μ-loop
+    (λ c. (omega arith, refl))  -- loop-holds
+    (λ c. search needs)  -- mul-q
+    (λ c. search needs)  -- array-copy-out-q
     key-plan-of-requires
-    mul-keys
-    array-set-from-keys
-    add-k
-    loop-less
-    loop-again
-    returns)
+    (λ c. search needs)  -- mul-keys
+    (λ c. search needs)  -- array-set-from-keys
+    (λ c. search needs)  -- add-k
+    (λ c. search needs)  -- loop-less
+    loop-again returns)

@@ -20,21 +20,6 @@ loop-holds c =
     let args = c .args in
     (omega arith, c .pre .0, refl, part-none (args .source .now) (args .list .now) (args .from))
 
-sub-place : tie.Need-sub-place Inv-loop μ-loop
-sub-place c = search needs
-
-shared-slice-read-list : tie.Need-shared-slice-read-list Inv-loop μ-loop
-shared-slice-read-list c = search needs
-
-slice-write-list : tie.Need-slice-write-list Inv-loop μ-loop
-slice-write-list c = search needs
-
-add-i : tie.Need-add-i Inv-loop μ-loop
-add-i c = search needs
-
-loop-less : tie.Need-loop-less Inv-loop μ-loop
-loop-less c = search needs
-
 loop-again : tie.Need-loop-again Inv-loop μ-loop
 loop-again c =
     let args = c .before .before .before .args in
@@ -45,9 +30,6 @@ loop-again c =
       part-more (args .source .now) (args .list .now) (loop .list) (args .from) (loop .i) 0 (omega arith) (omega arith) (omega arith) (loop .inv .3),
     )
 
-same-length : tie.Need-same-length Inv-loop μ-loop
-same-length c = search needs
-
 returns : tie.Need-returns Inv-loop μ-loop
 returns c =
     let args = c .before .before .args in
@@ -57,16 +39,12 @@ returns c =
 
 pub lay-spec : {M : Type 1} → statement M
 lay-spec =
-    tie.close
-    (tie.spec
-    Inv-loop
-    μ-loop
-    loop-holds
-    sub-place
-    shared-slice-read-list
-    slice-write-list
-    add-i
-    loop-less
+    tie.close (tie.spec Inv-loop μ-loop loop-holds
+    (λ c. search needs)  -- sub-place
+    (λ c. search needs)  -- shared-slice-read-list
+    (λ c. search needs)  -- slice-write-list
+    (λ c. search needs)  -- add-i
+    (λ c. search needs)  -- loop-less
     loop-again
-    same-length
+    (λ c. search needs)  -- same-length
     returns)

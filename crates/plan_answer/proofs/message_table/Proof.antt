@@ -21,29 +21,14 @@ Inv-loop p messages₀ n j₀ messages j = (j ≤ n) × (messages ≡ map messag
 abbrev μ-loop : tie.MeasureT-loop
 μ-loop p messages₀ n j₀ messages j = n - j
 
-loop-holds : tie.Need-loop-holds Inv-loop μ-loop
-loop-holds c = (omega arith, refl)
-
-message-of-requires : tie.Need-message-of-requires Inv-loop μ-loop
-message-of-requires c κs = (c .before .before .pre, c .loop-test .taken)
-
-mul-messages : tie.Need-mul-messages Inv-loop μ-loop
-mul-messages c = search needs
-
-array-set-from-messages : tie.Need-array-set-from-messages Inv-loop μ-loop
-array-set-from-messages c = search needs
-
-add-j : tie.Need-add-j Inv-loop μ-loop
-add-j c = search needs
-
-loop-less : tie.Need-loop-less Inv-loop μ-loop
-loop-less c = search needs
-
 loop-again : tie.Need-loop-again Inv-loop μ-loop
 loop-again c =
     let args = c .before .before .before .args in
-    let loop = c .before .before .loop in
-    (omega arith, map-more messageOf (messagesOf (args .p)) _ (loop .messages) (loop .j) noMessage _ (omega (arith, messages-length (args .p))) (omega arith) (loop .inv .1) (c .message-of .ensures))
+    let loop = c .before .before .loop in (
+      omega arith,
+      map-more messageOf (messagesOf (args .p)) _ (loop .messages) (loop .j) noMessage _ (omega (arith, messages-length (args .p)))
+          (omega arith) (loop .inv .1) (c .message-of .ensures),
+    )
 
 returns : tie.Need-returns Inv-loop μ-loop
 unfolding spec.messageTable
@@ -54,15 +39,11 @@ returns c =
 
 pub message-table-spec : {M : Type 1} → statement M
 message-table-spec =
-    tie.close
-    (tie.spec
-    Inv-loop
-    μ-loop
-    loop-holds
-    message-of-requires
-    mul-messages
-    array-set-from-messages
-    add-j
-    loop-less
-    loop-again
-    returns)
+    tie.close (tie.spec Inv-loop μ-loop
+    (λ c. (omega arith, refl))  -- loop-holds
+    (λ c κs. (c .before .before .pre, c .loop-test .taken))  -- message-of-requires
+    (λ c. search needs)  -- mul-messages
+    (λ c. search needs)  -- array-set-from-messages
+    (λ c. search needs)  -- add-j
+    (λ c. search needs)  -- loop-less
+    loop-again returns)

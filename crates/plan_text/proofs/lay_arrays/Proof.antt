@@ -7,37 +7,25 @@ use borrow.Author.Needs.{needs}
 use Rattle.plan_text.proofs.lay_arrays.Statement.{statement}
 use Rattle.plan_text.proofs.lay_arrays.Tie as tie
 
-slice-aggregate-put-plan : tie.Need-slice-aggregate-put-plan
-slice-aggregate-put-plan c = search needs
-
-put-plan-requires : tie.Need-put-plan-requires
-put-plan-requires c κs = search needs
-
 returns : tie.Need-returns
 returns c =
     let args = c .before .before .before .before .before .args in
     let first = c .before .before .put-plan in
     short (args .out .now) (planText (planOf (args .n) (args .plan))) (first .result) (first .ensures .place) (c .if1 .taken)
 
-put-plan-requires-2 : tie.Need-put-plan-requires-2
-put-plan-requires-2 c κs = search needs
-
-same-length : tie.Need-same-length
-same-length c = search needs
-
 returns-2 : tie.Need-returns-2
 returns-2 c =
     let args = c .before .before .before .before .before .before .before .before .before .args in
     let first = c .before .before .before .before .before .before .put-plan in
-    whole (args .out .now) _ (planText (planOf (args .n) (args .plan))) (first .result) (first .ensures .place) (omega arith) (omega arith) (c .before .before .put-plan2 .ensures .buffer)
+    whole (args .out .now) _ (planText (planOf (args .n) (args .plan))) (first .result) (first .ensures .place) (omega arith) (omega arith)
+    (c .before .before .put-plan2 .ensures .buffer)
 
 pub lay-arrays-spec : {M : Type 1} → statement M
 lay-arrays-spec =
-    tie.close
-    (tie.spec
-    slice-aggregate-put-plan
-    put-plan-requires
+    tie.close (tie.spec
+    (λ c. search needs)  -- slice-aggregate-put-plan
+    (λ c κs. search needs)  -- put-plan-requires
     returns
-    put-plan-requires-2
-    same-length
+    (λ c κs. search needs)  -- put-plan-requires-2
+    (λ c. search needs)  -- same-length
     returns-2)

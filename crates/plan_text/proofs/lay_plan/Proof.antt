@@ -4,41 +4,21 @@ use borrow.Author.Needs.{needs}
 use Rattle.plan_text.proofs.lay_plan.Statement.{statement}
 use Rattle.plan_text.proofs.lay_plan.Tie as tie
 
-arrange-requires : tie.Need-arrange-requires
-arrange-requires c κs = search needs
-
-enum-told : tie.Need-enum-told
-enum-told c = search needs
-
-lay-arrays-requires : tie.Need-lay-arrays-requires
-lay-arrays-requires c κs = search needs
-
-enum-known-n : tie.Need-enum-known-n
-enum-known-n c = search needs
-
-enum-told-2 : tie.Need-enum-told-2
-enum-told-2 c = search needs
-
-enum-known-outcome : tie.Need-enum-known-outcome
-enum-known-outcome c = search needs
-
-same-length : tie.Need-same-length
-same-length c = search needs
-
 returns : tie.Need-returns
 returns c =
     let args = c .before .before .before .before .before .before .before .before .before .before .before .before .args in
     let arrange = c .before .before .before .before .before .before .before .before .before .before .arrange in
-    laid (args .g) (arrange .result) (arrange .ensures .0) (args .out .now) _ _ _ (c .before .before .before .before .before .before .before .enum-told .given .1) (c .before .n .given .1) (c .before .before .before .before .before .lay-arrays .ensures)
-
-same-length-2 : tie.Need-same-length-2
-same-length-2 c = search needs
+    laid (args .g) (arrange .result) (arrange .ensures .0) (args .out .now) _ _ _
+    (c .before .before .before .before .before .before .before .enum-told .given .1) (c .before .n .given .1)
+    (c .before .before .before .before .before .lay-arrays .ensures)
 
 returns-2 : tie.Need-returns-2
 returns-2 c =
     let args = c .before .before .before .before .before .before .before .before .before .before .before .args in
     let arrange = c .before .before .before .before .before .before .before .before .before .arrange in
-    laid (args .g) (arrange .result) (arrange .ensures .0) (args .out .now) _ _ _ (c .before .before .before .before .before .before .enum-told .given .1) (c .enum-told2 .given .1) (c .before .before .before .before .lay-arrays .ensures)
+    laid (args .g) (arrange .result) (arrange .ensures .0) (args .out .now) _ _ _
+    (c .before .before .before .before .before .before .enum-told .given .1) (c .enum-told2 .given .1)
+    (c .before .before .before .before .lay-arrays .ensures)
 
 returns-3 : tie.Need-returns-3
 returns-3 c =
@@ -48,16 +28,14 @@ returns-3 c =
 
 pub lay-plan-spec : {M : Type 1} → statement M
 lay-plan-spec =
-    tie.close
-    (tie.spec
-    arrange-requires
-    enum-told
-    lay-arrays-requires
-    enum-known-n
-    enum-told-2
-    enum-known-outcome
-    same-length
+    tie.close (tie.spec
+    (λ c κs. search needs)  -- arrange-requires
+    (λ c. search needs)  -- enum-told
+    (λ c κs. search needs)  -- lay-arrays-requires
+    (λ c. search needs)  -- enum-known-n
+    (λ c. search needs)  -- enum-told-2
+    (λ c. search needs)  -- enum-known-outcome
+    (λ c. search needs)  -- same-length
     returns
-    same-length-2
-    returns-2
-    returns-3)
+    (λ c. search needs)  -- same-length-2
+    returns-2 returns-3)

@@ -23,37 +23,21 @@ Inv-loop out₀ at from end content to₀ i₀ out to i = (from ≤ i) × (i ≤
 abbrev μ-loop : tie.MeasureT-loop
 μ-loop out₀ at from end content to₀ i₀ out to i = end - i
 
-slice-aggregate-put-word : tie.Need-slice-aggregate-put-word Inv-loop μ-loop
-slice-aggregate-put-word c = search needs
-
-put-word-requires : tie.Need-put-word-requires Inv-loop μ-loop
-put-word-requires c κs = search needs
-
 loop-holds : tie.Need-loop-holds Inv-loop μ-loop
 loop-holds c =
-    let args = c .before .before .before .before .before .before .args in
-    (omega arith, c .before .before .before .before .before .before .pre .0, same (part-none text (args .t3) (args .from)) none)
-
-array-read-s : tie.Need-array-read-s Inv-loop μ-loop
-array-read-s c = search needs
-
-cast-s : tie.Need-cast-s Inv-loop μ-loop
-cast-s c = search needs
-
-put-slot-requires : tie.Need-put-slot-requires Inv-loop μ-loop
-put-slot-requires c κs = search needs
-
-add-i : tie.Need-add-i Inv-loop μ-loop
-add-i c = search needs
-
-loop-less : tie.Need-loop-less Inv-loop μ-loop
-loop-less c = search needs
+    let entry = c .before .before .before .before .before .before in
+    let args = entry .args in
+    (omega arith, entry .pre .0, same (part-none text (args .t3) (args .from)) none)
 
 loop-again : tie.Need-loop-again Inv-loop μ-loop
 loop-again c =
     let args = c .before .before .before .before .before .before .before .before .before .before .before .before .args in
-    let loop = c .before .before .before .before .before .loop in
-    (omega arith, omega arith, same (part-more text (args .t3) (args .from) (loop .i) (loop .inv .0) (omega arith)) (both (loop .inv .2) (c .before .before .put-slot .ensures)))
+    let loop = c .before .before .before .before .before .loop in (
+      omega arith,
+      omega arith,
+      same (part-more text (args .t3) (args .from) (loop .i) (loop .inv .0) (omega arith))
+          (both (loop .inv .2) (c .before .before .put-slot .ensures)),
+    )
 
 same-length : tie.Need-same-length Inv-loop μ-loop
 same-length c = long (both (c .before .before .before .before .put-word .ensures) (c .before .loop .inv .2))
@@ -64,22 +48,19 @@ returns c =
     let args = c .before .before .before .before .before .before .before .before .args in
     let loop = c .before .loop in
     let e : loop .i ≡ args .end = omega arith in
-    both (c .before .before .before .before .put-word .ensures) (same (ap (λ (i : ℕ). joined text (drop (args .from) (take i (args .t3)))) e ∙ joined-map slotText slotOf (drop (args .from) (take (args .end) (args .t3)))) (loop .inv .2))
+    both (c .before .before .before .before .put-word .ensures) (same
+    (ap (λ (i : ℕ). joined text (drop (args .from) (take i (args .t3)))) e
+    ∙ joined-map slotText slotOf (drop (args .from) (take (args .end) (args .t3)))) (loop .inv .2))
 
 pub put-content-spec : {M : Type 1} → statement M
 put-content-spec =
-    tie.close
-    (tie.spec
-    Inv-loop
-    μ-loop
-    slice-aggregate-put-word
-    put-word-requires
+    tie.close (tie.spec Inv-loop μ-loop
+    (λ c. search needs)  -- slice-aggregate-put-word
+    (λ c κs. search needs)  -- put-word-requires
     loop-holds
-    array-read-s
-    cast-s
-    put-slot-requires
-    add-i
-    loop-less
-    loop-again
-    same-length
-    returns)
+    (λ c. search needs)  -- array-read-s
+    (λ c. search needs)  -- cast-s
+    (λ c κs. search needs)  -- put-slot-requires
+    (λ c. search needs)  -- add-i
+    (λ c. search needs)  -- loop-less
+    loop-again same-length returns)

@@ -19,34 +19,21 @@ Inv-loop out₀ at name from end items to₀ i₀ out to i = (from ≤ i) × (i 
 abbrev μ-loop : tie.MeasureT-loop
 μ-loop out₀ at name from end items to₀ i₀ out to i = end - i
 
-put-word-requires : tie.Need-put-word-requires Inv-loop μ-loop
-put-word-requires c κs = search needs
-
 loop-holds : tie.Need-loop-holds Inv-loop μ-loop
 loop-holds c =
-    let args = c .before .before .before .before .before .before .args in
-    (omega arith, c .before .before .before .before .before .before .pre .0, same (part-none fieldText (args .t4) (args .from)) none)
-
-array-read-x : tie.Need-array-read-x Inv-loop μ-loop
-array-read-x c = search needs
-
-cast-x : tie.Need-cast-x Inv-loop μ-loop
-cast-x c = search needs
-
-put-field-requires : tie.Need-put-field-requires Inv-loop μ-loop
-put-field-requires c κs = search needs
-
-add-i : tie.Need-add-i Inv-loop μ-loop
-add-i c = search needs
-
-loop-less : tie.Need-loop-less Inv-loop μ-loop
-loop-less c = search needs
+    let entry = c .before .before .before .before .before .before in
+    let args = entry .args in
+    (omega arith, entry .pre .0, same (part-none fieldText (args .t4) (args .from)) none)
 
 loop-again : tie.Need-loop-again Inv-loop μ-loop
 loop-again c =
     let args = c .before .before .before .before .before .before .before .before .before .before .before .before .args in
-    let loop = c .before .before .before .before .before .loop in
-    (omega arith, omega arith, same (part-more fieldText (args .t4) (args .from) (loop .i) (loop .inv .0) (omega arith)) (both (loop .inv .2) (c .before .before .put-field .ensures)))
+    let loop = c .before .before .before .before .before .loop in (
+      omega arith,
+      omega arith,
+      same (part-more fieldText (args .t4) (args .from) (loop .i) (loop .inv .0) (omega arith))
+          (both (loop .inv .2) (c .before .before .put-field .ensures)),
+    )
 
 same-length : tie.Need-same-length Inv-loop μ-loop
 same-length c = long (both (c .before .before .before .before .put-word .ensures) (c .before .loop .inv .2))
@@ -57,21 +44,17 @@ returns c =
     let args = c .before .before .before .before .before .before .before .before .args in
     let loop = c .before .loop in
     let e : loop .i ≡ args .end = omega arith in
-    both (c .before .before .before .before .put-word .ensures) (same (ap (λ (i : ℕ). joined fieldText (drop (args .from) (take i (args .t4)))) e) (loop .inv .2))
+    both (c .before .before .before .before .put-word .ensures) (same (ap (λ (i : ℕ). joined fieldText (drop (args .from) (take i (args .t4)))) e)
+    (loop .inv .2))
 
 pub put-items-spec : {M : Type 1} → statement M
 put-items-spec =
-    tie.close
-    (tie.spec
-    Inv-loop
-    μ-loop
-    put-word-requires
+    tie.close (tie.spec Inv-loop μ-loop
+    (λ c κs. search needs)  -- put-word-requires
     loop-holds
-    array-read-x
-    cast-x
-    put-field-requires
-    add-i
-    loop-less
-    loop-again
-    same-length
-    returns)
+    (λ c. search needs)  -- array-read-x
+    (λ c. search needs)  -- cast-x
+    (λ c κs. search needs)  -- put-field-requires
+    (λ c. search needs)  -- add-i
+    (λ c. search needs)  -- loop-less
+    loop-again same-length returns)

@@ -20,33 +20,22 @@ Inv-loop out₀ at n plan to₀ k₀ out to k = (k ≤ n) × Puts out₀ out at 
 abbrev μ-loop : tie.MeasureT-loop
 μ-loop out₀ at n plan to₀ k₀ out to k = n - k
 
-loop-holds : tie.Need-loop-holds Inv-loop μ-loop
-loop-holds c = (omega arith, same (taken-none keyText gatheredOf (c .before .args .t3 .at)) none)
-
-mul-q : tie.Need-mul-q Inv-loop μ-loop
-mul-q c = search needs
-
-element-copy-out-q : tie.Need-element-copy-out-q Inv-loop μ-loop
-element-copy-out-q c = omega (arith, c .before .before .before .pre .0)
-
 put-key-requires : tie.Need-put-key-requires Inv-loop μ-loop
 put-key-requires c κs = c .before .before .before .before .before .pre .1 .held (c .before .before .before .loop .k) (c .before .before .loop-test .taken)
 
 add-k : tie.Need-add-k Inv-loop μ-loop
 add-k c = record { fits = omega (arith, c .before .before .before .before .before .before .before .before .pre .0) }
 
-loop-less : tie.Need-loop-less Inv-loop μ-loop
-loop-less c = omega arith
-
 loop-again : tie.Need-loop-again Inv-loop μ-loop
 loop-again c =
-    let args = c .before .before .before .before .before .before .before .before .args in
-    let pre = c .before .before .before .before .before .before .before .before .pre in
-    let loop = c .before .before .before .before .before .before .loop in
-    (omega arith, same (taken-more keyText gatheredOf (args .t3 .at) (loop .k) noGathered (omega (arith, pre .0, pre .1 .long))) (both (loop .inv .1) (c .before .before .put-key .ensures)))
-
-same-length : tie.Need-same-length Inv-loop μ-loop
-same-length c = long (c .before .loop .inv .1)
+    let entry = c .before .before .before .before .before .before .before .before in
+    let args = entry .args in
+    let pre = entry .pre in
+    let loop = c .before .before .before .before .before .before .loop in (
+      omega arith,
+      same (taken-more keyText gatheredOf (args .t3 .at) (loop .k) noGathered (omega (arith, pre .0, pre .1 .long)))
+          (both (loop .inv .1) (c .before .before .put-key .ensures)),
+    )
 
 returns : tie.Need-returns Inv-loop μ-loop
 returns c =
@@ -57,16 +46,12 @@ returns c =
 
 pub put-keys-spec : {M : Type 1} → statement M
 put-keys-spec =
-    tie.close
-    (tie.spec
-    Inv-loop
-    μ-loop
-    loop-holds
-    mul-q
-    element-copy-out-q
-    put-key-requires
-    add-k
-    loop-less
+    tie.close (tie.spec Inv-loop μ-loop
+    (λ c. (omega arith, same (taken-none keyText gatheredOf (c .before .args .t3 .at)) none))  -- loop-holds
+    (λ c. search needs)  -- mul-q
+    (λ c. omega (arith, c .before .before .before .pre .0))  -- element-copy-out-q
+    put-key-requires add-k
+    (λ c. omega arith)  -- loop-less
     loop-again
-    same-length
+    (λ c. long (c .before .loop .inv .1))  -- same-length
     returns)

@@ -11,27 +11,26 @@ use borrow.Author.Needs.{needs}
 use Rattle.plan_text.proofs.put_member.Statement.{statement}
 use Rattle.plan_text.proofs.put_member.Tie as tie
 
-single-requires : tie.Need-single-requires
-single-requires c κs = search needs
-
 returns : tie.Need-returns
 returns c =
     let args = c .before .before .before .args in
     let single = c .before .single in
-    same (sym (ap (λ (b : Bool). joined fieldText (putIf b (args .k) [])) (off-set (args .set) (args .k) (single .result) (single .ensures) (c .if1 .taken)) ∙ joined-nil fieldText)) none
-
-put-field-requires : tie.Need-put-field-requires
-put-field-requires c κs = search needs
-
-same-length : tie.Need-same-length
-same-length c = search needs
+    same (sym (ap (λ (b : Bool). joined fieldText (putIf b (args .k) []))
+    (off-set (args .set) (args .k) (single .result) (single .ensures) (c .if1 .taken)) ∙ joined-nil fieldText)) none
 
 returns-2 : tie.Need-returns-2
 returns-2 c =
     let args = c .before .before .before .before .before .before .before .args in
     let single = c .before .before .before .before .before .single in
-    same (sym (ap (λ (b : Bool). joined fieldText (putIf b (args .k) [])) (in-set (args .set) (args .k) (single .result) (single .ensures) (c .before .before .before .before .if1 .left)) ∙ joined-one fieldText (args .k))) (c .before .before .put-field .ensures)
+    same (sym (ap (λ (b : Bool). joined fieldText (putIf b (args .k) []))
+    (in-set (args .set) (args .k) (single .result) (single .ensures) (c .before .before .before .before .if1 .left))
+    ∙ joined-one fieldText (args .k))) (c .before .before .put-field .ensures)
 
 pub put-member-spec : {M : Type 1} → statement M
 put-member-spec =
-    tie.close (tie.spec single-requires returns put-field-requires same-length returns-2)
+    tie.close (tie.spec
+    (λ c κs. search needs)  -- single-requires
+    returns
+    (λ c κs. search needs)  -- put-field-requires
+    (λ c. search needs)  -- same-length
+    returns-2)

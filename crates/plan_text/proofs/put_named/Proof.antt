@@ -5,24 +5,14 @@ use borrow.Author.Needs.{needs}
 use Rattle.plan_text.proofs.put_named.Statement.{statement}
 use Rattle.plan_text.proofs.put_named.Tie as tie
 
-put-word-requires : tie.Need-put-word-requires
-put-word-requires c κs = search needs
-
-put-field-requires : tie.Need-put-field-requires
-put-field-requires c κs = search needs
-
-same-length : tie.Need-same-length
-same-length c = search needs
-
 returns : tie.Need-returns
 unfolding namedText
 returns c = both (c .before .before .before .before .before .before .put-word .ensures) (c .before .before .put-field .ensures)
 
 pub put-named-spec : {M : Type 1} → statement M
 put-named-spec =
-    tie.close
-    (tie.spec
-    put-word-requires
-    put-field-requires
-    same-length
+    tie.close (tie.spec
+    (λ c κs. search needs)  -- put-word-requires
+    (λ c κs. search needs)  -- put-field-requires
+    (λ c. search needs)  -- same-length
     returns)

@@ -13,13 +13,16 @@ use Rattle.plan_text.proofs.put_pass.Statement.{statement}
 use Rattle.plan_text.proofs.put_pass.Tie as tie
 
 abbrev Inv-loop : tie.InvT-loop
-Inv-loop out₀ at name messages to₀ j₀ j-end out to j = (j-end ≡ messages .count) × (j ≤ j-end) × Puts out₀ out at to (numbered (messageText name) 0 (map (msgAt messages) (from 0 j)))
+Inv-loop out₀ at name messages to₀ j₀ j-end out to j = (j-end ≡ messages .count) × (j ≤ j-end) × Puts out₀ out at to
+    (numbered (messageText name) 0 (map (msgAt messages) (from 0 j)))
 
 abbrev μ-loop : tie.MeasureT-loop
 μ-loop out₀ at name messages to₀ j₀ j-end out to j = j-end - j
 
 loop-holds : tie.Need-loop-holds Inv-loop μ-loop
-loop-holds c = (refl, omega arith, same (given-none (messageText (c .before .before .args .name .now)) (msgAt (c .before .before .args .messages))) none)
+loop-holds c =
+    let args = c .before .before .args in
+    (refl, omega arith, same (given-none (messageText (args .name .now)) (msgAt (args .messages))) none)
 
 put-message-requires : tie.Need-put-message-requires Inv-loop μ-loop
 put-message-requires c κs = (c .before .before .before .before .before .pre, omega (arith, c .before .loop-test .taken))
@@ -27,17 +30,15 @@ put-message-requires c κs = (c .before .before .before .before .before .pre, om
 add-j : tie.Need-add-j Inv-loop μ-loop
 add-j c = record { fits = omega (arith, c .before .before .before .before .before .before .before .before .pre .few) }
 
-loop-less : tie.Need-loop-less Inv-loop μ-loop
-loop-less c = omega arith
-
 loop-again : tie.Need-loop-again Inv-loop μ-loop
 loop-again c =
     let args = c .before .before .before .before .before .before .before .before .args in
-    let loop = c .before .before .before .before .before .loop in
-    (loop .inv .0, omega arith, same (given-more (messageText (args .name .now)) (msgAt (args .messages)) (loop .j)) (both (loop .inv .2) (c .before .before .put-message .ensures)))
-
-same-length : tie.Need-same-length Inv-loop μ-loop
-same-length c = long (c .before .loop .inv .2)
+    let loop = c .before .before .before .before .before .loop in (
+      loop .inv .0,
+      omega arith,
+      same (given-more (messageText (args .name .now)) (msgAt (args .messages)) (loop .j))
+          (both (loop .inv .2) (c .before .before .put-message .ensures)),
+    )
 
 returns : tie.Need-returns Inv-loop μ-loop
 unfolding messagesOf
@@ -49,14 +50,8 @@ returns c =
 
 pub put-pass-spec : {M : Type 1} → statement M
 put-pass-spec =
-    tie.close
-    (tie.spec
-    Inv-loop
-    μ-loop
-    loop-holds
-    put-message-requires
-    add-j
-    loop-less
+    tie.close (tie.spec Inv-loop μ-loop loop-holds put-message-requires add-j
+    (λ c. omega arith)  -- loop-less
     loop-again
-    same-length
+    (λ c. long (c .before .loop .inv .2))  -- same-length
     returns)

@@ -8,29 +8,19 @@ use borrow.Author.Needs.{needs}
 use Rattle.plan_text.proofs.put_plan.Statement.{statement}
 use Rattle.plan_text.proofs.put_plan.Tie as tie
 
-slice-aggregate-put-pass : tie.Need-slice-aggregate-put-pass
-slice-aggregate-put-pass c = search needs
-
 put-pass-requires : tie.Need-put-pass-requires
 put-pass-requires c κs =
-    let args = c .before .before .before .before .before .args in
-    let pre = c .before .before .before .before .before .pre in
+    let entry = c .before .before .before .before .before in
+    let args = entry .args in
+    let pre = entry .pre in
     ready-later (args .n) max-variables (args .plan .forward) (args .plan .forward .active) (pre .0) (pre .1 .forward)
-
-slice-aggregate-put-pass-2 : tie.Need-slice-aggregate-put-pass-2
-slice-aggregate-put-pass-2 c = search needs
 
 put-pass-requires-2 : tie.Need-put-pass-requires-2
 put-pass-requires-2 c κs =
-    let args = c .before .before .before .before .before .before .before .before .before .before .args in
-    let pre = c .before .before .before .before .before .before .before .before .before .before .pre in
+    let entry = c .before .before .before .before .before .before .before .before .before .before in
+    let args = entry .args in
+    let pre = entry .pre in
     ready-later (args .n) max-variables (args .plan .backward) (args .plan .backward .active) (pre .0) (pre .1 .backward)
-
-put-keys-requires : tie.Need-put-keys-requires
-put-keys-requires c κs = search needs
-
-same-length : tie.Need-same-length
-same-length c = search needs
 
 returns : tie.Need-returns
 unfolding planText planOf
@@ -42,12 +32,11 @@ returns c =
 
 pub put-plan-spec : {M : Type 1} → statement M
 put-plan-spec =
-    tie.close
-    (tie.spec
-    slice-aggregate-put-pass
+    tie.close (tie.spec
+    (λ c. search needs)  -- slice-aggregate-put-pass
     put-pass-requires
-    slice-aggregate-put-pass-2
+    (λ c. search needs)  -- slice-aggregate-put-pass-2
     put-pass-requires-2
-    put-keys-requires
-    same-length
+    (λ c κs. search needs)  -- put-keys-requires
+    (λ c. search needs)  -- same-length
     returns)

@@ -21,20 +21,8 @@ Inv-loop out₀ at name set to₀ k₀ out to k = (k ≤ max-variables) × Puts 
 abbrev μ-loop : tie.MeasureT-loop
 μ-loop out₀ at name set to₀ k₀ out to k = max-variables - k
 
-put-word-requires : tie.Need-put-word-requires Inv-loop μ-loop
-put-word-requires c κs = search needs
-
 loop-holds : tie.Need-loop-holds Inv-loop μ-loop
 loop-holds c = (omega arith, same (sym (joined-zero fieldText (λ i. has i (c .before .before .before .before .before .before .args .set)))) none)
-
-put-member-requires : tie.Need-put-member-requires Inv-loop μ-loop
-put-member-requires c κs = search needs
-
-add-k : tie.Need-add-k Inv-loop μ-loop
-add-k c = search needs
-
-loop-less : tie.Need-loop-less Inv-loop μ-loop
-loop-less c = search needs
 
 loop-again : tie.Need-loop-again Inv-loop μ-loop
 loop-again c =
@@ -55,15 +43,10 @@ returns c =
 
 pub put-set-spec : {M : Type 1} → statement M
 put-set-spec =
-    tie.close
-    (tie.spec
-    Inv-loop
-    μ-loop
-    put-word-requires
+    tie.close (tie.spec Inv-loop μ-loop
+    (λ c κs. search needs)  -- put-word-requires
     loop-holds
-    put-member-requires
-    add-k
-    loop-less
-    loop-again
-    same-length
-    returns)
+    (λ c κs. search needs)  -- put-member-requires
+    (λ c. search needs)  -- add-k
+    (λ c. search needs)  -- loop-less
+    loop-again same-length returns)

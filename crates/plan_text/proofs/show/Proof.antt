@@ -7,41 +7,16 @@ use borrow.Author.Needs.{needs}
 use Rattle.plan_text.proofs.show.Statement.{statement}
 use Rattle.plan_text.proofs.show.Tie as tie
 
-slice-aggregate-read : tie.Need-slice-aggregate-read
-slice-aggregate-read c = search needs
-
-read-requires : tie.Need-read-requires
-read-requires c κs = search needs
-
-enum-told : tie.Need-enum-told
-enum-told c = search needs
-
-arrange-requires : tie.Need-arrange-requires
-arrange-requires c κs = search needs
-
-lay-arrays-requires : tie.Need-lay-arrays-requires
-lay-arrays-requires c κs = search needs
-
-enum-known-ended : tie.Need-enum-known-ended
-enum-known-ended c = search needs
-
-lay-refusal-requires : tie.Need-lay-refusal-requires
-lay-refusal-requires c κs = search needs
-
-same-length : tie.Need-same-length
-same-length c = search needs
-
 returns : tie.Need-returns
 unfolding ofBits
 returns c =
     let args = c .before .before .before .before .before .before .before .before .before .before .before .before .before .before .args in
     let read = c .before .before .before .before .before .before .before .before .before .before .read in
     let arrange = c .before .before .before .before .before .arrange in
-    let text = whole (args .bytes .now) (read .result) (read .ensures .0 .0) (arrange .result) (arrange .ensures .0) (read .ensures .0 .1) (c .before .before .before .before .before .before .enum-told .given .1) in
-    all-same (args .out .now) _ _ _ _ text (c .before .before .lay-arrays .ensures) (arranged-most (read .result .graph) (arrange .result) (arrange .ensures .0) (read .ensures .0 .1) (arrange .ensures .1 .1))
-
-same-length-2 : tie.Need-same-length-2
-same-length-2 c = search needs
+    let text = whole (args .bytes .now) (read .result) (read .ensures .0 .0) (arrange .result) (arrange .ensures .0) (read .ensures .0 .1)
+    (c .before .before .before .before .before .before .enum-told .given .1) in
+    all-same (args .out .now) _ _ _ _ text (c .before .before .lay-arrays .ensures)
+    (arranged-most (read .result .graph) (arrange .result) (arrange .ensures .0) (read .ensures .0 .1) (arrange .ensures .1 .1))
 
 returns-2 : tie.Need-returns-2
 unfolding ofBits
@@ -49,20 +24,20 @@ returns-2 c =
     let args = c .before .before .before .before .before .before .before .before .before .before .before .before .before .args in
     let read = c .before .before .before .before .before .before .before .before .before .read in
     let ended = c .before .before .before .before .before .ended .given in
-    all-same (args .out .now) _ _ _ _ (refused (args .bytes .now) (read .result) (read .ensures .0 .0) _ _ (ended .1)) (c .before .before .lay-refusal .ensures) (refusal-within (ended .0 .0) (ended .0 .1 .0) (omega arith))
+    all-same (args .out .now) _ _ _ _ (refused (args .bytes .now) (read .result) (read .ensures .0 .0) _ _ (ended .1))
+    (c .before .before .lay-refusal .ensures) (refusal-within (ended .0 .0) (ended .0 .1 .0) (omega arith))
 
 pub show-spec : {M : Type 1} → statement M
 show-spec =
-    tie.close
-    (tie.spec
-    slice-aggregate-read
-    read-requires
-    enum-told
-    arrange-requires
-    lay-arrays-requires
-    enum-known-ended
-    lay-refusal-requires
-    same-length
+    tie.close (tie.spec
+    (λ c. search needs)  -- slice-aggregate-read
+    (λ c κs. search needs)  -- read-requires
+    (λ c. search needs)  -- enum-told
+    (λ c κs. search needs)  -- arrange-requires
+    (λ c κs. search needs)  -- lay-arrays-requires
+    (λ c. search needs)  -- enum-known-ended
+    (λ c κs. search needs)  -- lay-refusal-requires
+    (λ c. search needs)  -- same-length
     returns
-    same-length-2
+    (λ c. search needs)  -- same-length-2
     returns-2)

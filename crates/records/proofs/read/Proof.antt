@@ -1,4 +1,5 @@
--- `records::read` meets its contract. The loop's invariant: reading on from here comes to the whole; as many records were taken as were counted, and each took a byte or more. Assumes nothing.
+-- `records::read` meets its contract. The loop's invariant: reading on from here comes to the whole; as many records were taken as were counted, and
+-- each took a byte or more. Assumes nothing.
 use Prim.Native.Nat.{ℕ, _-_, _≤_, _<_}
 use mathlib.Core.Path.{_≡_, refl}
 use mathlib.Core.Bool.{true}
@@ -23,7 +24,8 @@ use Rattle.records.proofs.read.Statement.{statement}
 use Rattle.records.proofs.read.Tie as tie
 
 abbrev Inv-loop : tie.InvT-loop
-Inv-loop bytes store₀ g₀ at₀ place₀ store g at place = (place ≤ at) × (at ≤ length bytes) × (length store ≡ length store₀) × Reached g × (readAll bytes store₀ ≡ readFrom (length bytes - place) bytes at place g store)
+Inv-loop bytes store₀ g₀ at₀ place₀ store g at place = (place ≤ at) × (at ≤ length bytes) × (length store ≡ length store₀) × Reached g ×
+    (readAll bytes store₀ ≡ readFrom (length bytes - place) bytes at place g store)
 
 abbrev μ-loop : tie.MeasureT-loop
 μ-loop bytes store₀ g₀ at₀ place₀ store g at place = length bytes - at
@@ -44,92 +46,98 @@ valid-step : (g : Graph) (q : Request) (step : Step) → step ≡ stepOf g q →
 valid-step g q step e r = good-of (step .graph) (reached-step g q step e r) .1
 
 -- the two ways out
-turned-back : (all : Reading) (g : Graph) (ended : Ended) (s : List Float) → all ≡ reading g ended s → valid g ≡ true → (_≡_ {A = Read} (record { graph = g; ended = ended }) (all .answer) × (valid g ≡ true)) × ((s ≡ all .store) × (endedTold ended ≡ endedTold (all .answer .ended)))
+turned-back : (all : Reading) (g : Graph) (ended : Ended) (s : List Float) → all ≡ reading g ended s → valid g ≡ true
+    → (_≡_ {A = Read} (record { graph = g; ended = ended }) (all .answer) × (valid g ≡ true)) ×
+    ((s ≡ all .store) × (endedTold ended ≡ endedTold (all .answer .ended)))
 turned-back all g ended s e v = rw e ((refl, v), (refl, refl))
 
-taken-whole : (all : Reading) (g : Graph) (s : List Float) → all ≡ reading g Whole s → valid g ≡ true → (_≡_ {A = Read} (record { graph = g; ended = Whole }) (all .answer) × (valid g ≡ true)) × ((s ≡ all .store) × (endedTold Whole ≡ endedTold (all .answer .ended)))
+taken-whole : (all : Reading) (g : Graph) (s : List Float) → all ≡ reading g Whole s → valid g ≡ true
+    → (_≡_ {A = Read} (record { graph = g; ended = Whole }) (all .answer) × (valid g ≡ true)) ×
+    ((s ≡ all .store) × (endedTold Whole ≡ endedTold (all .answer .ended)))
 taken-whole all g s e v = turned-back all g Whole s e v
 
-new-requires : tie.Need-new-requires Inv-loop μ-loop
-new-requires c κs = search needs
-
 loop-holds : tie.Need-loop-holds Inv-loop μ-loop
-loop-holds c = (
-  omega arith,
-  omega arith,
-  refl,
-  begun-reached (c .new .result) (c .new .ensures),
-  begun (c .before .before .before .args .bytes .now) (c .before .before .before .args .store .now) (c .new .result) (c .new .ensures),
-)
+loop-holds c =
+    let args = c .before .before .before .args in (
+      omega arith,
+      omega arith,
+      refl,
+      begun-reached (c .new .result) (c .new .ensures),
+      begun (args .bytes .now) (args .store .now) (c .new .result) (c .new .ensures),
+    )
 
 read-record-requires : tie.Need-read-record-requires Inv-loop μ-loop
-read-record-requires c κs = (good-of (c .before .before .loop .g) (c .before .before .loop .inv .3) .1, omega arith)
-
-enum-known-next : tie.Need-enum-known-next Inv-loop μ-loop
-enum-known-next c = search needs
-
-enum-known-next-2 : tie.Need-enum-known-next-2 Inv-loop μ-loop
-enum-known-next-2 c = search needs
-
-same-length : tie.Need-same-length Inv-loop μ-loop
-same-length c = omega arith
+read-record-requires c κs =
+    let loop = c .before .before .loop in
+    (good-of (loop .g) (loop .inv .3) .1, omega arith)
 
 returns : tie.Need-returns Inv-loop μ-loop
 returns c =
     let args = c .before .before .before .before .before .before .before .before .before .before .before .before .before .args in
     let loop = c .before .before .before .before .before .before .before .before .before .loop in
     let read-record = c .before .before .before .before .before .before .read-record in
-    turned-back (readAll (args .bytes .now) (args .store .now)) _ _ _ (off (args .bytes .now) (loop .at) (loop .place) (loop .g) (loop .store) (readAll (args .bytes .now) (args .store .now)) (loop .inv .4) (c .before .before .before .before .before .before .before .before .loop-test .taken) (loop .inv .0) (read-record .result) _ (read-record .ensures .0) (read-record .ensures .1) _ (c .before .next2 .given .1)) (valid-step (loop .g) (recordAt (loop .g) (loop .store) (args .bytes .now) (loop .at)) (read-record .result) (read-record .ensures .0) (loop .inv .3))
-
-add-place : tie.Need-add-place Inv-loop μ-loop
-add-place c = omega arith
+    turned-back (readAll (args .bytes .now) (args .store .now)) _ _ _
+    (off (args .bytes .now) (loop .at) (loop .place) (loop .g) (loop .store) (readAll (args .bytes .now) (args .store .now)) (loop .inv .4)
+    (c .before .before .before .before .before .before .before .before .loop-test .taken) (loop .inv .0) (read-record .result) _
+    (read-record .ensures .0) (read-record .ensures .1) _ (c .before .next2 .given .1))
+    (valid-step (loop .g) (recordAt (loop .g) (loop .store) (args .bytes .now) (loop .at)) (read-record .result) (read-record .ensures .0) (loop .inv .3))
 
 loop-less : tie.Need-loop-less Inv-loop μ-loop
 loop-less c =
+    let next = c .before .next in
     let args = c .before .before .before .before .before .before .before .before .before .before .before .before .before .args in
     let loop = c .before .before .before .before .before .before .before .before .before .loop in
     let loop-test = c .before .before .before .before .before .before .before .before .loop-test in
     let read-record = c .before .before .before .before .before .before .read-record in
-    let w : (loop .at < c .before .next .given .0 .0) × (c .before .next .given .0 .0 ≤ length (args .bytes .now)) = (on (args .bytes .now) (loop .at) (loop .place) (loop .g) (loop .store) (readAll (args .bytes .now) (args .store .now)) (loop .inv .4) (loop-test .taken) (loop .inv .0) (read-record .result) _ (read-record .ensures .0) (read-record .ensures .1) _ (c .before .next .given .1) .1, on (args .bytes .now) (loop .at) (loop .place) (loop .g) (loop .store) (readAll (args .bytes .now) (args .store .now)) (loop .inv .4) (loop-test .taken) (loop .inv .0) (read-record .result) _ (read-record .ensures .0) (read-record .ensures .1) _ (c .before .next .given .1) .2) in
+    let w : (loop .at < next .given .0 .0) × (next .given .0 .0 ≤ length (args .bytes .now)) = (
+      on (args .bytes .now) (loop .at) (loop .place) (loop .g) (loop .store) (readAll (args .bytes .now) (args .store .now)) (loop .inv .4)
+          (loop-test .taken) (loop .inv .0) (read-record .result) _ (read-record .ensures .0) (read-record .ensures .1) _ (next .given .1) .1,
+      on
+          (args .bytes .now) (loop .at) (loop .place) (loop .g) (loop .store) (readAll (args .bytes .now) (args .store .now)) (loop .inv .4)
+          (loop-test .taken) (loop .inv .0) (read-record .result) _ (read-record .ensures .0) (read-record .ensures .1) _ (next .given .1) .2,
+    ) in
     omega arith
 
 loop-again : tie.Need-loop-again Inv-loop μ-loop
 loop-again c =
+    let next = c .before .next in
     let args = c .before .before .before .before .before .before .before .before .before .before .before .before .before .args in
     let loop = c .before .before .before .before .before .before .before .before .before .loop in
     let loop-test = c .before .before .before .before .before .before .before .before .loop-test in
     let read-record = c .before .before .before .before .before .before .read-record in
-    let w : (loop .at < c .before .next .given .0 .0) × (c .before .next .given .0 .0 ≤ length (args .bytes .now)) = (on (args .bytes .now) (loop .at) (loop .place) (loop .g) (loop .store) (readAll (args .bytes .now) (args .store .now)) (loop .inv .4) (loop-test .taken) (loop .inv .0) (read-record .result) _ (read-record .ensures .0) (read-record .ensures .1) _ (c .before .next .given .1) .1, on (args .bytes .now) (loop .at) (loop .place) (loop .g) (loop .store) (readAll (args .bytes .now) (args .store .now)) (loop .inv .4) (loop-test .taken) (loop .inv .0) (read-record .result) _ (read-record .ensures .0) (read-record .ensures .1) _ (c .before .next .given .1) .2) in (
+    let w : (loop .at < next .given .0 .0) × (next .given .0 .0 ≤ length (args .bytes .now)) = (
+      on (args .bytes .now) (loop .at) (loop .place) (loop .g) (loop .store) (readAll (args .bytes .now) (args .store .now)) (loop .inv .4)
+          (loop-test .taken) (loop .inv .0) (read-record .result) _ (read-record .ensures .0) (read-record .ensures .1) _ (next .given .1) .1,
+      on
+          (args .bytes .now) (loop .at) (loop .place) (loop .g) (loop .store) (readAll (args .bytes .now) (args .store .now)) (loop .inv .4)
+          (loop-test .taken) (loop .inv .0) (read-record .result) _ (read-record .ensures .0) (read-record .ensures .1) _ (next .given .1) .2,
+    ) in (
       omega arith,
       omega arith,
       omega arith,
       reached-step (loop .g) (recordAt (loop .g) (loop .store) (args .bytes .now) (loop .at)) (read-record .result) (read-record .ensures .0) (loop .inv .3),
-      on (args .bytes .now) (loop .at) (loop .place) (loop .g) (loop .store) (readAll (args .bytes .now) (args .store .now)) (loop .inv .4) (loop-test .taken) (loop .inv .0) (read-record .result) _ (read-record .ensures .0) (read-record .ensures .1) _ (c .before .next .given .1) .0,
+      on (args .bytes .now) (loop .at) (loop .place) (loop .g) (loop .store) (readAll (args .bytes .now) (args .store .now)) (loop .inv .4)
+          (loop-test .taken) (loop .inv .0) (read-record .result) _ (read-record .ensures .0) (read-record .ensures .1) _ (next .given .1) .0,
     )
-
-same-length-2 : tie.Need-same-length-2 Inv-loop μ-loop
-same-length-2 c = c .before .loop .inv .2
 
 returns-2 : tie.Need-returns-2 Inv-loop μ-loop
 returns-2 c =
+    let loop = c .before .loop in
     let args = c .before .before .before .before .before .args in
-    taken-whole (readAll (args .bytes .now) (args .store .now)) _ _ (all-read (args .bytes .now) (c .before .loop .at) (c .before .loop .place) (c .before .loop .g) (c .before .loop .store) (readAll (args .bytes .now) (args .store .now)) (c .before .loop .inv .4) (omega arith)) (good-of (c .before .loop .g) (c .before .loop .inv .3) .1)
+    taken-whole (readAll (args .bytes .now) (args .store .now)) _ _
+    (all-read (args .bytes .now) (loop .at) (loop .place) (loop .g) (loop .store) (readAll (args .bytes .now) (args .store .now)) (loop .inv .4)
+    (omega arith)) (good-of (loop .g) (loop .inv .3) .1)
 
 pub read-spec : {M : Type 1} → statement M
 read-spec =
-    tie.close
-    (tie.spec
-    Inv-loop
-    μ-loop
-    new-requires
-    loop-holds
-    read-record-requires
-    enum-known-next
-    enum-known-next-2
-    same-length
+    tie.close (tie.spec Inv-loop μ-loop
+    (λ c κs. search needs)  -- new-requires
+    loop-holds read-record-requires
+    (λ c. search needs)  -- enum-known-next
+    (λ c. search needs)  -- enum-known-next-2
+    (λ c. omega arith)  -- same-length
     returns
-    add-place
-    loop-less
-    loop-again
-    same-length-2
+    (λ c. omega arith)  -- add-place
+    loop-less loop-again
+    (λ c. c .before .loop .inv .2)  -- same-length-2
     returns-2)

@@ -28,7 +28,8 @@ few-touched : (keys : List ℕ) (rows : ℕ) (f : Factor) → f ≡ observationO
 few-touched keys rows f e l = rw e l
 
 known-more : (n : ℕ) (keys : List ℕ) → n ≤ max-variables → known n keys ≡ true → known max-variables keys ≡ true
-known-more n keys l h = all-of (λ j. ltb (getD keys j 0) max-variables) (length keys) (λ j m. lt-ltb (getD keys j 0) max-variables (omega (arith, ltb-true (getD keys j 0) n (all-at (λ i. ltb (getD keys i 0) n) (length keys) j h m))))
+known-more n keys l h = all-of (λ j. ltb (getD keys j 0) max-variables) (length keys)
+    (λ j m. lt-ltb (getD keys j 0) max-variables (omega (arith, ltb-true (getD keys j 0) n (all-at (λ i. ltb (getD keys i 0) n) (length keys) j h m))))
 
 module _ (g : Graph) (store : List Float) (bytes keys : List ℕ) (rows : ℕ) (flag : Flag) (at : ℕ) where
   not-rising : rising keys ≡ false → observed g store bytes keys rows flag at ≡ refuse KeysNotRising
@@ -40,74 +41,78 @@ module _ (g : Graph) (store : List Float) (bytes keys : List ℕ) (rows : ℕ) (
     unfolding observed
     no-key h = rw (h3, h)
 
-    from-numbers : known (g .variables) keys ≡ true → (f : Factor) (n : ℕ) → f ≡ observationOf keys rows → n ≡ aNumbers (g .sizes) f → observed g store bytes keys rows flag at ≡ observedNumbers store bytes keys rows flag n at
+    from-numbers : known (g .variables) keys ≡ true → (f : Factor) (n : ℕ) → f ≡ observationOf keys rows → n ≡ aNumbers (g .sizes) f
+        → observed g store bytes keys rows flag at ≡ observedNumbers store bytes keys rows flag n at
     unfolding observed
     from-numbers h f n ef en = rw (h3, h, ← ef, ← en)
-
-rising-requires : tie.Need-rising-requires
-rising-requires c κs = search needs
-
-stop-requires : tie.Need-stop-requires
-stop-requires c κs = search needs
 
 returns : tie.Need-returns
 returns c =
     let args = c .before .before .before .before .before .before .args in
-    turned (args .g) (args .store .now) _ _ KeysNotRising _ (not-rising (args .g) (args .store .now) (args .bytes .now) (args .keys .now) (args .rows) (args .flag) (args .at) (tells (c .before .before .rising .ensures) (not-true _ (c .before .if1 .taken)))) (c .stop .ensures) refl
-
-known-requires : tie.Need-known-requires
-known-requires c κs = search needs
-
-stop-requires-2 : tie.Need-stop-requires-2
-stop-requires-2 c κs = search needs
+    turned (args .g) (args .store .now) _ _ KeysNotRising _ (not-rising (args .g) (args .store .now) (args .bytes .now) (args .keys .now) (args .rows)
+    (args .flag) (args .at) (tells (c .before .before .rising .ensures) (not-true _ (c .before .if1 .taken)))) (c .stop .ensures) refl
 
 returns-2 : tie.Need-returns-2
 returns-2 c =
     let args = c .before .before .before .before .before .before .before .before .args in
-    turned (args .g) (args .store .now) _ _ NoSuchKey _ (no-key (args .g) (args .store .now) (args .bytes .now) (args .keys .now) (args .rows) (args .flag) (args .at) (tells (c .before .before .before .before .rising .ensures) (not-false _ (c .before .before .before .if1 .left))) (tells (c .before .before .known .ensures) (not-true _ (c .before .if2 .taken)))) (c .stop2 .ensures) refl
+    turned (args .g) (args .store .now) _ _ NoSuchKey _ (no-key (args .g) (args .store .now) (args .bytes .now) (args .keys .now) (args .rows)
+    (args .flag) (args .at) (tells (c .before .before .before .before .rising .ensures) (not-false _ (c .before .before .before .if1 .left)))
+    (tells (c .before .before .known .ensures) (not-true _ (c .before .if2 .taken)))) (c .stop2 .ensures) refl
 
 observation-of-requires : tie.Need-observation-of-requires
 observation-of-requires c κs =
-    let args = c .before .before .before .before .before .before .before .before .args in
-    let pre = c .before .before .before .before .before .before .before .before .pre in (
+    let entry = c .before .before .before .before .before .before .before .before in
+    let args = entry .args in
+    let pre = entry .pre in (
       few-keys _ _ (pre .1 .0),
       omega (arith, most-rows _ _ (pre .1 .0)),
-      known-more (args .g .variables) (args .keys .now) (valid-variables (args .g) (pre .0 .0)) (tells (c .before .before .known .ensures) (not-false _ (c .before .if2 .left))),
+      known-more (args .g .variables) (args .keys .now) (valid-variables (args .g) (pre .0 .0))
+          (tells (c .before .before .known .ensures) (not-false _ (c .before .if2 .left))),
     )
 
 a-numbers-requires : tie.Need-a-numbers-requires
 a-numbers-requires c κs =
-    let args = c .before .before .before .before .before .before .before .before .before .args in
-    few-touched (args .keys .now) (args .rows) (c .observation-of .result) (c .observation-of .ensures) (few-keys _ _ (c .before .before .before .before .before .before .before .before .before .pre .1 .0))
+    let entry = c .before .before .before .before .before .before .before .before .before in
+    let args = entry .args in
+    few-touched (args .keys .now) (args .rows) (c .observation-of .result) (c .observation-of .ensures) (few-keys _ _ (entry .pre .1 .0))
 
 read-observed-numbers-requires : tie.Need-read-observed-numbers-requires
 read-observed-numbers-requires c κs =
-    let args = c .before .before .before .before .before .before .before .before .before .before .before .args in
-    let pre = c .before .before .before .before .before .before .before .before .before .before .before .pre in (
+    let entry = c .before .before .before .before .before .before .before .before .before .before .before in
+    let observation-of = c .before .before .observation-of in
+    let args = entry .args in
+    let pre = entry .pre in (
       (pre .0 .1, pre .1 .1, pre .0 .0),
-      (some-rows _ _ (pre .1 .0), most-rows _ _ (pre .1 .0), numbers-most (args .g) (args .keys .now) (args .rows) (c .before .before .observation-of .result) _ (pre .0 .0) (pre .1 .0) (tells (c .before .before .before .before .before .before .before .rising .ensures) (not-false _ (c .before .before .before .before .before .before .if1 .left))) (tells (c .before .before .before .before .before .known .ensures) (not-false _ (c .before .before .before .before .if2 .left))) (c .before .before .observation-of .ensures) (c .before .a-numbers .ensures .0)),
+      (
+        some-rows _ _ (pre .1 .0),
+        most-rows _ _ (pre .1 .0),
+        numbers-most (args .g) (args .keys .now) (args .rows) (observation-of .result) _
+            (pre .0 .0) (pre .1 .0) (tells (c .before .before .before .before .before .before .before .rising .ensures)
+            (not-false _ (c .before .before .before .before .before .before .if1 .left)))
+            (tells (c .before .before .before .before .before .known .ensures) (not-false _ (c .before .before .before .before .if2 .left)))
+            (observation-of .ensures) (c .before .a-numbers .ensures .0),
+      ),
     )
-
-same-length : tie.Need-same-length
-same-length c = search needs
 
 returns-3 : tie.Need-returns-3
 returns-3 c =
+    let observation-of = c .before .before .before .before .before .observation-of in
     let args = c .before .before .before .before .before .before .before .before .before .before .before .before .before .before .args in
-    met (args .g) (args .store .now) _ _ _ _ (from-numbers (args .g) (args .store .now) (args .bytes .now) (args .keys .now) (args .rows) (args .flag) (args .at) (tells (c .before .before .before .before .before .before .before .before .before .before .rising .ensures) (not-false _ (c .before .before .before .before .before .before .before .before .before .if1 .left))) (tells (c .before .before .before .before .before .before .before .before .known .ensures) (not-false _ (c .before .before .before .before .before .before .before .if2 .left))) (c .before .before .before .before .before .observation-of .result) _ (c .before .before .before .before .before .observation-of .ensures) (c .before .before .before .before .a-numbers .ensures .0)) (c .before .before .read-observed-numbers .ensures)
+    met (args .g) (args .store .now) _ _ _ _ (from-numbers (args .g) (args .store .now) (args .bytes .now) (args .keys .now) (args .rows) (args .flag)
+    (args .at) (tells (c .before .before .before .before .before .before .before .before .before .before .rising .ensures)
+    (not-false _ (c .before .before .before .before .before .before .before .before .before .if1 .left)))
+    (tells (c .before .before .before .before .before .before .before .before .known .ensures)
+    (not-false _ (c .before .before .before .before .before .before .before .if2 .left))) (observation-of .result) _ (observation-of .ensures)
+    (c .before .before .before .before .a-numbers .ensures .0)) (c .before .before .read-observed-numbers .ensures)
 
 pub read-observed-spec : {M : Type 1} → statement M
 read-observed-spec =
-    tie.close
-    (tie.spec
-    rising-requires
-    stop-requires
+    tie.close (tie.spec
+    (λ c κs. search needs)  -- rising-requires
+    (λ c κs. search needs)  -- stop-requires
     returns
-    known-requires
-    stop-requires-2
-    returns-2
-    observation-of-requires
-    a-numbers-requires
-    read-observed-numbers-requires
-    same-length
+    (λ c κs. search needs)  -- known-requires
+    (λ c κs. search needs)  -- stop-requires-2
+    returns-2 observation-of-requires a-numbers-requires read-observed-numbers-requires
+    (λ c. search needs)  -- same-length
     returns-3)

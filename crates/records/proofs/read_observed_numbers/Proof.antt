@@ -31,7 +31,8 @@ variance-long Identity bytes at rows h = identity-length rows
 variance-long Given bytes at rows h = listed-length (λ i. numberAt bytes (at + 8 * i)) (rows * rows)
 variance-long Unknown bytes at rows h = cc
 
-variance-front : (flag : Flag) (bytes : List ℕ) (at rows : ℕ) (out rest : List Float) → flagKnown flag ≡ true → out ≡ varianceAt flag bytes at rows ++ rest → take (rows * rows - 0) (drop 0 out) ≡ varianceAt flag bytes at rows
+variance-front : (flag : Flag) (bytes : List ℕ) (at rows : ℕ) (out rest : List Float) → flagKnown flag ≡ true → out
+    ≡ varianceAt flag bytes at rows ++ rest → take (rows * rows - 0) (drop 0 out) ≡ varianceAt flag bytes at rows
 variance-front flag bytes at rows out rest h e =
     let z : rows * rows - 0 ≡ rows * rows = omega arith in
     rw (z, e) (take-at (varianceAt flag bytes at rows) rest (rows * rows) (variance-long flag bytes at rows h))
@@ -45,192 +46,231 @@ module _ (g : Graph) (store : List Float) (bytes keys : List ℕ) (rows : ℕ) (
   unfolding observedNumbers
   cut-short h = rw (← ev, h)
 
-  taken : cut bytes at (8 * (n + rows + v)) ≡ false → (a mean variance : List Float) (added : Added) (r : Step) (t : List Float) → a ≡ numbersAt bytes at n → mean ≡ numbersAt bytes (at + 8 * n) rows → variance ≡ varianceAt flag bytes (at + 8 * (n + rows)) rows
-      → added ≡ addObservation g keys rows a mean variance store → r ≡ wentTo added (at + 8 * (n + rows + v)) → t ≡ observationStore g keys rows a mean variance store → Meets g store (observedNumbers store bytes keys rows flag n at) r t
+  taken : cut bytes at (8 * (n + rows + v)) ≡ false → (a mean variance : List Float) (added : Added) (r : Step) (t : List Float) → a
+      ≡ numbersAt bytes at n → mean ≡ numbersAt bytes (at + 8 * n) rows → variance ≡ varianceAt flag bytes (at + 8 * (n + rows)) rows
+      → added ≡ addObservation g keys rows a mean variance store → r ≡ wentTo added (at + 8 * (n + rows + v)) → t
+      ≡ observationStore g keys rows a mean variance store → Meets g store (observedNumbers store bytes keys rows flag n at) r t
   unfolding observedNumbers
   taken h a mean variance added r t ex em ew ea er et = rw (← ev, h, ← ex, ← em, ← ew, ← ea) (er, et)
 
 mul-square : tie.Need-mul-square
-mul-square c = omega (arith, mul-le-mul (c .before .before .before .pre .1 .1) (c .before .before .before .pre .1 .1))
-
-add-all : tie.Need-add-all
-add-all c = search needs
-
-given-requires : tie.Need-given-requires
-given-requires c κs = search needs
+mul-square c =
+    let pre = c .before .before .before .pre in
+    omega (arith, mul-le-mul (pre .1 .1) (pre .1 .1))
 
 add-all-2 : tie.Need-add-all-2
-add-all-2 c = omega (arith, mul-le-mul (c .before .before .before .before .pre .1 .1) (c .before .before .before .before .pre .1 .1), c .given .ensures .1)
+add-all-2 c =
+    let pre = c .before .before .before .before .pre in
+    omega (arith, mul-le-mul (pre .1 .1) (pre .1 .1), c .given .ensures .1)
 
 mul-all : tie.Need-mul-all
-mul-all c = omega (arith, mul-le-mul (c .before .before .before .before .pre .1 .1) (c .before .before .before .before .pre .1 .1), c .given .ensures .1)
-
-cut-requires : tie.Need-cut-requires
-cut-requires c κs = search needs
-
-stop-requires : tie.Need-stop-requires
-stop-requires c κs = search needs
+mul-all c =
+    let pre = c .before .before .before .before .pre in
+    omega (arith, mul-le-mul (pre .1 .1) (pre .1 .1), c .given .ensures .1)
 
 returns : tie.Need-returns
 returns c =
     let args = c .before .before .before .before .before .before .before .args in
-    turned (args .g) (args .store .now) _ _ BadRecord _ (cut-short (args .g) (args .store .now) (args .bytes .now) (args .keys .now) (args .rows) (args .flag) (args .n) (args .at) _ (c .before .before .before .given .ensures .0) (tells (c .before .before .cut .ensures) (c .before .if1 .taken))) (c .stop .ensures) refl
+    turned (args .g) (args .store .now) _ _ BadRecord _ (cut-short (args .g) (args .store .now) (args .bytes .now) (args .keys .now) (args .rows)
+    (args .flag) (args .n) (args .at) _ (c .before .before .before .given .ensures .0)
+    (tells (c .before .before .cut .ensures) (c .before .if1 .taken))) (c .stop .ensures) refl
 
 add-end : tie.Need-add-end
 add-end c =
-    let args = c .before .before .before .before .before .before .args in
+    let entry = c .before .before .before .before .before .before in
+    let pre = entry .pre in
+    let args = entry .args in
     let the-given = c .before .before .given in
-    omega (arith, mul-le-mul (c .before .before .before .before .before .before .pre .1 .1) (c .before .before .before .before .before .before .pre .1 .1), the-given .ensures .0, the-given .ensures .1, of-all (args .bytes .now) (args .at) (args .n + args .rows) (the-given .result) (given (args .flag) (args .rows)) (c .before .cut .result) (the-given .ensures .0) (c .before .cut .ensures) (c .if1 .left))
-
-slice-aggregate-numbers : tie.Need-slice-aggregate-numbers
-slice-aggregate-numbers c = search needs
+    omega (
+      arith,
+      mul-le-mul (pre .1 .1) (pre .1 .1),
+      the-given .ensures .0,
+      the-given .ensures .1,
+      of-all (args .bytes .now) (args .at) (args .n + args .rows) (the-given .result) (given (args .flag) (args .rows)) (c .before .cut .result)
+          (the-given .ensures .0) (c .before .cut .ensures) (c .if1 .left),
+    )
 
 numbers-requires : tie.Need-numbers-requires
 numbers-requires c κs =
-    let args = c .before .before .before .before .before .before .before .args in
-    let pre = c .before .before .before .before .before .before .before .pre in
+    let entry = c .before .before .before .before .before .before .before in
+    let the-cut = c .before .before .cut in
+    let args = entry .args in
+    let pre = entry .pre in
     let the-given = c .before .before .before .given in
-    omega (arith, mul-le-mul (pre .1 .1) (pre .1 .1), the-given .ensures .0, the-given .ensures .1, of-all (args .bytes .now) (args .at) (args .n + args .rows) (the-given .result) (given (args .flag) (args .rows)) (c .before .before .cut .result) (the-given .ensures .0) (c .before .before .cut .ensures) (c .before .if1 .left))
+    omega (
+      arith,
+      mul-le-mul (pre .1 .1) (pre .1 .1),
+      the-given .ensures .0,
+      the-given .ensures .1,
+      of-all (args .bytes .now) (args .at) (args .n + args .rows) (the-given .result) (given (args .flag) (args .rows)) (the-cut .result)
+          (the-given .ensures .0) (the-cut .ensures) (c .before .if1 .left),
+    )
 
 mul-numbers : tie.Need-mul-numbers
 mul-numbers c =
-    let args = c .before .before .before .before .before .before .before .before .before .args in
-    let pre = c .before .before .before .before .before .before .before .before .before .pre in
+    let entry = c .before .before .before .before .before .before .before .before .before in
+    let the-cut = c .before .before .before .before .cut in
+    let args = entry .args in
+    let pre = entry .pre in
     let the-given = c .before .before .before .before .before .given in
-    omega (arith, mul-le-mul (pre .1 .1) (pre .1 .1), the-given .ensures .0, the-given .ensures .1, of-all (args .bytes .now) (args .at) (args .n + args .rows) (the-given .result) (given (args .flag) (args .rows)) (c .before .before .before .before .cut .result) (the-given .ensures .0) (c .before .before .before .before .cut .ensures) (c .before .before .before .if1 .left))
+    omega (
+      arith,
+      mul-le-mul (pre .1 .1) (pre .1 .1),
+      the-given .ensures .0,
+      the-given .ensures .1,
+      of-all (args .bytes .now) (args .at) (args .n + args .rows) (the-given .result) (given (args .flag) (args .rows)) (the-cut .result)
+          (the-given .ensures .0) (the-cut .ensures) (c .before .before .before .if1 .left),
+    )
 
 add-numbers : tie.Need-add-numbers
 add-numbers c =
-    let args = c .before .before .before .before .before .before .before .before .before .args in
-    let pre = c .before .before .before .before .before .before .before .before .before .pre in
+    let entry = c .before .before .before .before .before .before .before .before .before in
+    let the-cut = c .before .before .before .before .cut in
+    let args = entry .args in
+    let pre = entry .pre in
     let the-given = c .before .before .before .before .before .given in
-    omega (arith, mul-le-mul (pre .1 .1) (pre .1 .1), the-given .ensures .0, the-given .ensures .1, of-all (args .bytes .now) (args .at) (args .n + args .rows) (the-given .result) (given (args .flag) (args .rows)) (c .before .before .before .before .cut .result) (the-given .ensures .0) (c .before .before .before .before .cut .ensures) (c .before .before .before .if1 .left))
-
-slice-aggregate-numbers-2 : tie.Need-slice-aggregate-numbers-2
-slice-aggregate-numbers-2 c = search needs
+    omega (
+      arith,
+      mul-le-mul (pre .1 .1) (pre .1 .1),
+      the-given .ensures .0,
+      the-given .ensures .1,
+      of-all (args .bytes .now) (args .at) (args .n + args .rows) (the-given .result) (given (args .flag) (args .rows)) (the-cut .result)
+          (the-given .ensures .0) (the-cut .ensures) (c .before .before .before .if1 .left),
+    )
 
 numbers-requires-2 : tie.Need-numbers-requires-2
 numbers-requires-2 c κs =
-    let args = c .before .before .before .before .before .before .before .before .before .before .args in
-    let pre = c .before .before .before .before .before .before .before .before .before .before .pre in
+    let entry = c .before .before .before .before .before .before .before .before .before .before in
+    let the-cut = c .before .before .before .before .before .cut in
+    let args = entry .args in
+    let pre = entry .pre in
     let the-given = c .before .before .before .before .before .before .given in
-    omega (arith, mul-le-mul (pre .1 .1) (pre .1 .1), the-given .ensures .0, the-given .ensures .1, of-all (args .bytes .now) (args .at) (args .n + args .rows) (the-given .result) (given (args .flag) (args .rows)) (c .before .before .before .before .before .cut .result) (the-given .ensures .0) (c .before .before .before .before .before .cut .ensures) (c .before .before .before .before .if1 .left))
+    omega (
+      arith,
+      mul-le-mul (pre .1 .1) (pre .1 .1),
+      the-given .ensures .0,
+      the-given .ensures .1,
+      of-all (args .bytes .now) (args .at) (args .n + args .rows) (the-given .result) (given (args .flag) (args .rows)) (the-cut .result)
+          (the-given .ensures .0) (the-cut .ensures) (c .before .before .before .before .if1 .left),
+    )
 
 add-read-variance : tie.Need-add-read-variance
 add-read-variance c =
-    let args = c .before .before .before .before .before .before .before .before .before .before .before .before .args in
-    let pre = c .before .before .before .before .before .before .before .before .before .before .before .before .pre in
+    let entry = c .before .before .before .before .before .before .before .before .before .before .before .before in
+    let args = entry .args in
+    let pre = entry .pre in
     let the-given = c .before .before .before .before .before .before .before .before .given in
     let the-cut = c .before .before .before .before .before .before .before .cut in
-    omega (arith, mul-le-mul (pre .1 .1) (pre .1 .1), the-given .ensures .0, the-given .ensures .1, of-all (args .bytes .now) (args .at) (args .n + args .rows) (the-given .result) (given (args .flag) (args .rows)) (the-cut .result) (the-given .ensures .0) (the-cut .ensures) (c .before .before .before .before .before .before .if1 .left))
+    omega (
+      arith,
+      mul-le-mul (pre .1 .1) (pre .1 .1),
+      the-given .ensures .0,
+      the-given .ensures .1,
+      of-all (args .bytes .now) (args .at) (args .n + args .rows) (the-given .result) (given (args .flag) (args .rows)) (the-cut .result)
+          (the-given .ensures .0) (the-cut .ensures) (c .before .before .before .before .before .before .if1 .left),
+    )
 
 mul-read-variance : tie.Need-mul-read-variance
 mul-read-variance c =
-    let args = c .before .before .before .before .before .before .before .before .before .before .before .before .args in
-    let pre = c .before .before .before .before .before .before .before .before .before .before .before .before .pre in
+    let entry = c .before .before .before .before .before .before .before .before .before .before .before .before in
+    let args = entry .args in
+    let pre = entry .pre in
     let the-given = c .before .before .before .before .before .before .before .before .given in
     let the-cut = c .before .before .before .before .before .before .before .cut in
-    omega (arith, mul-le-mul (pre .1 .1) (pre .1 .1), the-given .ensures .0, the-given .ensures .1, of-all (args .bytes .now) (args .at) (args .n + args .rows) (the-given .result) (given (args .flag) (args .rows)) (the-cut .result) (the-given .ensures .0) (the-cut .ensures) (c .before .before .before .before .before .before .if1 .left))
+    omega (
+      arith,
+      mul-le-mul (pre .1 .1) (pre .1 .1),
+      the-given .ensures .0,
+      the-given .ensures .1,
+      of-all (args .bytes .now) (args .at) (args .n + args .rows) (the-given .result) (given (args .flag) (args .rows)) (the-cut .result)
+          (the-given .ensures .0) (the-cut .ensures) (c .before .before .before .before .before .before .if1 .left),
+    )
 
 add-read-variance-2 : tie.Need-add-read-variance-2
 add-read-variance-2 c =
-    let args = c .before .before .before .before .before .before .before .before .before .before .before .before .args in
-    let pre = c .before .before .before .before .before .before .before .before .before .before .before .before .pre in
+    let entry = c .before .before .before .before .before .before .before .before .before .before .before .before in
+    let args = entry .args in
+    let pre = entry .pre in
     let the-given = c .before .before .before .before .before .before .before .before .given in
     let the-cut = c .before .before .before .before .before .before .before .cut in
-    omega (arith, mul-le-mul (pre .1 .1) (pre .1 .1), the-given .ensures .0, the-given .ensures .1, of-all (args .bytes .now) (args .at) (args .n + args .rows) (the-given .result) (given (args .flag) (args .rows)) (the-cut .result) (the-given .ensures .0) (the-cut .ensures) (c .before .before .before .before .before .before .if1 .left))
-
-slice-aggregate-read-variance : tie.Need-slice-aggregate-read-variance
-slice-aggregate-read-variance c = search needs
+    omega (
+      arith,
+      mul-le-mul (pre .1 .1) (pre .1 .1),
+      the-given .ensures .0,
+      the-given .ensures .1,
+      of-all (args .bytes .now) (args .at) (args .n + args .rows) (the-given .result) (given (args .flag) (args .rows)) (the-cut .result)
+          (the-given .ensures .0) (the-cut .ensures) (c .before .before .before .before .before .before .if1 .left),
+    )
 
 read-variance-requires : tie.Need-read-variance-requires
 read-variance-requires c κs =
-    let args = c .before .before .before .before .before .before .before .before .before .before .before .before .before .args in
-    let pre = c .before .before .before .before .before .before .before .before .before .before .before .before .before .pre in
+    let entry = c .before .before .before .before .before .before .before .before .before .before .before .before .before in
+    let args = entry .args in
+    let pre = entry .pre in
     let the-given = c .before .before .before .before .before .before .before .before .before .given in
     let the-cut = c .before .before .before .before .before .before .before .before .cut in (
-      (omega (arith, of-all (args .bytes .now) (args .at) (args .n + args .rows) (the-given .result) (given (args .flag) (args .rows)) (the-cut .result) (the-given .ensures .0) (the-cut .ensures) (c .before .before .before .before .before .before .before .if1 .left)), pre .0 .1),
+      (
+        omega (
+          arith,
+          of-all (args .bytes .now) (args .at) (args .n + args .rows) (the-given .result) (given (args .flag) (args .rows))
+              (the-cut .result) (the-given .ensures .0) (the-cut .ensures) (c .before .before .before .before .before .before .before .if1 .left),
+        ),
+        pre .0 .1,
+      ),
       (pre .1 .0, pre .1 .1, mul-le-mul (pre .1 .1) (pre .1 .1)),
     )
 
-sub-enter-observation : tie.Need-sub-enter-observation
-sub-enter-observation c = search needs
-
-part-enter-observation-start : tie.Need-part-enter-observation-start
-part-enter-observation-start c = search needs
-
-part-enter-observation-end : tie.Need-part-enter-observation-end
-part-enter-observation-end c = search needs
-
-sub-enter-observation-2 : tie.Need-sub-enter-observation-2
-sub-enter-observation-2 c = search needs
-
-part-enter-observation-start-2 : tie.Need-part-enter-observation-start-2
-part-enter-observation-start-2 c = search needs
-
-part-enter-observation-end-2 : tie.Need-part-enter-observation-end-2
-part-enter-observation-end-2 c = search needs
-
-sub-enter-observation-3 : tie.Need-sub-enter-observation-3
-sub-enter-observation-3 c = search needs
-
-part-enter-observation-start-3 : tie.Need-part-enter-observation-start-3
-part-enter-observation-start-3 c = search needs
-
 part-enter-observation-end-3 : tie.Need-part-enter-observation-end-3
 part-enter-observation-end-3 c =
-    let pre = c .before .before .before .before .before .before .before .before .before .before .before .before .before .before .before .before .before .before .before .before .pre in
+    let pre = c .before .before .before .before .before .before .before .before .before .before .before .before .before .before .before .before
+    .before .before .before .before .pre in
     omega (arith, mul-le-mul (pre .1 .1) (pre .1 .1))
-
-enter-observation-requires : tie.Need-enter-observation-requires
-enter-observation-requires c κs = search needs
-
-went-requires : tie.Need-went-requires
-went-requires c κs = search needs
-
-same-length : tie.Need-same-length
-same-length c = search needs
 
 returns-2 : tie.Need-returns-2
 returns-2 c =
-    let args = c .before .before .before .before .before .before .before .before .before .before .before .before .before .before .before .before .before .before .before .before .before .before .before .before .before .before .args in
+    let entry = c .before .before .before .before .before .before .before .before .before .before .before .before .before .before .before .before
+    .before .before .before .before .before .before .before .before .before .before in
+    let args = entry .args in
     let enter-observation = c .before .before .before .enter-observation in
-    taken (args .g) (args .store .now) (args .bytes .now) (args .keys .now) (args .rows) (args .flag) (args .n) (args .at) _ (c .before .before .before .before .before .before .before .before .before .before .before .before .before .before .before .before .before .before .before .before .before .before .given .ensures .0) (tells (c .before .before .before .before .before .before .before .before .before .before .before .before .before .before .before .before .before .before .before .before .before .cut .ensures) (c .before .before .before .before .before .before .before .before .before .before .before .before .before .before .before .before .before .before .before .before .if1 .left)) _ _ _ (enter-observation .result) _ _ (front (λ i. numberAt (args .bytes .now) (args .at + 8 * i)) (args .n) _ _ (c .before .before .before .before .before .before .before .before .before .before .before .before .before .before .before .before .before .before .numbers .ensures)) (front (λ i. numberAt (args .bytes .now) (args .at + 8 * args .n + 8 * i)) (args .rows) _ _ (c .before .before .before .before .before .before .before .before .before .before .before .before .before .before .before .numbers2 .ensures)) (variance-front (args .flag) (args .bytes .now) (args .at + 8 * (args .n + args .rows)) (args .rows) _ _ (c .before .before .before .before .before .before .before .before .before .before .before .before .before .before .before .before .before .before .before .before .before .before .before .before .before .before .pre .0 .1) (c .before .before .before .before .before .before .before .before .before .before .before .before .read-variance .ensures)) (enter-observation .ensures .0) (c .went .ensures) (enter-observation .ensures .1)
+    taken (args .g) (args .store .now) (args .bytes .now) (args .keys .now) (args .rows) (args .flag) (args .n) (args .at) _
+    (c .before .before .before .before .before .before .before .before .before .before .before .before .before .before .before .before .before
+    .before .before .before .before .before .given .ensures .0) (tells
+    (c .before .before .before .before .before .before .before .before .before .before .before .before .before .before .before .before .before
+    .before .before .before .before .cut .ensures) (c .before .before .before .before .before .before .before .before .before .before .before
+    .before .before .before .before .before .before .before .before .before .if1 .left)) _ _ _ (enter-observation .result) _ _
+    (front (λ i. numberAt (args .bytes .now) (args .at + 8 * i)) (args .n) _ _
+    (c .before .before .before .before .before .before .before .before .before .before .before .before .before .before .before .before .before
+    .before .numbers .ensures)) (front (λ i. numberAt (args .bytes .now) (args .at + 8 * args .n + 8 * i)) (args .rows) _ _
+    (c .before .before .before .before .before .before .before .before .before .before .before .before .before .before .before .numbers2 .ensures))
+    (variance-front (args .flag) (args .bytes .now) (args .at + 8 * (args .n + args .rows)) (args .rows) _ _ (entry .pre .0 .1)
+    (c .before .before .before .before .before .before .before .before .before .before .before .before .read-variance .ensures))
+    (enter-observation .ensures .0) (c .went .ensures) (enter-observation .ensures .1)
 
 pub read-observed-numbers-spec : {M : Type 1} → statement M
 read-observed-numbers-spec =
-    tie.close
-    (tie.spec
-    mul-square
-    add-all
-    given-requires
-    add-all-2
-    mul-all
-    cut-requires
-    stop-requires
-    returns
-    add-end
-    slice-aggregate-numbers
-    numbers-requires
-    mul-numbers
-    add-numbers
-    slice-aggregate-numbers-2
-    numbers-requires-2
-    add-read-variance
-    mul-read-variance
-    add-read-variance-2
-    slice-aggregate-read-variance
+    tie.close (tie.spec mul-square
+    (λ c. search needs)  -- add-all
+    (λ c κs. search needs)  -- given-requires
+    add-all-2 mul-all
+    (λ c κs. search needs)  -- cut-requires
+    (λ c κs. search needs)  -- stop-requires
+    returns add-end
+    (λ c. search needs)  -- slice-aggregate-numbers
+    numbers-requires mul-numbers add-numbers
+    (λ c. search needs)  -- slice-aggregate-numbers-2
+    numbers-requires-2 add-read-variance mul-read-variance add-read-variance-2
+    (λ c. search needs)  -- slice-aggregate-read-variance
     read-variance-requires
-    sub-enter-observation
-    part-enter-observation-start
-    part-enter-observation-end
-    sub-enter-observation-2
-    part-enter-observation-start-2
-    part-enter-observation-end-2
-    sub-enter-observation-3
-    part-enter-observation-start-3
+    (λ c. search needs)  -- sub-enter-observation
+    (λ c. search needs)  -- part-enter-observation-start
+    (λ c. search needs)  -- part-enter-observation-end
+    (λ c. search needs)  -- sub-enter-observation-2
+    (λ c. search needs)  -- part-enter-observation-start-2
+    (λ c. search needs)  -- part-enter-observation-end-2
+    (λ c. search needs)  -- sub-enter-observation-3
+    (λ c. search needs)  -- part-enter-observation-start-3
     part-enter-observation-end-3
-    enter-observation-requires
-    went-requires
-    same-length
+    (λ c κs. search needs)  -- enter-observation-requires
+    (λ c κs. search needs)  -- went-requires
+    (λ c. search needs)  -- same-length
     returns-2)

@@ -25,138 +25,159 @@ module _ (g : Graph) (store : List Float) (bytes : List ℕ) (key s at : ℕ) wh
   unfolding priorNumbers
   cut-short h = rw h
 
-  taken : cut bytes at (8 * (s + s * s)) ≡ false → (mean variance : List Float) (added : Added) (r : Step) (t : List Float) → mean ≡ numbersAt bytes at s → variance ≡ numbersAt bytes (at + 8 * s) (s * s)
-      → added ≡ addPrior g key mean variance store → r ≡ wentTo added (at + 8 * (s + s * s)) → t ≡ priorStore g key mean variance store → Meets g store (priorNumbers store bytes key s at) r t
+  taken : cut bytes at (8 * (s + s * s)) ≡ false → (mean variance : List Float) (added : Added) (r : Step) (t : List Float) → mean
+      ≡ numbersAt bytes at s → variance ≡ numbersAt bytes (at + 8 * s) (s * s)
+      → added ≡ addPrior g key mean variance store → r ≡ wentTo added (at + 8 * (s + s * s)) → t ≡ priorStore g key mean variance store
+      → Meets g store (priorNumbers store bytes key s at) r t
   unfolding priorNumbers
   taken h mean variance added r t em ev ea er et = rw (h, ← em, ← ev, ← ea) (er, et)
 
 mul-square : tie.Need-mul-square
-mul-square c = omega (arith, mul-le-mul (c .before .before .pre .1) (c .before .before .pre .1))
+mul-square c =
+    let pre = c .before .before .pre in
+    omega (arith, mul-le-mul (pre .1) (pre .1))
 
 add-cut : tie.Need-add-cut
-add-cut c = omega (arith, mul-le-mul (c .before .before .pre .1) (c .before .before .pre .1))
+add-cut c =
+    let pre = c .before .before .pre in
+    omega (arith, mul-le-mul (pre .1) (pre .1))
 
 mul-cut : tie.Need-mul-cut
-mul-cut c = omega (arith, mul-le-mul (c .before .before .pre .1) (c .before .before .pre .1))
-
-cut-requires : tie.Need-cut-requires
-cut-requires c κs = search needs
-
-stop-requires : tie.Need-stop-requires
-stop-requires c κs = search needs
+mul-cut c =
+    let pre = c .before .before .pre in
+    omega (arith, mul-le-mul (pre .1) (pre .1))
 
 returns : tie.Need-returns
 returns c =
     let args = c .before .before .before .before .before .args in
-    turned (args .g) (args .store .now) _ _ BadRecord _ (cut-short (args .g) (args .store .now) (args .bytes .now) (args .key) (args .s) (args .at) (tells (c .before .before .cut .ensures) (c .before .if1 .taken))) (c .stop .ensures) refl
+    turned (args .g) (args .store .now) _ _ BadRecord _ (cut-short (args .g) (args .store .now) (args .bytes .now) (args .key) (args .s) (args .at)
+    (tells (c .before .before .cut .ensures) (c .before .if1 .taken))) (c .stop .ensures) refl
 
 add-end : tie.Need-add-end
 add-end c =
-    let args = c .before .before .before .before .args in
-    omega (arith, mul-le-mul (c .before .before .before .before .pre .1) (c .before .before .before .before .pre .1), there (args .bytes .now) (args .at) (8 * (args .s + args .s * args .s)) (tells (c .before .cut .ensures) (c .if1 .left)))
+    let entry = c .before .before .before .before in
+    let pre = entry .pre in
+    let args = entry .args in
+    omega (
+      arith,
+      mul-le-mul (pre .1) (pre .1),
+      there (args .bytes .now) (args .at) (8 * (args .s + args .s * args .s))
+          (tells (c .before .cut .ensures) (c .if1 .left)),
+    )
 
 mul-end : tie.Need-mul-end
 mul-end c =
-    let args = c .before .before .before .before .args in
-    omega (arith, mul-le-mul (c .before .before .before .before .pre .1) (c .before .before .before .before .pre .1), there (args .bytes .now) (args .at) (8 * (args .s + args .s * args .s)) (tells (c .before .cut .ensures) (c .if1 .left)))
+    let entry = c .before .before .before .before in
+    let pre = entry .pre in
+    let args = entry .args in
+    omega (
+      arith,
+      mul-le-mul (pre .1) (pre .1),
+      there (args .bytes .now) (args .at) (8 * (args .s + args .s * args .s))
+          (tells (c .before .cut .ensures) (c .if1 .left)),
+    )
 
 add-end-2 : tie.Need-add-end-2
 add-end-2 c =
-    let args = c .before .before .before .before .args in
-    omega (arith, mul-le-mul (c .before .before .before .before .pre .1) (c .before .before .before .before .pre .1), there (args .bytes .now) (args .at) (8 * (args .s + args .s * args .s)) (tells (c .before .cut .ensures) (c .if1 .left)))
-
-slice-aggregate-numbers : tie.Need-slice-aggregate-numbers
-slice-aggregate-numbers c = search needs
+    let entry = c .before .before .before .before in
+    let pre = entry .pre in
+    let args = entry .args in
+    omega (
+      arith,
+      mul-le-mul (pre .1) (pre .1),
+      there (args .bytes .now) (args .at) (8 * (args .s + args .s * args .s))
+          (tells (c .before .cut .ensures) (c .if1 .left)),
+    )
 
 numbers-requires : tie.Need-numbers-requires
 numbers-requires c κs =
-    let args = c .before .before .before .before .before .args in
-    omega (arith, mul-le-mul (c .before .before .before .before .before .pre .1) (c .before .before .before .before .before .pre .1), there (args .bytes .now) (args .at) (8 * (args .s + args .s * args .s)) (tells (c .before .before .cut .ensures) (c .before .if1 .left)))
+    let entry = c .before .before .before .before .before in
+    let pre = entry .pre in
+    let args = entry .args in
+    omega (
+      arith,
+      mul-le-mul (pre .1) (pre .1),
+      there (args .bytes .now) (args .at) (8 * (args .s + args .s * args .s))
+          (tells (c .before .before .cut .ensures) (c .before .if1 .left)),
+    )
 
 mul-numbers : tie.Need-mul-numbers
 mul-numbers c =
-    let args = c .before .before .before .before .before .before .before .args in
-    let pre = c .before .before .before .before .before .before .before .pre in
-    omega (arith, mul-le-mul (pre .1) (pre .1), there (args .bytes .now) (args .at) (8 * (args .s + args .s * args .s)) (tells (c .before .before .before .before .cut .ensures) (c .before .before .before .if1 .left)))
+    let entry = c .before .before .before .before .before .before .before in
+    let args = entry .args in
+    let pre = entry .pre in
+    omega (
+      arith,
+      mul-le-mul (pre .1) (pre .1),
+      there (args .bytes .now) (args .at) (8 * (args .s + args .s * args .s))
+          (tells (c .before .before .before .before .cut .ensures) (c .before .before .before .if1 .left)),
+    )
 
 add-numbers : tie.Need-add-numbers
 add-numbers c =
-    let args = c .before .before .before .before .before .before .before .args in
-    let pre = c .before .before .before .before .before .before .before .pre in
-    omega (arith, mul-le-mul (pre .1) (pre .1), there (args .bytes .now) (args .at) (8 * (args .s + args .s * args .s)) (tells (c .before .before .before .before .cut .ensures) (c .before .before .before .if1 .left)))
-
-slice-aggregate-numbers-2 : tie.Need-slice-aggregate-numbers-2
-slice-aggregate-numbers-2 c = search needs
+    let entry = c .before .before .before .before .before .before .before in
+    let args = entry .args in
+    let pre = entry .pre in
+    omega (
+      arith,
+      mul-le-mul (pre .1) (pre .1),
+      there (args .bytes .now) (args .at) (8 * (args .s + args .s * args .s))
+          (tells (c .before .before .before .before .cut .ensures) (c .before .before .before .if1 .left)),
+    )
 
 numbers-requires-2 : tie.Need-numbers-requires-2
 numbers-requires-2 c κs =
-    let args = c .before .before .before .before .before .before .before .before .args in
-    let pre = c .before .before .before .before .before .before .before .before .pre in
-    omega (arith, mul-le-mul (pre .1) (pre .1), there (args .bytes .now) (args .at) (8 * (args .s + args .s * args .s)) (tells (c .before .before .before .before .before .cut .ensures) (c .before .before .before .before .if1 .left)))
-
-sub-enter-prior : tie.Need-sub-enter-prior
-sub-enter-prior c = search needs
-
-part-enter-prior-start : tie.Need-part-enter-prior-start
-part-enter-prior-start c = search needs
+    let entry = c .before .before .before .before .before .before .before .before in
+    let args = entry .args in
+    let pre = entry .pre in
+    omega (
+      arith,
+      mul-le-mul (pre .1) (pre .1),
+      there (args .bytes .now) (args .at) (8 * (args .s + args .s * args .s))
+          (tells (c .before .before .before .before .before .cut .ensures) (c .before .before .before .before .if1 .left)),
+    )
 
 part-enter-prior-end : tie.Need-part-enter-prior-end
 part-enter-prior-end c =
     let pre = c .before .before .before .before .before .before .before .before .before .before .before .pre in
     omega (arith, mul-le-mul (pre .1) (pre .1))
 
-sub-enter-prior-2 : tie.Need-sub-enter-prior-2
-sub-enter-prior-2 c = search needs
-
-part-enter-prior-start-2 : tie.Need-part-enter-prior-start-2
-part-enter-prior-start-2 c = search needs
-
 part-enter-prior-end-2 : tie.Need-part-enter-prior-end-2
 part-enter-prior-end-2 c =
     let pre = c .before .before .before .before .before .before .before .before .before .before .before .before .before .pre in
     omega (arith, mul-le-mul (pre .1) (pre .1))
 
-enter-prior-requires : tie.Need-enter-prior-requires
-enter-prior-requires c κs = search needs
-
-went-requires : tie.Need-went-requires
-went-requires c κs = search needs
-
-same-length : tie.Need-same-length
-same-length c = search needs
-
 returns-2 : tie.Need-returns-2
 returns-2 c =
-    let args = c .before .before .before .before .before .before .before .before .before .before .before .before .before .before .before .before .before .before .before .args in
+    let args = c .before .before .before .before .before .before .before .before .before .before .before .before .before .before .before .before
+    .before .before .before .args in
     let enter-prior = c .before .before .before .enter-prior in
-    taken (args .g) (args .store .now) (args .bytes .now) (args .key) (args .s) (args .at) (tells (c .before .before .before .before .before .before .before .before .before .before .before .before .before .before .before .before .cut .ensures) (c .before .before .before .before .before .before .before .before .before .before .before .before .before .before .before .if1 .left)) _ _ (enter-prior .result) _ _ (front (λ i. numberAt (args .bytes .now) (args .at + 8 * i)) (args .s) _ _ (c .before .before .before .before .before .before .before .before .before .before .before .before .before .numbers .ensures)) (front (λ i. numberAt (args .bytes .now) (args .at + 8 * args .s + 8 * i)) (args .s * args .s) _ _ (c .before .before .before .before .before .before .before .before .before .before .numbers2 .ensures)) (enter-prior .ensures .0) (c .went .ensures) (enter-prior .ensures .1)
+    taken (args .g) (args .store .now) (args .bytes .now) (args .key) (args .s) (args .at)
+    (tells (c .before .before .before .before .before .before .before .before .before .before .before .before .before .before .before .before .cut
+    .ensures) (c .before .before .before .before .before .before .before .before .before .before .before .before .before .before .before .if1
+    .left)) _ _ (enter-prior .result) _ _ (front (λ i. numberAt (args .bytes .now) (args .at + 8 * i)) (args .s) _ _
+    (c .before .before .before .before .before .before .before .before .before .before .before .before .before .numbers .ensures))
+    (front (λ i. numberAt (args .bytes .now) (args .at + 8 * args .s + 8 * i)) (args .s * args .s) _ _
+    (c .before .before .before .before .before .before .before .before .before .before .numbers2 .ensures)) (enter-prior .ensures .0)
+    (c .went .ensures) (enter-prior .ensures .1)
 
 pub read-prior-numbers-spec : {M : Type 1} → statement M
 read-prior-numbers-spec =
-    tie.close
-    (tie.spec
-    mul-square
-    add-cut
-    mul-cut
-    cut-requires
-    stop-requires
-    returns
-    add-end
-    mul-end
-    add-end-2
-    slice-aggregate-numbers
-    numbers-requires
-    mul-numbers
-    add-numbers
-    slice-aggregate-numbers-2
+    tie.close (tie.spec mul-square add-cut mul-cut
+    (λ c κs. search needs)  -- cut-requires
+    (λ c κs. search needs)  -- stop-requires
+    returns add-end mul-end add-end-2
+    (λ c. search needs)  -- slice-aggregate-numbers
+    numbers-requires mul-numbers add-numbers
+    (λ c. search needs)  -- slice-aggregate-numbers-2
     numbers-requires-2
-    sub-enter-prior
-    part-enter-prior-start
+    (λ c. search needs)  -- sub-enter-prior
+    (λ c. search needs)  -- part-enter-prior-start
     part-enter-prior-end
-    sub-enter-prior-2
-    part-enter-prior-start-2
+    (λ c. search needs)  -- sub-enter-prior-2
+    (λ c. search needs)  -- part-enter-prior-start-2
     part-enter-prior-end-2
-    enter-prior-requires
-    went-requires
-    same-length
+    (λ c κs. search needs)  -- enter-prior-requires
+    (λ c κs. search needs)  -- went-requires
+    (λ c. search needs)  -- same-length
     returns-2)

@@ -17,7 +17,8 @@ use borrow.Author.Needs.{needs}
 use Rattle.records.proofs.read_record.Statement.{statement}
 use Rattle.records.proofs.read_record.Tie as tie
 
-marks : (bytes : List ℕ) (at a b : ℕ) (m n : Mark) → a ≡ byteAt bytes at → b ≡ byteAt bytes (at + 1) → m ≡ markOf a b → m ≡ n → markOf (byteAt bytes at) (byteAt bytes (at + 1)) ≡ n
+marks : (bytes : List ℕ) (at a b : ℕ) (m n : Mark) → a ≡ byteAt bytes at → b ≡ byteAt bytes (at + 1) → m ≡ markOf a b → m ≡ n
+    → markOf (byteAt bytes at) (byteAt bytes (at + 1)) ≡ n
 marks bytes at a b m n ea eb em h = rw (← ea, ← eb, ← em) h
 
 module _ (g : Graph) (store : List Float) (bytes : List ℕ) (at : ℕ) where
@@ -25,139 +26,152 @@ module _ (g : Graph) (store : List Float) (bytes : List ℕ) (at : ℕ) where
   unfolding recordAt
   cut-short h = rw h
 
-  of-mark : cut bytes at 2 ≡ false → (m : Mark) → markOf (byteAt bytes at) (byteAt bytes (at + 1)) ≡ m → recordAt g store bytes at ≡ marked m g store bytes (at + 2)
+  of-mark : cut bytes at 2 ≡ false → (m : Mark) → markOf (byteAt bytes at) (byteAt bytes (at + 1)) ≡ m → recordAt g store bytes at
+      ≡ marked m g store bytes (at + 2)
   unfolding recordAt
   of-mark h m e = rw (h, e)
-
-cut-requires : tie.Need-cut-requires
-cut-requires c κs = search needs
-
-stop-requires : tie.Need-stop-requires
-stop-requires c κs = search needs
 
 returns : tie.Need-returns
 returns c =
     let args = c .before .before .before .before .before .args in
-    turned (args .g) (args .store .now) _ _ BadRecord _ (cut-short (args .g) (args .store .now) (args .bytes .now) (args .at) (tells (c .before .before .cut .ensures) (c .before .if1 .taken))) (c .stop .ensures) refl
+    turned (args .g) (args .store .now) _ _ BadRecord _ (cut-short (args .g) (args .store .now) (args .bytes .now) (args .at)
+    (tells (c .before .before .cut .ensures) (c .before .if1 .taken))) (c .stop .ensures) refl
 
 byte-requires : tie.Need-byte-requires
-byte-requires c κs = omega (arith, there (c .before .before .before .before .args .bytes .now) (c .before .before .before .before .args .at) 2 (tells (c .before .cut .ensures) (c .if1 .left)))
+byte-requires c κs =
+    let args = c .before .before .before .before .args in
+    omega (arith, there (args .bytes .now) (args .at) 2 (tells (c .before .cut .ensures) (c .if1 .left)))
 
 add-byte : tie.Need-add-byte
-add-byte c = omega (arith, there (c .before .before .before .before .before .args .bytes .now) (c .before .before .before .before .before .args .at) 2 (tells (c .before .before .cut .ensures) (c .before .if1 .left)))
+add-byte c =
+    let args = c .before .before .before .before .before .args in
+    omega (arith, there (args .bytes .now) (args .at) 2 (tells (c .before .before .cut .ensures) (c .before .if1 .left)))
 
 byte-requires-2 : tie.Need-byte-requires-2
-byte-requires-2 c κs = omega (arith, there (c .before .before .before .before .before .args .bytes .now) (c .before .before .before .before .before .args .at) 2 (tells (c .before .before .cut .ensures) (c .before .if1 .left)))
-
-mark-of-requires : tie.Need-mark-of-requires
-mark-of-requires c κs = search needs
-
-enum-told : tie.Need-enum-told
-enum-told c = search needs
+byte-requires-2 c κs =
+    let args = c .before .before .before .before .before .args in
+    omega (arith, there (args .bytes .now) (args .at) 2 (tells (c .before .before .cut .ensures) (c .before .if1 .left)))
 
 add-read-variable : tie.Need-add-read-variable
 add-read-variable c =
     let args = c .before .before .before .before .before .before .before .before .before .args in
-    omega (arith, there (args .bytes .now) (args .at) 2 (tells (c .before .before .before .before .before .before .cut .ensures) (c .before .before .before .before .before .if1 .left)))
+    omega (
+      arith,
+      there (args .bytes .now) (args .at) 2 (tells (c .before .before .before .before .before .before .cut .ensures)
+          (c .before .before .before .before .before .if1 .left)),
+    )
 
 read-variable-requires : tie.Need-read-variable-requires
 read-variable-requires c κs =
-    let args = c .before .before .before .before .before .before .before .before .before .args in (
-      c .before .before .before .before .before .before .before .before .before .pre .0,
-      there (args .bytes .now) (args .at) 2 (tells (c .before .before .before .before .before .before .cut .ensures) (c .before .before .before .before .before .if1 .left)),
+    let entry = c .before .before .before .before .before .before .before .before .before in
+    let args = entry .args in (
+      entry .pre .0,
+      there (args .bytes .now) (args .at) 2 (tells (c .before .before .before .before .before .before .cut .ensures)
+          (c .before .before .before .before .before .if1 .left)),
     )
-
-enum-told-2 : tie.Need-enum-told-2
-enum-told-2 c = search needs
 
 add-read-prior : tie.Need-add-read-prior
 add-read-prior c =
     let args = c .before .before .before .before .before .before .before .before .before .args in
-    omega (arith, there (args .bytes .now) (args .at) 2 (tells (c .before .before .before .before .before .before .cut .ensures) (c .before .before .before .before .before .if1 .left)))
+    omega (
+      arith,
+      there (args .bytes .now) (args .at) 2 (tells (c .before .before .before .before .before .before .cut .ensures)
+          (c .before .before .before .before .before .if1 .left)),
+    )
 
 read-prior-requires : tie.Need-read-prior-requires
 read-prior-requires c κs =
-    let args = c .before .before .before .before .before .before .before .before .before .before .args in (
-      c .before .before .before .before .before .before .before .before .before .before .pre .0,
-      there (args .bytes .now) (args .at) 2 (tells (c .before .before .before .before .before .before .before .cut .ensures) (c .before .before .before .before .before .before .if1 .left)),
+    let entry = c .before .before .before .before .before .before .before .before .before .before in
+    let args = entry .args in (
+      entry .pre .0,
+      there (args .bytes .now) (args .at) 2 (tells (c .before .before .before .before .before .before .before .cut .ensures)
+          (c .before .before .before .before .before .before .if1 .left)),
     )
-
-enum-told-3 : tie.Need-enum-told-3
-enum-told-3 c = search needs
 
 add-read-observation : tie.Need-add-read-observation
 add-read-observation c =
     let args = c .before .before .before .before .before .before .before .before .before .args in
-    omega (arith, there (args .bytes .now) (args .at) 2 (tells (c .before .before .before .before .before .before .cut .ensures) (c .before .before .before .before .before .if1 .left)))
+    omega (
+      arith,
+      there (args .bytes .now) (args .at) 2 (tells (c .before .before .before .before .before .before .cut .ensures)
+          (c .before .before .before .before .before .if1 .left)),
+    )
 
 read-observation-requires : tie.Need-read-observation-requires
 read-observation-requires c κs =
-    let args = c .before .before .before .before .before .before .before .before .before .before .args in (
-      c .before .before .before .before .before .before .before .before .before .before .pre .0,
-      there (args .bytes .now) (args .at) 2 (tells (c .before .before .before .before .before .before .before .cut .ensures) (c .before .before .before .before .before .before .if1 .left)),
+    let entry = c .before .before .before .before .before .before .before .before .before .before in
+    let args = entry .args in (
+      entry .pre .0,
+      there (args .bytes .now) (args .at) 2 (tells (c .before .before .before .before .before .before .before .cut .ensures)
+          (c .before .before .before .before .before .before .if1 .left)),
     )
-
-enum-told-4 : tie.Need-enum-told-4
-enum-told-4 c = search needs
-
-stop-requires-2 : tie.Need-stop-requires-2
-stop-requires-2 c κs = search needs
 
 returns-2 : tie.Need-returns-2
 returns-2 c =
+    let byte = c .before .before .before .before .before .byte in
+    let byte2 = c .before .before .before .before .byte2 in
+    let mark-of = c .before .before .before .mark-of in
     let args = c .before .before .before .before .before .before .before .before .before .before .args in
-    met (args .g) (args .store .now) _ _ _ _ (of-mark (args .g) (args .store .now) (args .bytes .now) (args .at) (tells (c .before .before .before .before .before .before .before .cut .ensures) (c .before .before .before .before .before .before .if1 .left)) mark.Variable (marks (args .bytes .now) (args .at) (c .before .before .before .before .before .byte .result) (c .before .before .before .before .byte2 .result) (c .before .before .before .mark-of .result) _ (c .before .before .before .before .before .byte .ensures .0) (c .before .before .before .before .byte2 .ensures .0) (c .before .before .before .mark-of .ensures) (c .before .enum-told .given .1))) (c .read-variable .ensures, as-it-was (args .g) (args .store .now) (args .bytes .now) (args .at + 2))
-
-same-length : tie.Need-same-length
-same-length c = search needs
+    met (args .g) (args .store .now) _ _ _ _ (of-mark (args .g) (args .store .now) (args .bytes .now) (args .at)
+    (tells (c .before .before .before .before .before .before .before .cut .ensures) (c .before .before .before .before .before .before .if1 .left))
+    mark.Variable (marks (args .bytes .now) (args .at) (byte .result) (byte2 .result) (mark-of .result) _ (byte .ensures .0) (byte2 .ensures .0)
+    (mark-of .ensures) (c .before .enum-told .given .1))) (
+      c .read-variable .ensures,
+      as-it-was (args .g) (args .store .now) (args .bytes .now) (args .at + 2),
+    )
 
 returns-3 : tie.Need-returns-3
 returns-3 c =
+    let mark-of = c .before .before .before .before .before .before .mark-of in
     let args = c .before .before .before .before .before .before .before .before .before .before .before .before .before .args in
     let byte = c .before .before .before .before .before .before .before .before .byte in
     let byte2 = c .before .before .before .before .before .before .before .byte2 in
-    met (args .g) (args .store .now) _ _ _ _ (of-mark (args .g) (args .store .now) (args .bytes .now) (args .at) (tells (c .before .before .before .before .before .before .before .before .before .before .cut .ensures) (c .before .before .before .before .before .before .before .before .before .if1 .left)) mark.Prior (marks (args .bytes .now) (args .at) (byte .result) (byte2 .result) (c .before .before .before .before .before .before .mark-of .result) _ (byte .ensures .0) (byte2 .ensures .0) (c .before .before .before .before .before .before .mark-of .ensures) (c .before .before .before .before .enum-told2 .given .1))) (c .before .before .read-prior .ensures)
-
-same-length-2 : tie.Need-same-length-2
-same-length-2 c = search needs
+    met (args .g) (args .store .now) _ _ _ _ (of-mark (args .g) (args .store .now) (args .bytes .now) (args .at)
+    (tells (c .before .before .before .before .before .before .before .before .before .before .cut .ensures)
+    (c .before .before .before .before .before .before .before .before .before .if1 .left)) mark.Prior
+    (marks (args .bytes .now) (args .at) (byte .result) (byte2 .result) (mark-of .result) _ (byte .ensures .0) (byte2 .ensures .0)
+    (mark-of .ensures) (c .before .before .before .before .enum-told2 .given .1))) (c .before .before .read-prior .ensures)
 
 returns-4 : tie.Need-returns-4
 returns-4 c =
+    let mark-of = c .before .before .before .before .before .before .mark-of in
     let args = c .before .before .before .before .before .before .before .before .before .before .before .before .before .args in
     let byte = c .before .before .before .before .before .before .before .before .byte in
     let byte2 = c .before .before .before .before .before .before .before .byte2 in
-    met (args .g) (args .store .now) _ _ _ _ (of-mark (args .g) (args .store .now) (args .bytes .now) (args .at) (tells (c .before .before .before .before .before .before .before .before .before .before .cut .ensures) (c .before .before .before .before .before .before .before .before .before .if1 .left)) mark.Observation (marks (args .bytes .now) (args .at) (byte .result) (byte2 .result) (c .before .before .before .before .before .before .mark-of .result) _ (byte .ensures .0) (byte2 .ensures .0) (c .before .before .before .before .before .before .mark-of .ensures) (c .before .before .before .before .enum-told3 .given .1))) (c .before .before .read-observation .ensures)
+    met (args .g) (args .store .now) _ _ _ _ (of-mark (args .g) (args .store .now) (args .bytes .now) (args .at)
+    (tells (c .before .before .before .before .before .before .before .before .before .before .cut .ensures)
+    (c .before .before .before .before .before .before .before .before .before .if1 .left)) mark.Observation
+    (marks (args .bytes .now) (args .at) (byte .result) (byte2 .result) (mark-of .result) _ (byte .ensures .0) (byte2 .ensures .0)
+    (mark-of .ensures) (c .before .before .before .before .enum-told3 .given .1))) (c .before .before .read-observation .ensures)
 
 returns-5 : tie.Need-returns-5
 returns-5 c =
+    let byte = c .before .before .before .before .before .byte in
+    let byte2 = c .before .before .before .before .byte2 in
+    let mark-of = c .before .before .before .mark-of in
     let args = c .before .before .before .before .before .before .before .before .before .before .args in
-    turned (args .g) (args .store .now) _ _ BadRecord _ (of-mark (args .g) (args .store .now) (args .bytes .now) (args .at) (tells (c .before .before .before .before .before .before .before .cut .ensures) (c .before .before .before .before .before .before .if1 .left)) mark.Unmarked (marks (args .bytes .now) (args .at) (c .before .before .before .before .before .byte .result) (c .before .before .before .before .byte2 .result) (c .before .before .before .mark-of .result) _ (c .before .before .before .before .before .byte .ensures .0) (c .before .before .before .before .byte2 .ensures .0) (c .before .before .before .mark-of .ensures) (c .before .enum-told4 .given .1))) (c .stop2 .ensures) refl
+    turned (args .g) (args .store .now) _ _ BadRecord _ (of-mark (args .g) (args .store .now) (args .bytes .now) (args .at)
+    (tells (c .before .before .before .before .before .before .before .cut .ensures) (c .before .before .before .before .before .before .if1 .left))
+    mark.Unmarked (marks (args .bytes .now) (args .at) (byte .result) (byte2 .result) (mark-of .result) _ (byte .ensures .0) (byte2 .ensures .0)
+    (mark-of .ensures) (c .before .enum-told4 .given .1))) (c .stop2 .ensures) refl
 
 pub read-record-spec : {M : Type 1} → statement M
 read-record-spec =
-    tie.close
-    (tie.spec
-    cut-requires
-    stop-requires
-    returns
-    byte-requires
-    add-byte
-    byte-requires-2
-    mark-of-requires
-    enum-told
-    add-read-variable
-    read-variable-requires
-    enum-told-2
-    add-read-prior
-    read-prior-requires
-    enum-told-3
-    add-read-observation
-    read-observation-requires
-    enum-told-4
-    stop-requires-2
+    tie.close (tie.spec
+    (λ c κs. search needs)  -- cut-requires
+    (λ c κs. search needs)  -- stop-requires
+    returns byte-requires add-byte byte-requires-2
+    (λ c κs. search needs)  -- mark-of-requires
+    (λ c. search needs)  -- enum-told
+    add-read-variable read-variable-requires
+    (λ c. search needs)  -- enum-told-2
+    add-read-prior read-prior-requires
+    (λ c. search needs)  -- enum-told-3
+    add-read-observation read-observation-requires
+    (λ c. search needs)  -- enum-told-4
+    (λ c κs. search needs)  -- stop-requires-2
     returns-2
-    same-length
+    (λ c. search needs)  -- same-length
     returns-3
-    same-length-2
-    returns-4
-    returns-5)
+    (λ c. search needs)  -- same-length-2
+    returns-4 returns-5)

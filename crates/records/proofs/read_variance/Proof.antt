@@ -30,61 +30,47 @@ module _ (flag : Flag) (bytes : List ℕ) (at rows : ℕ) (out t : List Float) w
   of-none : flag ≡ Unknown → flagKnown flag ≡ true → t ≡ varianceAt flag bytes at rows ++ drop (rows * rows) out
   of-none e h = let k : false ≡ true = rw e at h in cc
 
-enum-told : tie.Need-enum-told
-enum-told c = search needs
-
-identity-requires : tie.Need-identity-requires
-identity-requires c κs = search needs
-
-enum-told-2 : tie.Need-enum-told-2
-enum-told-2 c = search needs
-
 mul-numbers : tie.Need-mul-numbers
-mul-numbers c = omega (arith, mul-le-mul (c .before .before .before .before .before .pre .1 .1) (c .before .before .before .before .before .pre .1 .1))
+mul-numbers c =
+    let pre = c .before .before .before .before .before .pre in
+    omega (arith, mul-le-mul (pre .1 .1) (pre .1 .1))
 
 numbers-requires : tie.Need-numbers-requires
 numbers-requires c κs =
-    let args = c .before .before .before .before .before .args in (
-      has-room (args .flag) (args .rows) (args .at) _ (c .before .enum-told2 .given .1) (c .before .before .before .before .before .pre .0 .0),
-      c .before .before .before .before .before .pre .1 .2,
+    let entry = c .before .before .before .before .before in
+    let pre = entry .pre in
+    let args = entry .args in (
+      has-room (args .flag) (args .rows) (args .at) _ (c .before .enum-told2 .given .1) (pre .0 .0),
+      pre .1 .2,
     )
-
-enum-told-3 : tie.Need-enum-told-3
-enum-told-3 c = search needs
-
-same-length : tie.Need-same-length
-same-length c = search needs
 
 returns : tie.Need-returns
 returns c =
     let args = c .before .before .before .before .before .before .before .before .args in
-    of-identity (args .flag) (args .bytes .now) (args .at) (args .rows) (args .out .now) _ (c .before .before .before .before .enum-told .given .1) (c .before .before .identity .ensures)
-
-same-length-2 : tie.Need-same-length-2
-same-length-2 c = search needs
+    of-identity (args .flag) (args .bytes .now) (args .at) (args .rows) (args .out .now) _ (c .before .before .before .before .enum-told .given .1)
+    (c .before .before .identity .ensures)
 
 returns-2 : tie.Need-returns-2
 returns-2 c =
     let args = c .before .before .before .before .before .before .before .before .args in
-    of-given (args .flag) (args .bytes .now) (args .at) (args .rows) (args .out .now) _ (c .before .before .before .before .enum-told2 .given .1) (c .before .before .numbers .ensures)
+    of-given (args .flag) (args .bytes .now) (args .at) (args .rows) (args .out .now) _ (c .before .before .before .before .enum-told2 .given .1)
+    (c .before .before .numbers .ensures)
 
 returns-3 : tie.Need-returns-3
 returns-3 c =
-    let args = c .before .before .before .before .args in
-    of-none (args .flag) (args .bytes .now) (args .at) (args .rows) (args .out .now) _ (c .enum-told3 .given .1) (c .before .before .before .before .pre .0 .1)
+    let entry = c .before .before .before .before in
+    let args = entry .args in
+    of-none (args .flag) (args .bytes .now) (args .at) (args .rows) (args .out .now) _ (c .enum-told3 .given .1) (entry .pre .0 .1)
 
 pub read-variance-spec : {M : Type 1} → statement M
 read-variance-spec =
-    tie.close
-    (tie.spec
-    enum-told
-    identity-requires
-    enum-told-2
-    mul-numbers
-    numbers-requires
-    enum-told-3
-    same-length
+    tie.close (tie.spec
+    (λ c. search needs)  -- enum-told
+    (λ c κs. search needs)  -- identity-requires
+    (λ c. search needs)  -- enum-told-2
+    mul-numbers numbers-requires
+    (λ c. search needs)  -- enum-told-3
+    (λ c. search needs)  -- same-length
     returns
-    same-length-2
-    returns-2
-    returns-3)
+    (λ c. search needs)  -- same-length-2
+    returns-2 returns-3)

@@ -7,51 +7,23 @@ use borrow.Author.Needs.{needs}
 use Rattle.replay.proofs.print_answer.Statement.{statement}
 use Rattle.replay.proofs.print_answer.Tie as tie
 
-slice-aggregate-solve : tie.Need-slice-aggregate-solve
-slice-aggregate-solve c = search needs
-
-solve-requires : tie.Need-solve-requires
-solve-requires c κs = search needs
-
-enum-known-n : tie.Need-enum-known-n
-enum-known-n c = search needs
-
-sub-write-all : tie.Need-sub-write-all
-sub-write-all c = search needs
-
-part-write-all-start : tie.Need-part-write-all-start
-part-write-all-start c = search needs
-
 part-write-all-end : tie.Need-part-write-all-end
 part-write-all-end c = omega (arith, written-within _ _ _ (sym (c .before .before .before .before .before .solve .ensures .0) ∙ c .before .before .n .given .1))
-
-write-all-requires : tie.Need-write-all-requires
-write-all-requires c κs = search needs
-
-enum-told : tie.Need-enum-told
-enum-told c = search needs
 
 expect-requires : tie.Need-expect-requires
 expect-requires c κs = absurd (omega (arith, told-short _ _ _ (c .before .before .before .solve .ensures .0) (c .enum-told .given .1)))
 
-returns : tie.Need-returns
-returns c = search needs
-
-returns-2 : tie.Need-returns-2
-returns-2 c = search needs
-
 pub print-answer-spec : {M : Type 1} → statement M
 print-answer-spec =
-    tie.close
-    (tie.spec
-    slice-aggregate-solve
-    solve-requires
-    enum-known-n
-    sub-write-all
-    part-write-all-start
+    tie.close (tie.spec
+    (λ c. search needs)  -- slice-aggregate-solve
+    (λ c κs. search needs)  -- solve-requires
+    (λ c. search needs)  -- enum-known-n
+    (λ c. search needs)  -- sub-write-all
+    (λ c. search needs)  -- part-write-all-start
     part-write-all-end
-    write-all-requires
-    enum-told
+    (λ c κs. search needs)  -- write-all-requires
+    (λ c. search needs)  -- enum-told
     expect-requires
-    returns
-    returns-2)
+    (λ c. search needs)  -- returns
+    (λ c. search needs))  -- returns-2

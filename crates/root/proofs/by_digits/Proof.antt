@@ -20,46 +20,10 @@ short c =
     let l = c .before .loop in
     few (c .before .before .args .m) (l .a) (l .q) (l .r) (l .j) (c .before .before .pre .0) (l .inv) (c .loop-test .taken)
 
-loop-holds : tie.Need-loop-holds Inv-loop μ-loop
-loop-holds c = start (c .args .m) (c .pre .1)
-
-mul-a4 : tie.Need-mul-a4 Inv-loop μ-loop
-mul-a4 c = omega arith
-
-mul-r4 : tie.Need-mul-r4 Inv-loop μ-loop
-mul-r4 c = omega arith
-
-add-r4 : tie.Need-add-r4 Inv-loop μ-loop
-add-r4 c = omega arith
-
-mul-t : tie.Need-mul-t Inv-loop μ-loop
-mul-t c = omega arith
-
-add-t : tie.Need-add-t Inv-loop μ-loop
-add-t c = omega arith
-
-add-j : tie.Need-add-j Inv-loop μ-loop
-add-j c = omega arith
-
-cast-d : tie.Need-cast-d Inv-loop μ-loop
-cast-d c = search needs
-
-mul-r : tie.Need-mul-r Inv-loop μ-loop
-mul-r c = record { fits = lt-of-le-of-lt (taken-le _ _) (omega arith) }
-
-sub-r : tie.Need-sub-r Inv-loop μ-loop
-sub-r c = taken-le _ _
-
-mul-q : tie.Need-mul-q Inv-loop μ-loop
-mul-q c = omega arith
-
 add-q : tie.Need-add-q Inv-loop μ-loop
 add-q c =
     let l = c .before .loop in
     omega (arith, bit-le (l .q * 4 + 1) (l .r * 4 + l .a * 4 / 2 ^ 54))
-
-loop-less : tie.Need-loop-less Inv-loop μ-loop
-loop-less c = omega (arith, short c)
 
 loop-again : tie.Need-loop-again Inv-loop μ-loop
 loop-again c =
@@ -73,22 +37,18 @@ returns c =
 
 pub by-digits-spec : {M : Type 1} → statement M
 by-digits-spec =
-    tie.close
-    (tie.spec
-    Inv-loop
-    μ-loop
-    loop-holds
-    mul-a4
-    mul-r4
-    add-r4
-    mul-t
-    add-t
-    add-j
-    cast-d
-    mul-r
-    sub-r
-    mul-q
+    tie.close (tie.spec Inv-loop μ-loop
+    (λ c. start (c .args .m) (c .pre .1))  -- loop-holds
+    (λ c. omega arith)  -- mul-a4
+    (λ c. omega arith)  -- mul-r4
+    (λ c. omega arith)  -- add-r4
+    (λ c. omega arith)  -- mul-t
+    (λ c. omega arith)  -- add-t
+    (λ c. omega arith)  -- add-j
+    (λ c. search needs)  -- cast-d
+    (λ c. record { fits = lt-of-le-of-lt (taken-le _ _) (omega arith) })  -- mul-r
+    (λ c. taken-le _ _)  -- sub-r
+    (λ c. omega arith)  -- mul-q
     add-q
-    loop-less
-    loop-again
-    returns)
+    (λ c. omega (arith, short c))  -- loop-less
+    loop-again returns)

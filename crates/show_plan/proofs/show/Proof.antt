@@ -6,55 +6,26 @@ use borrow.Author.Needs.{needs}
 use Rattle.show_plan.proofs.show.Statement.{statement}
 use Rattle.show_plan.proofs.show.Tie as tie
 
-slice-aggregate-show : tie.Need-slice-aggregate-show
-slice-aggregate-show c = search needs
-
-show-requires : tie.Need-show-requires
-show-requires c κs = search needs
-
-enum-known-n : tie.Need-enum-known-n
-enum-known-n c = search needs
-
-sub-print : tie.Need-sub-print
-sub-print c = search needs
-
-part-print-start : tie.Need-part-print-start
-part-print-start c = search needs
-
 part-print-end : tie.Need-part-print-end
 part-print-end c = omega (arith, written-within _ _ _ (sym (c .before .before .before .before .before .show .ensures .0) ∙ c .before .before .n .given .1))
 
-slice-aggregate-print : tie.Need-slice-aggregate-print
-slice-aggregate-print c = search needs
-
-print-requires : tie.Need-print-requires
-print-requires c κs = search needs
-
-enum-told : tie.Need-enum-told
-enum-told c = search needs
-
 expect-requires : tie.Need-expect-requires
-expect-requires c κs = absurd (omega (arith, short-of _ _ _ (c .before .before .before .show .ensures .0) (c .enum-told .given .1), c .before .before .before .show .ensures .1 .1))
-
-returns : tie.Need-returns
-returns c = search needs
-
-returns-2 : tie.Need-returns-2
-returns-2 c = search needs
+expect-requires c κs =
+    let show = c .before .before .before .show in
+    absurd (omega (arith, short-of _ _ _ (show .ensures .0) (c .enum-told .given .1), show .ensures .1 .1))
 
 pub show-spec : {M : Type 1} → statement M
 show-spec =
-    tie.close
-    (tie.spec
-    slice-aggregate-show
-    show-requires
-    enum-known-n
-    sub-print
-    part-print-start
+    tie.close (tie.spec
+    (λ c. search needs)  -- slice-aggregate-show
+    (λ c κs. search needs)  -- show-requires
+    (λ c. search needs)  -- enum-known-n
+    (λ c. search needs)  -- sub-print
+    (λ c. search needs)  -- part-print-start
     part-print-end
-    slice-aggregate-print
-    print-requires
-    enum-told
+    (λ c. search needs)  -- slice-aggregate-print
+    (λ c κs. search needs)  -- print-requires
+    (λ c. search needs)  -- enum-told
     expect-requires
-    returns
-    returns-2)
+    (λ c. search needs)  -- returns
+    (λ c. search needs))  -- returns-2

@@ -9,21 +9,6 @@ use Rattle.slots.proofs.Reading.{refit, rows-is, prior-key, view-read, 
 use Rattle.slots.proofs.add_slot.Statement.{statement}
 use Rattle.slots.proofs.add_slot.Tie as tie
 
-add-q : tie.Need-add-q
-add-q c = omega (arith, c .before .before .before .before .before .before .pre .1 .listed)
-
-mul-ks : tie.Need-mul-ks
-mul-ks c = omega arith
-
-sub-ks : tie.Need-sub-ks
-sub-ks c = omega arith
-
-part-ks-start : tie.Need-part-ks-start
-part-ks-start c = search needs
-
-part-ks-end : tie.Need-part-ks-end
-part-ks-end c = search needs
-
 mul-n : tie.Need-mul-n
 mul-n c =
     let pre = c .before .before .before .before .before .before .before .before .pre in
@@ -53,51 +38,46 @@ numbers-requires c κs = c .before .before .before .before .before .before .befo
 
 add-view-requires : tie.Need-add-view-requires
 add-view-requires c κs =
-    let args = c .before .before .before .before .before .before .before .before .before .before .before .before .before .args in
-    let pre = c .before .before .before .before .before .before .before .before .before .before .before .before .before .pre in (
+    let entry = c .before .before .before .before .before .before .before .before .before .before .before .before .before in
+    let args = entry .args in
+    let pre = entry .pre in (
       pre .0,
-      refit (storeOf (args .h .slot) (args .factors .now) (args .messages .now)) _ (args .h .at) (c .before .before .numbers .ensures) (pre .1 .stored) (pre .1 .fitted),
+      refit (storeOf (args .h .slot) (args .factors .now) (args .messages .now)) _ (args .h .at) (c .before .before .numbers .ensures)
+          (pre .1 .stored) (pre .1 .fitted),
     )
 
 rows-of-requires : tie.Need-rows-of-requires
-rows-of-requires c κs = prior-key (c .before .before .before .before .before .before .before .before .before .before .before .before .before .before .before .before .before .before .pre .1)
+rows-of-requires c κs = prior-key (c .before .before .before .before .before .before .before .before .before .before .before .before .before .before
+    .before .before .before .before .pre .1)
 
 add-result : tie.Need-add-result
 add-result c =
-    let args = c .before .before .before .before .before .before .before .before .before .before .before .before .before .before .before .before .before .before .before .args in
-    let pre = c .before .before .before .before .before .before .before .before .before .before .before .before .before .before .before .before .before .before .before .pre in
+    let entry = c .before .before .before .before .before .before .before .before .before .before .before .before .before .before .before .before
+    .before .before .before in
+    let args = entry .args in
+    let pre = entry .pre in
     omega (arith, pre .1 .low, c .rows-of .ensures, rows-bound (args .layout) (args .keys .now) (args .h) (pre .1 .fitted .rows))
-
-same-length : tie.Need-same-length
-same-length c = search needs
-
-same-length-2 : tie.Need-same-length-2
-same-length-2 c = search needs
 
 returns : tie.Need-returns
 returns c =
-    let args = c .before .before .before .before .before .before .before .before .before .before .before .before .before .before .before .before .before .before .before .args in (
-      ap (λ (k : ℕ). args .row + k) (c .rows-of .ensures ∙ rows-is (c .before .before .before .before .before .before .before .before .before .before .before .before .before .before .before .before .before .before .before .pre .1)),
-      view-read (args .z) (args .f) (args .layout) (args .row) (args .h .prior) (keysAt (args .keys .now) (args .h)) (args .h .rows) (args .h .width) _ _ _ _ (c .before .before .before .before .before .before .before .before .numbers .ensures) (c .before .before .before .before .before .add-view .ensures),
+    let entry = c .before .before .before .before .before .before .before .before .before .before .before .before .before .before .before .before
+    .before .before .before in
+    let args = entry .args in (
+      ap (λ (k : ℕ). args .row + k) (c .rows-of .ensures ∙ rows-is (entry .pre .1)),
+      view-read (args .z) (args .f) (args .layout) (args .row) (args .h .prior) (keysAt (args .keys .now) (args .h)) (args .h .rows) (args .h .width)
+          _ _ _ _ (c .before .before .before .before .before .before .before .before .numbers .ensures)
+          (c .before .before .before .before .before .add-view .ensures),
     )
 
 pub add-slot-spec : {M : Type 1} → statement M
 add-slot-spec =
-    tie.close
-    (tie.spec
-    add-q
-    mul-ks
-    sub-ks
-    part-ks-start
-    part-ks-end
-    mul-n
-    add-n
-    mul-n-2
-    add-n-2
-    numbers-requires
-    add-view-requires
-    rows-of-requires
-    add-result
-    same-length
-    same-length-2
+    tie.close (tie.spec
+    (λ c. omega (arith, c .before .before .before .before .before .before .pre .1 .listed))  -- add-q
+    (λ c. omega arith)  -- mul-ks
+    (λ c. omega arith)  -- sub-ks
+    (λ c. search needs)  -- part-ks-start
+    (λ c. search needs)  -- part-ks-end
+    mul-n add-n mul-n-2 add-n-2 numbers-requires add-view-requires rows-of-requires add-result
+    (λ c. search needs)  -- same-length
+    (λ c. search needs)  -- same-length-2
     returns)

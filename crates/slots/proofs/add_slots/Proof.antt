@@ -15,7 +15,8 @@ use Rattle.slots.proofs.add_slots.Tie as tie
 
 abbrev Inv-loop : tie.InvT-loop
 Inv-loop work₀ t₀ f z layout factors messages keys heads slots row₀ i₀ i-end work t row i =
-    (i ≤ i-end) × (i-end ≡ length slots) × (length work ≡ length work₀) × (length t ≡ length t₀) × (row ≡ rowsOfAll layout (viewAt factors messages keys heads slots) i)
+    (i ≤ i-end) × (i-end ≡ length slots) × (length work ≡ length work₀) × (length t ≡ length t₀) ×
+    (row ≡ rowsOfAll layout (viewAt factors messages keys heads slots) i)
     × (cut f work ≡ withViews z f layout (viewAt factors messages keys heads slots) (cut f work₀) i)
 
 abbrev μ-loop : tie.MeasureT-loop
@@ -25,32 +26,35 @@ loop-holds : tie.Need-loop-holds Inv-loop μ-loop
 unfolding rowsOfAll withViews turns
 loop-holds c = (omega arith, refl, refl, refl, refl, refl)
 
-mul-head-at : tie.Need-mul-head-at Inv-loop μ-loop
-mul-head-at c = omega (arith, c .loop-test .taken, c .before .loop .inv .1)
-
-shared-slice-read-head-at : tie.Need-shared-slice-read-head-at Inv-loop μ-loop
-shared-slice-read-head-at c = omega (arith, c .before .loop-test .taken, c .before .before .loop .inv .1)
-
 head-at-requires : tie.Need-head-at-requires Inv-loop μ-loop
-head-at-requires c κs = c .before .before .before .before .before .before .before .before .before .before .pre .1 .0 .headed (c .before .before .loop .i) (omega (arith, c .before .loop-test .taken, c .before .before .loop .inv .1))
+head-at-requires c κs =
+    let loop = c .before .before .loop in
+    c .before .before .before .before .before .before .before .before .before .before .pre .1 .0 .headed (loop .i)
+    (omega (arith, c .before .loop-test .taken, loop .inv .1))
 
 add-slot-requires : tie.Need-add-slot-requires Inv-loop μ-loop
 add-slot-requires c κs =
-    let pre = c .before .before .before .before .before .before .before .before .before .before .before .before .before .pre in
+    let entry = c .before .before .before .before .before .before .before .before .before .before .before .before .before in
+    let pre = entry .pre in
     let loop = c .before .before .before .before .before .loop in (
-      relaid (c .before .before .before .before .before .before .before .before .before .before .before .before .before .args .f) (loop .inv .2) (pre .0),
-      re-ready (loop .inv .4) (loop .inv .3) (c .before .before .head-at .ensures) (pre .1 .1 (loop .i) (omega (arith, c .before .before .before .before .loop-test .taken, loop .inv .1))),
+      relaid (entry .args .f) (loop .inv .2) (pre .0),
+      re-ready (loop .inv .4) (loop .inv .3) (c .before .before .head-at .ensures)
+          (pre .1 .1 (loop .i) (omega (arith, c .before .before .before .before .loop-test .taken, loop .inv .1))),
     )
 
 add-i : tie.Need-add-i Inv-loop μ-loop
-add-i c = omega (arith, c .before .before .before .before .before .before .before .before .before .loop-test .taken, c .before .before .before .before .before .before .before .before .before .before .loop .inv .1, c .before .before .before .before .before .before .before .before .before .before .before .before .before .before .before .before .before .before .pre .1 .0 .few)
-
-loop-less : tie.Need-loop-less Inv-loop μ-loop
-loop-less c = omega arith
+add-i c = omega (
+  arith,
+  c .before .before .before .before .before .before .before .before .before .loop-test .taken,
+  c .before .before .before .before .before .before .before .before .before .before .loop .inv .1,
+  c .before .before .before .before .before .before .before .before .before .before .before .before .before .before .before .before .before .before
+      .pre .1 .0 .few,
+)
 
 loop-again : tie.Need-loop-again Inv-loop μ-loop
 loop-again c =
-    let args = c .before .before .before .before .before .before .before .before .before .before .before .before .before .before .before .before .before .before .args in
+    let args = c .before .before .before .before .before .before .before .before .before .before .before .before .before .before .before .before
+    .before .before .args in
     let loop = c .before .before .before .before .before .before .before .before .before .before .loop in
     let head-at = c .before .before .before .before .before .before .before .head-at in
     let add-slot = c .before .before .before .before .add-slot in (
@@ -58,35 +62,26 @@ loop-again c =
       omega (arith, loop .inv .1),
       add-slot .kept .0 ∙ loop .inv .2,
       add-slot .kept .1 .0 ∙ loop .inv .3,
-      rows-more (args .layout) (args .factors .now) (args .messages .now) (args .keys .now) (args .heads .now) (args .slots .now) (loop .i) _ _ (head-at .ensures) (loop .inv .4) _ (add-slot .ensures .0),
-      views-more (args .layout) (args .factors .now) (args .messages .now) (args .keys .now) (args .heads .now) (args .slots .now) (loop .i) _ _ (head-at .ensures) (loop .inv .4) (args .z) (args .f) _ _ _ (loop .inv .5) (add-slot .ensures .1),
+      rows-more (args .layout) (args .factors .now) (args .messages .now) (args .keys .now) (args .heads .now) (args .slots .now) (loop .i) _ _
+          (head-at .ensures) (loop .inv .4) _ (add-slot .ensures .0),
+      views-more (args .layout) (args .factors .now) (args .messages .now) (args .keys .now) (args .heads .now) (args .slots .now) (loop .i) _ _
+          (head-at .ensures) (loop .inv .4) (args .z) (args .f) _ _ _ (loop .inv .5) (add-slot .ensures .1),
     )
-
-same-length : tie.Need-same-length Inv-loop μ-loop
-same-length c = search needs
-
-same-length-2 : tie.Need-same-length-2 Inv-loop μ-loop
-same-length-2 c = search needs
 
 returns : tie.Need-returns Inv-loop μ-loop
 returns c =
-    let e : c .before .loop .i ≡ length (c .before .before .before .before .before .before .before .before .before .args .slots .now) = omega (arith, c .before .loop .inv .1) in
-    rw (← e) (c .before .loop .inv .5)
+    let loop = c .before .loop in
+    let e : loop .i ≡ length (c .before .before .before .before .before .before .before .before .before .args .slots .now) = omega (arith, loop .inv .1) in
+    rw (← e) (loop .inv .5)
 
 pub add-slots-spec : {M : Type 1} → statement M
 add-slots-spec =
-    tie.close
-    (tie.spec
-    Inv-loop
-    μ-loop
-    loop-holds
-    mul-head-at
-    shared-slice-read-head-at
-    head-at-requires
-    add-slot-requires
-    add-i
-    loop-less
+    tie.close (tie.spec Inv-loop μ-loop loop-holds
+    (λ c. omega (arith, c .loop-test .taken, c .before .loop .inv .1))  -- mul-head-at
+    (λ c. omega (arith, c .before .loop-test .taken, c .before .before .loop .inv .1))  -- shared-slice-read-head-at
+    head-at-requires add-slot-requires add-i
+    (λ c. omega arith)  -- loop-less
     loop-again
-    same-length
-    same-length-2
+    (λ c. search needs)  -- same-length
+    (λ c. search needs)  -- same-length-2
     returns)

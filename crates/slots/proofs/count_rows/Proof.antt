@@ -18,59 +18,73 @@ loop-holds : tie.Need-loop-holds Inv-loop μ-loop
 unfolding rowsByAll
 loop-holds c = (omega arith, refl, refl, omega arith)
 
-mul-head-at : tie.Need-mul-head-at Inv-loop μ-loop
-mul-head-at c = omega arith
-
-shared-slice-read-head-at : tie.Need-shared-slice-read-head-at Inv-loop μ-loop
-shared-slice-read-head-at c = omega arith
-
 head-at-requires : tie.Need-head-at-requires Inv-loop μ-loop
-head-at-requires c κs = c .before .before .before .before .before .before .pre .headed (c .before .before .loop .i) (omega (arith, c .before .loop-test .taken, c .before .before .loop .inv .1))
+head-at-requires c κs =
+    let loop = c .before .before .loop in
+    c .before .before .before .before .before .before .pre .headed (loop .i) (omega (arith, c .before .loop-test .taken, loop .inv .1))
 
 rows-of-requires : tie.Need-rows-of-requires Inv-loop μ-loop
-rows-of-requires c κs = rw (c .head-at .ensures) (c .before .before .before .before .before .before .before .pre .counted (c .before .before .before .loop .i) (omega (arith, c .before .before .loop-test .taken, c .before .before .before .loop .inv .1)) .of-prior)
+rows-of-requires c κs =
+    let loop = c .before .before .before .loop in
+    rw (c .head-at .ensures) (c .before .before .before .before .before .before .before .pre .counted (loop .i)
+    (omega (arith, c .before .before .loop-test .taken, loop .inv .1)) .of-prior)
 
 add-rows : tie.Need-add-rows Inv-loop μ-loop
 add-rows c =
-    let args = c .before .before .before .before .before .before .before .before .args in
-    let pre = c .before .before .before .before .before .before .before .before .pre in
+    let entry = c .before .before .before .before .before .before .before .before in
+    let loop-test = c .before .before .before .loop-test in
+    let args = entry .args in
+    let pre = entry .pre in
     let loop = c .before .before .before .before .loop in
-    omega (arith, c .before .before .before .loop-test .taken, loop .inv .1, loop .inv .3, pre .few, c .rows-of .ensures, rows-bound (args .layout) (args .keys .now) (c .before .head-at .result) (rw (c .before .head-at .ensures) (pre .counted (loop .i) (omega (arith, c .before .before .before .loop-test .taken, loop .inv .1)) .rows)))
+    omega (
+      arith,
+      loop-test .taken,
+      loop .inv .1,
+      loop .inv .3,
+      pre .few,
+      c .rows-of .ensures,
+      rows-bound (args .layout) (args .keys .now) (c .before .head-at .result)
+          (rw (c .before .head-at .ensures) (pre .counted (loop .i) (omega (arith, loop-test .taken, loop .inv .1)) .rows)),
+    )
 
 add-i : tie.Need-add-i Inv-loop μ-loop
-add-i c = omega (arith, c .before .before .before .loop-test .taken, c .before .before .before .before .loop .inv .1, c .before .before .before .before .before .before .before .before .pre .few)
-
-loop-less : tie.Need-loop-less Inv-loop μ-loop
-loop-less c = omega arith
+add-i c = omega (
+  arith,
+  c .before .before .before .loop-test .taken,
+  c .before .before .before .before .loop .inv .1,
+  c .before .before .before .before .before .before .before .before .pre .few,
+)
 
 loop-again : tie.Need-loop-again Inv-loop μ-loop
 loop-again c =
-    let args = c .before .before .before .before .before .before .before .before .args in
+    let entry = c .before .before .before .before .before .before .before .before in
+    let loop-test = c .before .before .before .loop-test in
+    let head-at = c .before .head-at in
+    let args = entry .args in
     let loop = c .before .before .before .before .loop in (
-      omega (arith, c .before .before .before .loop-test .taken),
+      omega (arith, loop-test .taken),
       omega (arith, loop .inv .1),
-      count-more (args .layout) (args .keys .now) (args .heads .now) (args .slots .now) (loop .i) _ _ _ (loop .inv .2) (c .before .head-at .ensures) (c .rows-of .ensures),
-      omega (arith, loop .inv .3, c .rows-of .ensures, rows-bound (args .layout) (args .keys .now) (c .before .head-at .result) (rw (c .before .head-at .ensures) (c .before .before .before .before .before .before .before .before .pre .counted (loop .i) (omega (arith, c .before .before .before .loop-test .taken, loop .inv .1)) .rows))),
+      count-more (args .layout) (args .keys .now) (args .heads .now) (args .slots .now) (loop .i) _ _ _ (loop .inv .2) (head-at .ensures) (c .rows-of .ensures),
+      omega (
+        arith,
+        loop .inv .3,
+        c .rows-of .ensures,
+        rows-bound (args .layout) (args .keys .now) (head-at .result)
+            (rw (head-at .ensures) (entry .pre .counted (loop .i) (omega (arith, loop-test .taken, loop .inv .1)) .rows)),
+      ),
     )
 
 returns : tie.Need-returns Inv-loop μ-loop
 returns c =
-    let e : c .before .loop .i ≡ length (c .before .before .before .before .before .args .slots .now) = omega (arith, c .before .loop .inv .1) in
-    rw (← e) (c .before .loop .inv .2)
+    let loop = c .before .loop in
+    let e : loop .i ≡ length (c .before .before .before .before .before .args .slots .now) = omega (arith, loop .inv .1) in
+    rw (← e) (loop .inv .2)
 
 pub count-rows-spec : {M : Type 1} → statement M
 count-rows-spec =
-    tie.close
-    (tie.spec
-    Inv-loop
-    μ-loop
-    loop-holds
-    mul-head-at
-    shared-slice-read-head-at
-    head-at-requires
-    rows-of-requires
-    add-rows
-    add-i
-    loop-less
-    loop-again
-    returns)
+    tie.close (tie.spec Inv-loop μ-loop loop-holds
+    (λ c. omega arith)  -- mul-head-at
+    (λ c. omega arith)  -- shared-slice-read-head-at
+    head-at-requires rows-of-requires add-rows add-i
+    (λ c. omega arith)  -- loop-less
+    loop-again returns)

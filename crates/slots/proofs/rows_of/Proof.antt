@@ -28,11 +28,4 @@ returns-3 c = rw (not-false (c .before .before .before .before .before .args .h 
 
 pub rows-of-spec : {M : Type 1} → statement M
 rows-of-spec =
-    tie.close
-    (tie.spec
-    returns
-    mul-key
-    shared-slice-read-key
-    element-copy-out-if2
-    returns-2
-    returns-3)
+    tie.close (tie.spec returns mul-key shared-slice-read-key element-copy-out-if2 returns-2 returns-3)

@@ -14,7 +14,4 @@ returns-2 c = rw (le-ltb _ _ (c .if1 .left))
 
 pub slot-of-spec : {M : Type 1} → statement M
 slot-of-spec =
-    tie.close
-    (tie.spec
-    returns
-    returns-2)
+    tie.close (tie.spec returns returns-2)

@@ -1,4 +1,5 @@
--- `solver::arrange` meets its contract: the table of the factors' keys meets what a plan asks for (`proofs/Tables.antt`), and rising lists are an order. Assumes nothing.
+-- `solver::arrange` meets its contract: the table of the factors' keys meets what a plan asks for (`proofs/Tables.antt`), and rising lists are an
+-- order. Assumes nothing.
 use mathlib.Core.Path.{_∙_}
 use native.Mathlib.Omega.{arith}
 use borrow.Author.Needs.{needs}
@@ -11,53 +12,42 @@ use Rattle.solver.proofs.Answers.{graph-plan, made, turned-back}
 use Rattle.solver.proofs.arrange.Statement.{statement}
 use Rattle.solver.proofs.arrange.Tie as tie
 
-table-of-requires : tie.Need-table-of-requires
-table-of-requires c κs = search needs
-
-slice-aggregate-rise : tie.Need-slice-aggregate-rise
-slice-aggregate-rise c = search needs
-
-rise-requires : tie.Need-rise-requires
-rise-requires c κs = search needs
-
-slice-aggregate-rise-2 : tie.Need-slice-aggregate-rise-2
-slice-aggregate-rise-2 c = search needs
-
-rise-requires-2 : tie.Need-rise-requires-2
-rise-requires-2 c κs = search needs
-
-valid-requires : tie.Need-valid-requires
-valid-requires c κs = search needs
-
 plan-of-requires : tie.Need-plan-of-requires
-plan-of-requires c κs = (search needs, rising-ordered _ _ 0 0 (c .before .before .before .before .before .before .rise .ensures) (c .before .before .before .rise2 .ensures) (omega arith) (omega arith))
+plan-of-requires c κs = (
+  search needs,
+  rising-ordered _ _ 0 0 (c .before .before .before .before .before .before .rise .ensures)
+      (c .before .before .before .rise2 .ensures) (omega arith) (omega arith),
+)
 
 returns : tie.Need-returns
-returns c = (turned-back _ _ _ _ (tells (c .before .before .valid .ensures .0) (not-true _ (c .before .if1 .taken))) (c .plan-of .ensures .0), (omega arith, c .plan-of .ensures .1))
+returns c = (
+  turned-back _ _ _ _ (tells (c .before .before .valid .ensures .0) (not-true _ (c .before .if1 .taken))) (c .plan-of .ensures .0),
+  (omega arith, c .plan-of .ensures .1),
+)
 
 plan-of-requires-2 : tie.Need-plan-of-requires-2
 plan-of-requires-2 c κs =
-    let v = tells (c .before .valid .ensures .0) (not-false _ (c .if1 .left)) in
-    (registered _ _ v (c .before .before .before .before .before .before .before .before .table-of .ensures), rising-ordered _ _ _ _ (c .before .before .before .before .before .before .rise .ensures) (c .before .before .before .rise2 .ensures) (valid-count _ v) (valid-variables _ v))
+    let v = tells (c .before .valid .ensures .0) (not-false _ (c .if1 .left)) in (
+      registered _ _ v (c .before .before .before .before .before .before .before .before .table-of .ensures),
+      rising-ordered _ _ _ _ (c .before .before .before .before .before .before .rise .ensures) (c .before .before .before .rise2 .ensures)
+          (valid-count _ v) (valid-variables _ v),
+    )
 
 returns-2 : tie.Need-returns-2
 returns-2 c =
     let v = tells (c .before .before .valid .ensures .0) (not-false _ (c .before .if1 .left)) in (
-      made _ _ v (c .plan-of2 .ensures .0 ∙ graph-plan _ _ _ _ v (c .before .before .before .before .before .before .before .before .before .table-of .ensures) (c .before .before .before .before .before .before .before .rise .ensures) (c .before .before .before .before .rise2 .ensures)),
+      made _ _ v (c .plan-of2 .ensures .0 ∙ graph-plan _ _ _ _ v (c .before .before .before .before .before .before .before .before .before .table-of
+          .ensures) (c .before .before .before .before .before .before .before .rise .ensures) (c .before .before .before .before .rise2 .ensures)),
       (valid-variables _ v, c .plan-of2 .ensures .1),
     )
 
 pub arrange-spec : {M : Type 1} → statement M
 arrange-spec =
-    tie.close
-    (tie.spec
-    table-of-requires
-    slice-aggregate-rise
-    rise-requires
-    slice-aggregate-rise-2
-    rise-requires-2
-    valid-requires
-    plan-of-requires
-    returns
-    plan-of-requires-2
-    returns-2)
+    tie.close (tie.spec
+    (λ c κs. search needs)  -- table-of-requires
+    (λ c. search needs)  -- slice-aggregate-rise
+    (λ c κs. search needs)  -- rise-requires
+    (λ c. search needs)  -- slice-aggregate-rise-2
+    (λ c κs. search needs)  -- rise-requires-2
+    (λ c κs. search needs)  -- valid-requires
+    plan-of-requires returns plan-of-requires-2 returns-2)

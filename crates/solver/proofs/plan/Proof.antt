@@ -4,17 +4,15 @@ use Rattle.solver.proofs.Answers.{told, plan-tells}
 use Rattle.solver.proofs.plan.Statement.{statement}
 use Rattle.solver.proofs.plan.Tie as tie
 
-arrange-requires : tie.Need-arrange-requires
-arrange-requires c κs = search needs
-
-copy-out-requires : tie.Need-copy-out-requires
-copy-out-requires c κs = search needs
-
 returns : tie.Need-returns
 returns c =
+    let arrange = c .before .before .arrange in
     let g = c .before .before .before .args .g in
-    let is = told (c .before .before .arrange .result) g _ (c .before .before .arrange .ensures .0) (c .copy-out .ensures) in
+    let is = told (arrange .result) g _ (arrange .ensures .0) (c .copy-out .ensures) in
     (is, plan-tells _ g is)
 
 pub plan-spec : {M : Type 1} → statement M
-plan-spec = tie.close (tie.spec arrange-requires copy-out-requires returns)
+plan-spec = tie.close (tie.spec
+    (λ c κs. search needs)  -- arrange-requires
+    (λ c κs. search needs)  -- copy-out-requires
+    returns)

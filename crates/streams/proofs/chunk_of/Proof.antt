@@ -15,13 +15,13 @@ returns c = failed (c .before .before .args .got) _ _ (toZ-ofZ (c .before .befor
 returns-2 : tie.Need-returns-2
 returns-2 c = ended (c .before .before .before .args .got) _ (sym (toZ-ofZ (c .before .before .before .fits .got)) ∙ ap (toZ w64) (c .if2 .taken))
 
-count-requires : tie.Need-count-requires
-count-requires c κs = search needs
-
 returns-3 : tie.Need-returns-3
 returns-3 c =
-    let args = c .before .before .before .before .args in
-    bytes (args .got) _ _ _ (toZ-ofZ (c .before .before .before .before .fits .got)) (c .before .before .if1 .left) (λ e. c .before .if2 .left (ap (ofZ w64) e)) (c .count .ensures .1)
+    let entry = c .before .before .before .before in
+    let args = entry .args in
+    bytes (args .got) _ _ _ (toZ-ofZ (entry .fits .got)) (c .before .before .if1 .left) (λ e. c .before .if2 .left (ap (ofZ w64) e)) (c .count .ensures .1)
 
 pub chunk-of-spec : {M : Type 1} → statement M
-chunk-of-spec = tie.close (tie.spec returns returns-2 count-requires returns-3)
+chunk-of-spec = tie.close (tie.spec returns returns-2
+    (λ c κs. search needs)  -- count-requires
+    returns-3)

@@ -1,4 +1,5 @@
--- `tables::fill_originals` meets its contract. The loop's invariant: the factors passed are entered, and the place is where the next one's numbers begin. Assumes nothing.
+-- `tables::fill_originals` meets its contract. The loop's invariant: the factors passed are entered, and the place is where the next one's numbers
+-- begin. Assumes nothing.
 use Prim.Native.Nat.{_*_, _-_, _≤_, _<_, ℕ}
 use mathlib.Core.Path.{_∙_, _≡_, refl}
 use native.Mathlib.Omega.{arith}
@@ -13,24 +14,28 @@ use Rattle.tables.proofs.fill_originals.Statement.{statement}
 use Rattle.tables.proofs.fill_originals.Tie as tie
 
 abbrev Inv-loop : tie.InvT-loop
-Inv-loop keys₀ heads₀ g sizes count at₀ number₀ keys heads at number = (number ≤ count) × (count ≡ g .count) × (sizes ≡ g .sizes) × (at ≤ most-numbers * number) × (at ≡ offset g number) × (length keys ≡ length keys₀) × (length heads ≡ length heads₀) × ((k : ℕ) → k < number → Entered g keys heads k)
+Inv-loop keys₀ heads₀ g sizes count at₀ number₀ keys heads at number = (number ≤ count) × (count ≡ g .count) × (sizes ≡ g .sizes) ×
+    (at ≤ most-numbers * number) × (at ≡ offset g number) × (length keys ≡ length keys₀) × (length heads ≡ length heads₀) ×
+    ((k : ℕ) → k < number → Entered g keys heads k)
 
 abbrev μ-loop : tie.MeasureT-loop
 μ-loop keys₀ heads₀ g sizes count at₀ number₀ keys heads at number = count - number
 
-loop-holds : tie.Need-loop-holds Inv-loop μ-loop
-loop-holds c = (search needs, refl, refl, search needs, no-offset _, refl, refl, none-entered _ _ _)
-
 mul-f : tie.Need-mul-f Inv-loop μ-loop
-mul-f c = omega (arith, valid-count (c .before .before .before .before .before .args .t1) (c .before .before .before .before .before .pre .0))
+mul-f c =
+    let entry = c .before .before .before .before .before in
+    omega (arith, valid-count (entry .args .t1) (entry .pre .0))
 
 element-copy-out-f : tie.Need-element-copy-out-f Inv-loop μ-loop
-element-copy-out-f c = omega (arith, valid-count (c .before .before .before .before .before .args .t1) (c .before .before .before .before .before .pre .0))
+element-copy-out-f c =
+    let entry = c .before .before .before .before .before in
+    omega (arith, valid-count (entry .args .t1) (entry .pre .0))
 
 put-original-requires : tie.Need-put-original-requires Inv-loop μ-loop
 put-original-requires c κs =
-    let args = c .before .before .before .before .before .before .before .before .args in
-    let pre = c .before .before .before .before .before .before .before .before .pre in
+    let entry = c .before .before .before .before .before .before .before .before in
+    let args = entry .args in
+    let pre = entry .pre in
     let loop = c .before .before .before .before .loop in (
       (omega (arith, loop .inv .1, valid-count (args .t1) (pre .0)), valid-touched (args .t1) (pre .0) (loop .number) (omega (arith, loop .inv .1))),
       (omega (arith, loop .inv .5, pre .1 .0), omega (arith, loop .inv .6, pre .1 .1)),
@@ -38,24 +43,21 @@ put-original-requires c κs =
 
 numbers-requires : tie.Need-numbers-requires Inv-loop μ-loop
 numbers-requires c κs =
+    let entry = c .before .before .before .before .before .before .before .before .before .before .before .before .before in
     let loop = c .before .before .before .before .before .before .before .before .before .loop in
-    valid-touched (c .before .before .before .before .before .before .before .before .before .before .before .before .before .args .t1) (c .before .before .before .before .before .before .before .before .before .before .before .before .before .pre .0) (loop .number) (omega (arith, loop .inv .1))
+    valid-touched (entry .args .t1) (entry .pre .0) (loop .number) (omega (arith, loop .inv .1))
 
 add-at : tie.Need-add-at Inv-loop μ-loop
 add-at c =
+    let entry = c .before .before .before .before .before .before .before .before .before .before .before .before .before .before in
     let loop = c .before .before .before .before .before .before .before .before .before .before .loop in
-    omega (arith, c .numbers .ensures .1, loop .inv .3, loop .inv .1, valid-count (c .before .before .before .before .before .before .before .before .before .before .before .before .before .before .args .t1) (c .before .before .before .before .before .before .before .before .before .before .before .before .before .before .pre .0))
-
-add-number : tie.Need-add-number Inv-loop μ-loop
-add-number c = search needs
-
-loop-less : tie.Need-loop-less Inv-loop μ-loop
-loop-less c = search needs
+    omega (arith, c .numbers .ensures .1, loop .inv .3, loop .inv .1, valid-count (entry .args .t1) (entry .pre .0))
 
 loop-again : tie.Need-loop-again Inv-loop μ-loop
 loop-again c =
-    let args = c .before .before .before .before .before .before .before .before .before .before .before .before .before .before .args in
-    let pre = c .before .before .before .before .before .before .before .before .before .before .before .before .before .before .pre in
+    let entry = c .before .before .before .before .before .before .before .before .before .before .before .before .before .before in
+    let args = entry .args in
+    let pre = entry .pre in
     let loop = c .before .before .before .before .before .before .before .before .before .before .loop in
     let put-original = c .before .before .before .before .before .put-original in (
       omega arith,
@@ -65,33 +67,30 @@ loop-again c =
       next-offset (args .t1) (loop .number) (loop .at) _ (factorAt (args .t1) (loop .number)) refl (loop .inv .4) (c .numbers .ensures .0),
       put-original .kept .1 .1 .1 .1 .0 ∙ loop .inv .5,
       put-original .kept .1 .1 .1 .1 .1 .0 ∙ loop .inv .6,
-      entered-more (args .t1) (pre .0) (loop .keys) (loop .heads) (omega (arith, loop .inv .5, pre .1 .0)) (omega (arith, loop .inv .6, pre .1 .1)) (loop .number) (loop .at) (factorAt (args .t1) (loop .number)) _ _ (omega (arith, loop .inv .1)) (loop .inv .4) refl (put-original .ensures .0) (put-original .ensures .1) (loop .inv .7),
+      entered-more (args .t1) (pre .0) (loop .keys) (loop .heads) (omega (arith, loop .inv .5, pre .1 .0)) (omega (arith, loop .inv .6, pre .1 .1))
+          (loop .number) (loop .at) (factorAt (args .t1) (loop .number)) _ _ (omega (arith, loop .inv .1)) (loop .inv .4) refl
+          (put-original .ensures .0) (put-original .ensures .1) (loop .inv .7),
     )
 
-same-length : tie.Need-same-length Inv-loop μ-loop
-same-length c = c .before .loop .inv .5
-
-same-length-2 : tie.Need-same-length-2 Inv-loop μ-loop
-same-length-2 c = c .before .loop .inv .6
-
 returns : tie.Need-returns Inv-loop μ-loop
-returns c = record { long-keys = omega (arith, c .before .loop .inv .5, c .before .before .before .before .before .pre .1 .0); long-heads = omega (arith, c .before .loop .inv .6, c .before .before .before .before .before .pre .1 .1); entered = λ i l. c .before .loop .inv .7 i (omega (arith, c .before .loop .inv .1)) }
+returns c =
+    let pre = c .before .before .before .before .before .pre in
+    let loop = c .before .loop in
+    record {
+      long-keys = omega (arith, loop .inv .5, pre .1 .0);
+      long-heads = omega (arith, loop .inv .6, pre .1 .1);
+      entered = λ i l. loop .inv .7 i
+          (omega (arith, loop .inv .1));
+    }
 
 pub fill-originals-spec : {M : Type 1} → statement M
 fill-originals-spec =
-    tie.close
-    (tie.spec
-    Inv-loop
-    μ-loop
-    loop-holds
-    mul-f
-    element-copy-out-f
-    put-original-requires
-    numbers-requires
-    add-at
-    add-number
-    loop-less
+    tie.close (tie.spec Inv-loop μ-loop
+    (λ c. (search needs, refl, refl, search needs, no-offset _, refl, refl, none-entered _ _ _))  -- loop-holds
+    mul-f element-copy-out-f put-original-requires numbers-requires add-at
+    (λ c. search needs)  -- add-number
+    (λ c. search needs)  -- loop-less
     loop-again
-    same-length
-    same-length-2
+    (λ c. c .before .loop .inv .5)  -- same-length
+    (λ c. c .before .loop .inv .6)  -- same-length-2
     returns)

@@ -54,7 +54,12 @@ decimal-length-returns-2 : (t : ℕ) → decimal-length-lts.Need-returns-2 (
 ) (decimal-length-at t) decimal-length.Post
 decimal-length-returns-2 t c = (
   omega (arith, more-length (c .before .before .args .x) (c .before .if1 .left), c .decimal-length .ensures .0),
-  omega (arith, more-length (c .before .before .args .x) (c .before .if1 .left), c .decimal-length .ensures .0, few-digits 19 (c .before .before .args .x) (omega arith)),
+  omega (
+    arith,
+    more-length (c .before .before .args .x) (c .before .if1 .left),
+    c .decimal-length .ensures .0,
+    few-digits 19 (c .before .before .args .x) (omega arith),
+  ),
 )
 
 pub +decimal-length-spec : {M : Type 1} → statement M

@@ -62,7 +62,8 @@ put-decimal-returns : (t : ℕ) → put-decimal-lts.Need-returns (
   put-decimal-below t,
   put-decimal.Post,
 ) (put-decimal-at t) put-decimal.Post
-put-decimal-returns t c = same (sym (one-digit (c .before .before .before .before .before .before .args .x) (c .before .before .before .before .if1 .taken))) (c .before .before .put .ensures)
+put-decimal-returns t c = same (sym (one-digit (c .before .before .before .before .before .before .args .x)
+    (c .before .before .before .before .if1 .taken))) (c .before .before .put .ensures)
 
 put-decimal-put-decimal-requires : (t : ℕ) → put-decimal-lts.Need-put-decimal-requires (
   put-reads.Asked,
@@ -112,7 +113,8 @@ put-decimal-returns-2 : (t : ℕ) → put-decimal-lts.Need-returns-2 (
 ) (put-decimal-at t) put-decimal.Post
 put-decimal-returns-2 t c =
     let args = c .before .before .before .before .before .before .before .before .before .before .args in
-    same (sym (more-digits (args .x) (c .before .before .before .before .before .before .before .before .if1 .left))) (both (c .before .before .before .before .before .before .put-decimal .ensures) (c .before .before .put2 .ensures))
+    same (sym (more-digits (args .x) (c .before .before .before .before .before .before .before .before .if1 .left)))
+    (both (c .before .before .before .before .before .before .put-decimal .ensures) (c .before .before .put2 .ensures))
 
 pub +put-decimal-spec : {M : Type 1} → statement M
 +put-decimal-spec = close μ-put-decimal λ t. put-decimal-lts.spec (

@@ -7,9 +7,6 @@ use Rattle.text.specs.Putting.{last-place, next}
 use Rattle.text.proofs.after.Statement.{statement}
 use Rattle.text.proofs.after.Tie as tie
 
-add-result : tie.Need-add-result
-add-result c = search needs
-
 returns : tie.Need-returns
 unfolding next
 returns c = rw (lt-ltb (c .before .args .at) last-place (c .if1 .taken)) refl
@@ -19,4 +16,6 @@ unfolding next
 returns-2 c = rw (le-ltb (c .before .args .at) last-place (omega arith)) refl
 
 pub after-spec : {M : Type 1} → statement M
-after-spec = tie.close (tie.spec add-result returns returns-2)
+after-spec = tie.close (tie.spec
+    (λ c. search needs)  -- add-result
+    returns returns-2)

@@ -24,44 +24,23 @@ taken-more word i l = sym (ap (λ (k : ℕ). take k word) (add-one i) ∙ take-s
 taken-all : (word : List ℕ) (i : ℕ) → i ≡ length word → take i word ≡ word
 taken-all word i e = ap (λ (k : ℕ). take k word) e ∙ take-length word
 
-loop-holds : tie.Need-loop-holds Inv-loop μ-loop
-loop-holds c = (refl, omega arith, none)
-
-shared-slice-read-put : tie.Need-shared-slice-read-put Inv-loop μ-loop
-shared-slice-read-put c = search needs
-
-put-requires : tie.Need-put-requires Inv-loop μ-loop
-put-requires c κs = search needs
-
-add-i : tie.Need-add-i Inv-loop μ-loop
-add-i c = search needs
-
-loop-less : tie.Need-loop-less Inv-loop μ-loop
-loop-less c = search needs
-
 loop-again : tie.Need-loop-again Inv-loop μ-loop
 loop-again c =
     let args = c .before .before .before .before .before .before .before .before .before .args in
     let loop = c .before .before .before .before .before .before .loop in
     (loop .inv .0, omega arith, same (taken-more (args .word .now) (loop .i) (omega arith)) (both (loop .inv .2) (c .before .before .put .ensures)))
 
-same-length : tie.Need-same-length Inv-loop μ-loop
-same-length c = long (c .before .loop .inv .2)
-
 returns : tie.Need-returns Inv-loop μ-loop
 returns c = same (taken-all (c .before .before .before .before .args .word .now) (c .before .loop .i) (omega arith)) (c .before .loop .inv .2)
 
 pub put-word-spec : {M : Type 1} → statement M
 put-word-spec =
-    tie.close
-    (tie.spec
-    Inv-loop
-    μ-loop
-    loop-holds
-    shared-slice-read-put
-    put-requires
-    add-i
-    loop-less
+    tie.close (tie.spec Inv-loop μ-loop
+    (λ c. (refl, omega arith, none))  -- loop-holds
+    (λ c. search needs)  -- shared-slice-read-put
+    (λ c κs. search needs)  -- put-requires
+    (λ c. search needs)  -- add-i
+    (λ c. search needs)  -- loop-less
     loop-again
-    same-length
+    (λ c. long (c .before .loop .inv .2))  -- same-length
     returns)

@@ -7,7 +7,9 @@ use Rattle.vectors.proofs.factorisation.Statement.{statement}
 use Rattle.vectors.proofs.factorisation.Tie as tie
 
 mul-numbers : tie.Need-mul-numbers
-mul-numbers c = omega (arith, mul-le-mul (c .before .before .before .before .before .pre .0 .1) (c .before .before .before .before .before .pre .0 .1))
+mul-numbers c =
+    let pre = c .before .before .before .before .before .pre in
+    omega (arith, mul-le-mul (pre .0 .1) (pre .0 .1))
 
 numbers-requires : tie.Need-numbers-requires
 numbers-requires c κs =
@@ -23,7 +25,8 @@ mul-numbers-2 c =
     omega (arith, mul-le-mul (pre .0 .1) (pre .0 .1))
 
 add-numbers : tie.Need-add-numbers
-add-numbers c = let pre = c .before .before .before .before .before .before .before .before .pre in omega (arith, mul-le-mul (pre .0 .1) (pre .0 .1))
+add-numbers c =
+    let pre = c .before .before .before .before .before .before .before .before .pre in omega (arith, mul-le-mul (pre .0 .1) (pre .0 .1))
 
 numbers-requires-2 : tie.Need-numbers-requires-2
 numbers-requires-2 c κs =
@@ -36,113 +39,132 @@ numbers-requires-2 c κs =
 cholesky-requires : tie.Need-cholesky-requires
 cholesky-requires c κs =
     let pre = c .before .before .before .before .before .before .before .before .before .before .before .before .before .pre in
-    dense _ _ _ (omega (arith, c .before .before .before .before .before .before .before .numbers .kept .1 .1 .0, mul-le-mul (pre .0 .1) (pre .0 .1), pre .1 .0, pre .1 .1, pre .1 .2))
-
-enum-told : tie.Need-enum-told
-enum-told c = search needs
-
-slice-aggregate-write-all : tie.Need-slice-aggregate-write-all
-slice-aggregate-write-all c = search needs
-
-write-all-requires : tie.Need-write-all-requires
-write-all-requires c κs = search needs
-
-enum-told-2 : tie.Need-enum-told-2
-enum-told-2 c = search needs
-
-slice-aggregate-write-all-2 : tie.Need-slice-aggregate-write-all-2
-slice-aggregate-write-all-2 c = search needs
-
-write-all-requires-2 : tie.Need-write-all-requires-2
-write-all-requires-2 c κs = search needs
+    dense _ _ _ (omega (
+      arith,
+      c .before .before .before .before .before .before .before .numbers .kept .1 .1 .0,
+      mul-le-mul (pre .0 .1) (pre .0 .1),
+      pre .1 .0,
+      pre .1 .1,
+      pre .1 .2,
+    ))
 
 solve-requires : tie.Need-solve-requires
 solve-requires c κs =
-    let pre = c .before .before .before .before .before .before .before .before .before .before .before .before .before .before .before .before .before .before .before .before .before .before .pre in (
-      dense _ _ _ (omega (arith, c .before .before .before .before .before .before .before .before .cholesky .kept .0, c .before .before .before .before .before .before .before .before .before .before .before .before .before .before .before .before .numbers .kept .1 .1 .0, mul-le-mul (pre .0 .1) (pre .0 .1), pre .1 .0, pre .1 .1, pre .1 .2)),
-      λ i h. omega (arith, c .before .before .before .before .before .before .before .before .before .before .before .before .numbers2 .kept .1 .1 .0, mul-le-mul (pre .0 .1) (pre .0 .1), pre .1 .0, pre .1 .1, pre .1 .2),
+    let pre = c .before .before .before .before .before .before .before .before .before .before .before .before .before .before .before .before
+    .before .before .before .before .before .before .pre in (
+      dense _ _ _ (omega (
+        arith,
+        c .before .before .before .before .before .before .before .before .cholesky .kept .0,
+        c .before .before .before .before .before .before .before .before .before .before .before .before .before .before .before .before .numbers
+            .kept .1 .1 .0,
+        mul-le-mul (pre .0 .1) (pre .0 .1),
+        pre .1 .0,
+        pre .1 .1,
+        pre .1 .2,
+      )),
+      λ i h. omega (
+        arith,
+        c .before .before .before .before .before .before .before .before .before .before .before .before .numbers2 .kept .1 .1 .0,
+        mul-le-mul (pre .0 .1) (pre .0 .1),
+        pre .1 .0,
+        pre .1 .1,
+        pre .1 .2,
+      ),
     )
 
 inverse-requires : tie.Need-inverse-requires
 inverse-requires c κs =
-    let pre = c .before .before .before .before .before .before .before .before .before .before .before .before .before .before .before .before .before .before .before .before .before .before .before .before .before .before .before .pre in (
-      dense _ _ _ (omega (arith, c .before .before .before .before .before .before .before .before .before .before .before .before .before .cholesky .kept .0, c .before .before .before .before .before .before .before .before .before .before .before .before .before .before .before .before .before .before .before .before .before .numbers .kept .1 .1 .0, mul-le-mul (pre .0 .1) (pre .0 .1), pre .1 .0, pre .1 .1, pre .1 .2)),
+    let pre = c .before .before .before .before .before .before .before .before .before .before .before .before .before .before .before .before
+    .before .before .before .before .before .before .before .before .before .before .before .pre in (
+      dense _ _ _ (omega (
+        arith,
+        c .before .before .before .before .before .before .before .before .before .before .before .before .before .cholesky
+            .kept .0,
+        c .before .before .before .before .before .before .before .before .before .before .before .before .before .before .before .before
+            .before .before .before .before .before .numbers .kept .1 .1 .0,
+        mul-le-mul (pre .0 .1) (pre .0 .1),
+        pre .1 .0,
+        pre .1 .1,
+        pre .1 .2,
+      )),
       dense _ _ _ (omega (arith, mul-le-mul (pre .0 .1) (pre .0 .1), pre .1 .0, pre .1 .1, pre .1 .2)),
     )
 
 mul-print-all : tie.Need-mul-print-all
 mul-print-all c =
-    let pre = c .before .before .before .before .before .before .before .before .before .before .before .before .before .before .before .before .before .before .before .before .before .before .before .before .before .before .before .before .before .before .before .pre in
+    let pre = c .before .before .before .before .before .before .before .before .before .before .before .before .before .before .before .before
+    .before .before .before .before .before .before .before .before .before .before .before .before .before .before .before .pre in
     omega (arith, mul-le-mul (pre .0 .1) (pre .0 .1))
 
 print-all-requires : tie.Need-print-all-requires
 print-all-requires c κs =
-    let pre = c .before .before .before .before .before .before .before .before .before .before .before .before .before .before .before .before .before .before .before .before .before .before .before .before .before .before .before .before .before .before .before .pre in
-    omega (arith, c .before .before .before .before .before .before .before .before .before .before .before .before .before .before .before .before .before .cholesky .kept .0, c .before .before .before .before .before .before .before .before .before .before .before .before .before .before .before .before .before .before .before .before .before .before .before .before .before .numbers .kept .1 .1 .0, mul-le-mul (pre .0 .1) (pre .0 .1), pre .1 .0, pre .1 .1, pre .1 .2)
+    let pre = c .before .before .before .before .before .before .before .before .before .before .before .before .before .before .before .before
+    .before .before .before .before .before .before .before .before .before .before .before .before .before .before .before .pre in
+    omega (
+      arith,
+      c .before .before .before .before .before .before .before .before .before .before .before .before .before .before .before .before
+          .before .cholesky .kept .0,
+      c .before .before .before .before .before .before .before .before .before .before .before .before .before .before
+          .before .before .before .before .before .before .before .before .before .before .before .numbers .kept .1 .1 .0,
+      mul-le-mul (pre .0 .1)
+          (pre .0 .1),
+      pre .1 .0,
+      pre .1 .1,
+      pre .1 .2,
+    )
 
 print-all-requires-2 : tie.Need-print-all-requires-2
 print-all-requires-2 c κs =
-    let pre = c .before .before .before .before .before .before .before .before .before .before .before .before .before .before .before .before .before .before .before .before .before .before .before .before .before .before .before .before .before .before .before .before .before .pre in
-    omega (arith, pre .0 .1, c .before .before .before .before .before .before .before .before .before .before .solve .kept .1 .1 .1 .0, c .before .before .before .before .before .before .before .before .before .before .before .before .before .before .before .before .before .before .before .before .before .before .before .numbers2 .kept .1 .1 .0, mul-le-mul (pre .0 .1) (pre .0 .1), pre .1 .0, pre .1 .1, pre .1 .2)
+    let pre = c .before .before .before .before .before .before .before .before .before .before .before .before .before .before .before .before
+    .before .before .before .before .before .before .before .before .before .before .before .before .before .before .before .before .before .pre in
+    omega (
+      arith,
+      pre .0 .1,
+      c .before .before .before .before .before .before .before .before .before .before .solve .kept .1 .1 .1 .0,
+      c .before .before .before .before .before .before .before .before .before .before .before .before .before .before .before .before .before
+          .before .before .before .before .before .before .numbers2 .kept .1 .1 .0,
+      mul-le-mul (pre .0 .1) (pre .0 .1),
+      pre .1 .0,
+      pre .1 .1,
+      pre .1 .2,
+    )
 
 mul-print-all-2 : tie.Need-mul-print-all-2
 mul-print-all-2 c =
-    let pre = c .before .before .before .before .before .before .before .before .before .before .before .before .before .before .before .before .before .before .before .before .before .before .before .before .before .before .before .before .before .before .before .before .before .before .before .pre in
+    let pre = c .before .before .before .before .before .before .before .before .before .before .before .before .before .before .before .before
+    .before .before .before .before .before .before .before .before .before .before .before .before .before .before .before .before .before .before
+    .before .pre in
     omega (arith, mul-le-mul (pre .0 .1) (pre .0 .1))
 
 print-all-requires-3 : tie.Need-print-all-requires-3
 print-all-requires-3 c κs =
-    let pre = c .before .before .before .before .before .before .before .before .before .before .before .before .before .before .before .before .before .before .before .before .before .before .before .before .before .before .before .before .before .before .before .before .before .before .before .pre in
-    omega (arith, c .before .before .before .before .before .before .before .inverse .kept .1 .1 .1 .0, mul-le-mul (pre .0 .1) (pre .0 .1), pre .1 .0, pre .1 .1, pre .1 .2)
-
-same-length : tie.Need-same-length
-same-length c = search needs
-
-same-length-2 : tie.Need-same-length-2
-same-length-2 c = search needs
-
-returns : tie.Need-returns
-returns c = search needs
-
-same-length-3 : tie.Need-same-length-3
-same-length-3 c = search needs
-
-same-length-4 : tie.Need-same-length-4
-same-length-4 c = search needs
-
-same-length-5 : tie.Need-same-length-5
-same-length-5 c = search needs
-
-returns-2 : tie.Need-returns-2
-returns-2 c = search needs
+    let pre = c .before .before .before .before .before .before .before .before .before .before .before .before .before .before .before .before
+    .before .before .before .before .before .before .before .before .before .before .before .before .before .before .before .before .before .before
+    .before .pre in
+    omega (
+      arith,
+      c .before .before .before .before .before .before .before .inverse .kept .1 .1 .1 .0,
+      mul-le-mul (pre .0 .1) (pre .0 .1),
+      pre .1 .0,
+      pre .1 .1,
+      pre .1 .2,
+    )
 
 pub factorisation-spec : {M : Type 1} → statement M
 factorisation-spec =
-    tie.close
-    (tie.spec
-    mul-numbers
-    numbers-requires
-    mul-numbers-2
-    add-numbers
-    numbers-requires-2
-    cholesky-requires
-    enum-told
-    slice-aggregate-write-all
-    write-all-requires
-    enum-told-2
-    slice-aggregate-write-all-2
-    write-all-requires-2
-    solve-requires
-    inverse-requires
-    mul-print-all
-    print-all-requires
-    print-all-requires-2
-    mul-print-all-2
+    tie.close (tie.spec mul-numbers numbers-requires mul-numbers-2 add-numbers numbers-requires-2 cholesky-requires
+    (λ c. search needs)  -- enum-told
+    (λ c. search needs)  -- slice-aggregate-write-all
+    (λ c κs. search needs)  -- write-all-requires
+    (λ c. search needs)  -- enum-told-2
+    (λ c. search needs)  -- slice-aggregate-write-all-2
+    (λ c κs. search needs)  -- write-all-requires-2
+    solve-requires inverse-requires mul-print-all print-all-requires print-all-requires-2 mul-print-all-2
     print-all-requires-3
-    same-length
-    same-length-2
-    returns
-    same-length-3
-    same-length-4
-    same-length-5
-    returns-2)
+    (λ c. search needs)  -- same-length
+    (λ c. search needs)  -- same-length-2
+    (λ c. search needs)  -- returns
+    (λ c. search needs)  -- same-length-3
+    (λ c. search needs)  -- same-length-4
+    (λ c. search needs)  -- same-length-5
+    (λ c. search needs))  -- returns-2

@@ -12,35 +12,16 @@ Inv-loop text from end at₀ at = at ≤ 8192
 abbrev μ-loop : tie.MeasureT-loop
 μ-loop text from end at₀ at = 8192 - at
 
-loop-holds : tie.Need-loop-holds Inv-loop μ-loop
-loop-holds c = omega arith
-
-word-requires : tie.Need-word-requires Inv-loop μ-loop
-word-requires c κs = omega arith
-
-least-requires : tie.Need-least-requires Inv-loop μ-loop
-least-requires c κs = search needs
-
-add-factorisation : tie.Need-add-factorisation Inv-loop μ-loop
-add-factorisation c = omega arith
-
-slice-aggregate-factorisation : tie.Need-slice-aggregate-factorisation Inv-loop μ-loop
-slice-aggregate-factorisation c = search needs
-
-slice-aggregate-factorisation-2 : tie.Need-slice-aggregate-factorisation-2 Inv-loop μ-loop
-slice-aggregate-factorisation-2 c = search needs
-
-slice-aggregate-factorisation-3 : tie.Need-slice-aggregate-factorisation-3 Inv-loop μ-loop
-slice-aggregate-factorisation-3 c = search needs
-
 factorisation-requires : tie.Need-factorisation-requires Inv-loop μ-loop
 factorisation-requires c κs = ((omega arith, c .before .before .before .least .ensures), (omega arith, omega arith, omega arith))
 
 mul-at : tie.Need-mul-at Inv-loop μ-loop
-mul-at c = let least = c .before .before .before .before .before .before .before .least in omega (arith, mul-le-mul (least .ensures) (least .ensures))
+mul-at c =
+    let least = c .before .before .before .before .before .before .before .least in omega (arith, mul-le-mul (least .ensures) (least .ensures))
 
 add-at : tie.Need-add-at Inv-loop μ-loop
-add-at c = let least = c .before .before .before .before .before .before .before .least in omega (arith, mul-le-mul (least .ensures) (least .ensures))
+add-at c =
+    let least = c .before .before .before .before .before .before .before .least in omega (arith, mul-le-mul (least .ensures) (least .ensures))
 
 add-at-2 : tie.Need-add-at-2 Inv-loop μ-loop
 add-at-2 c =
@@ -52,35 +33,22 @@ add-at-3 c =
     let least = c .before .before .before .before .before .before .before .least in
     omega (arith, mul-le-mul (least .ensures) (least .ensures))
 
-loop-less : tie.Need-loop-less Inv-loop μ-loop
-loop-less c = omega arith
-
 loop-again : tie.Need-loop-again Inv-loop μ-loop
 loop-again c =
     let least = c .before .before .before .before .before .before .before .least in
     omega (arith, mul-le-mul (least .ensures) (least .ensures))
 
-returns : tie.Need-returns Inv-loop μ-loop
-returns c = search needs
-
 pub factorisations-spec : {M : Type 1} → statement M
 factorisations-spec =
-    tie.close
-    (tie.spec
-    Inv-loop
-    μ-loop
-    loop-holds
-    word-requires
-    least-requires
-    add-factorisation
-    slice-aggregate-factorisation
-    slice-aggregate-factorisation-2
-    slice-aggregate-factorisation-3
-    factorisation-requires
-    mul-at
-    add-at
-    add-at-2
-    add-at-3
-    loop-less
+    tie.close (tie.spec Inv-loop μ-loop
+    (λ c. omega arith)  -- loop-holds
+    (λ c κs. omega arith)  -- word-requires
+    (λ c κs. search needs)  -- least-requires
+    (λ c. omega arith)  -- add-factorisation
+    (λ c. search needs)  -- slice-aggregate-factorisation
+    (λ c. search needs)  -- slice-aggregate-factorisation-2
+    (λ c. search needs)  -- slice-aggregate-factorisation-3
+    factorisation-requires mul-at add-at add-at-2 add-at-3
+    (λ c. omega arith)  -- loop-less
     loop-again
-    returns)
+    (λ c. search needs))  -- returns

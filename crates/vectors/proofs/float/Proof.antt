@@ -11,14 +11,12 @@ use borrow.Author.Needs.{needs}
 use Rattle.vectors.proofs.float.Statement.{statement}
 use Rattle.vectors.proofs.float.Tie as tie
 
-returns : tie.Need-returns
-returns c = search needs
-
 float-from-bits-result : tie.Need-float-from-bits-result
-float-from-bits-result c = subst (λ (z : Bool). T (not z)) (sym (nanBits-above binary64 (c .before .args .bits))) (le→nltb (2047 * 2 ^ 52) (c .before .args .bits % 2 ^ 63) (omega arith))
-
-returns-2 : tie.Need-returns-2
-returns-2 c = search needs
+float-from-bits-result c = subst (λ (z : Bool). T (not z)) (sym (nanBits-above binary64 (c .before .args .bits)))
+    (le→nltb (2047 * 2 ^ 52) (c .before .args .bits % 2 ^ 63) (omega arith))
 
 pub float-spec : {M : Type 1} → statement M
-float-spec = tie.close (tie.spec returns float-from-bits-result returns-2)
+float-spec = tie.close (tie.spec
+    (λ c. search needs)  -- returns
+    float-from-bits-result
+    (λ c. search needs))  -- returns-2

@@ -17,39 +17,21 @@ Inv-loop to₀ from i₀ i-end to i =
 abbrev μ-loop : tie.MeasureT-loop
 μ-loop to₀ from i₀ i-end to i = i-end - i
 
-loop-holds : tie.Need-loop-holds Inv-loop μ-loop
-loop-holds c = (omega arith, refl, refl, λ k h. absurd (omega arith))
-
-mul-to : tie.Need-mul-to Inv-loop μ-loop
-mul-to c = omega arith
-
-shared-slice-read-to : tie.Need-shared-slice-read-to Inv-loop μ-loop
-shared-slice-read-to c = omega arith
-
-mul-to-2 : tie.Need-mul-to-2 Inv-loop μ-loop
-mul-to-2 c = omega arith
-
-slice-write-to : tie.Need-slice-write-to Inv-loop μ-loop
-slice-write-to c = omega arith
-
-add-i : tie.Need-add-i Inv-loop μ-loop
-add-i c = omega arith
-
-loop-less : tie.Need-loop-less Inv-loop μ-loop
-loop-less c = omega arith
-
 loop-again : tie.Need-loop-again Inv-loop μ-loop
 loop-again c =
     let l = c .before .before .loop in
     (omega arith, omega arith, simp length-set (omega arith), copied-more (l .to) (c .before .before .before .args .from .now) (l .i) (omega arith) (l .inv .3))
 
-same-length : tie.Need-same-length Inv-loop μ-loop
-same-length c = search needs
-
-returns : tie.Need-returns Inv-loop μ-loop
-returns c = ext-getD nan _ _ (omega arith) (λ k h. c .before .loop .inv .3 k (omega arith))
-
 pub copy-spec : {M : Type 1} → statement M
 copy-spec =
-    tie.close
-    (tie.spec Inv-loop μ-loop loop-holds mul-to shared-slice-read-to mul-to-2 slice-write-to add-i loop-less loop-again same-length returns)
+    tie.close (tie.spec Inv-loop μ-loop
+    (λ c. (omega arith, refl, refl, λ k h. absurd (omega arith)))  -- loop-holds
+    (λ c. omega arith)  -- mul-to
+    (λ c. omega arith)  -- shared-slice-read-to
+    (λ c. omega arith)  -- mul-to-2
+    (λ c. omega arith)  -- slice-write-to
+    (λ c. omega arith)  -- add-i
+    (λ c. omega arith)  -- loop-less
+    loop-again
+    (λ c. search needs)  -- same-length
+    (λ c. ext-getD nan _ _ (omega arith) (λ k h. c .before .loop .inv .3 k (omega arith))))  -- returns

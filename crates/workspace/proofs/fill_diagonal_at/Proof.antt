@@ -9,29 +9,27 @@ use Rattle.workspace.proofs.Cuts.{bounds, long, at-part}
 use Rattle.workspace.proofs.fill_diagonal_at.Statement.{statement}
 use Rattle.workspace.proofs.fill_diagonal_at.Tie as tie
 
-mul-fill-diagonal : tie.Need-mul-fill-diagonal
-mul-fill-diagonal c = let b = bounds (c .before .pre .0) A in omega arith
-
-sub-fill-diagonal : tie.Need-sub-fill-diagonal
-sub-fill-diagonal c = let b = bounds (c .before .pre .0) A in omega arith
-
-part-fill-diagonal-start : tie.Need-part-fill-diagonal-start
-part-fill-diagonal-start c = let b = bounds (c .before .pre .0) A in omega arith
-
-part-fill-diagonal-end : tie.Need-part-fill-diagonal-end
-part-fill-diagonal-end c = let b = bounds (c .before .pre .0) A in omega arith
-
 fill-diagonal-requires : tie.Need-fill-diagonal-requires
-fill-diagonal-requires c κs = λ i hi. within (long (c .before .before .args .f) (c .before .before .args .work .now) (c .before .before .pre .0) A _ _ refl refl) (c .before .before .pre .1 i i hi hi)
-
-same-length : tie.Need-same-length
-same-length c = search needs
+fill-diagonal-requires c κs =
+    let args = c .before .before .args in
+    let pre = c .before .before .pre in
+    λ i hi. within (long (args .f) (args .work .now) (pre .0) A _ _ refl refl) (pre .1 i i hi hi)
 
 returns : tie.Need-returns
 unfolding ofBits
-returns c = at-part (c .before .before .before .before .before .args .f) (c .before .before .before .before .before .args .work .now) _ A _ _ _ (c .before .before .before .before .before .pre .0) refl refl (c .before .before .fill-diagonal .kept .0) (c .before .before .fill-diagonal .ensures)
+returns c =
+    let entry = c .before .before .before .before .before in
+    let args = entry .args in
+    let fill-diagonal = c .before .before .fill-diagonal in
+    at-part (args .f) (args .work .now) _ A _ _ _ (entry .pre .0) refl refl (fill-diagonal .kept .0) (fill-diagonal .ensures)
 
 pub fill-diagonal-at-spec : {M : Type 1} → statement M
 fill-diagonal-at-spec =
-    tie.close
-    (tie.spec mul-fill-diagonal sub-fill-diagonal part-fill-diagonal-start part-fill-diagonal-end fill-diagonal-requires same-length returns)
+    tie.close (tie.spec
+    (λ c. let b = bounds (c .before .pre .0) A in omega arith)  -- mul-fill-diagonal
+    (λ c. let b = bounds (c .before .pre .0) A in omega arith)  -- sub-fill-diagonal
+    (λ c. let b = bounds (c .before .pre .0) A in omega arith)  -- part-fill-diagonal-start
+    (λ c. let b = bounds (c .before .pre .0) A in omega arith)  -- part-fill-diagonal-end
+    fill-diagonal-requires
+    (λ c. search needs)  -- same-length
+    returns)

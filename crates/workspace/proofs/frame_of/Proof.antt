@@ -7,31 +7,85 @@ use Rattle.workspace.proofs.frame_of.Statement.{statement}
 use Rattle.workspace.proofs.frame_of.Tie as tie
 
 mul-h : tie.Need-mul-h
-mul-h c = omega (arith, mul-le-mul (c .pre .0) (c .pre .0), mul-le-mul (c .pre .0) (c .pre .1), mul-le-mul (c .pre .1) (c .pre .2), mul-le-mul (c .pre .1) (c .pre .1))
+mul-h c = omega (
+  arith,
+  mul-le-mul (c .pre .0) (c .pre .0),
+  mul-le-mul (c .pre .0) (c .pre .1),
+  mul-le-mul (c .pre .1) (c .pre .2),
+  mul-le-mul (c .pre .1) (c .pre .1),
+)
 
 add-g : tie.Need-add-g
-add-g c = omega (arith, mul-le-mul (c .pre .0) (c .pre .0), mul-le-mul (c .pre .0) (c .pre .1), mul-le-mul (c .pre .1) (c .pre .2), mul-le-mul (c .pre .1) (c .pre .1))
+add-g c = omega (
+  arith,
+  mul-le-mul (c .pre .0) (c .pre .0),
+  mul-le-mul (c .pre .0) (c .pre .1),
+  mul-le-mul (c .pre .1) (c .pre .2),
+  mul-le-mul (c .pre .1) (c .pre .1),
+)
 
 mul-a : tie.Need-mul-a
-mul-a c = omega (arith, mul-le-mul (c .pre .0) (c .pre .0), mul-le-mul (c .pre .0) (c .pre .1), mul-le-mul (c .pre .1) (c .pre .2), mul-le-mul (c .pre .1) (c .pre .1))
+mul-a c = omega (
+  arith,
+  mul-le-mul (c .pre .0) (c .pre .0),
+  mul-le-mul (c .pre .0) (c .pre .1),
+  mul-le-mul (c .pre .1) (c .pre .2),
+  mul-le-mul (c .pre .1) (c .pre .1),
+)
 
 add-a : tie.Need-add-a
-add-a c = omega (arith, mul-le-mul (c .pre .0) (c .pre .0), mul-le-mul (c .pre .0) (c .pre .1), mul-le-mul (c .pre .1) (c .pre .2), mul-le-mul (c .pre .1) (c .pre .1))
+add-a c = omega (
+  arith,
+  mul-le-mul (c .pre .0) (c .pre .0),
+  mul-le-mul (c .pre .0) (c .pre .1),
+  mul-le-mul (c .pre .1) (c .pre .2),
+  mul-le-mul (c .pre .1) (c .pre .1),
+)
 
 mul-xi : tie.Need-mul-xi
-mul-xi c = omega (arith, mul-le-mul (c .pre .0) (c .pre .0), mul-le-mul (c .pre .0) (c .pre .1), mul-le-mul (c .pre .1) (c .pre .2), mul-le-mul (c .pre .1) (c .pre .1))
+mul-xi c = omega (
+  arith,
+  mul-le-mul (c .pre .0) (c .pre .0),
+  mul-le-mul (c .pre .0) (c .pre .1),
+  mul-le-mul (c .pre .1) (c .pre .2),
+  mul-le-mul (c .pre .1) (c .pre .1),
+)
 
 add-xi : tie.Need-add-xi
-add-xi c = omega (arith, mul-le-mul (c .pre .0) (c .pre .0), mul-le-mul (c .pre .0) (c .pre .1), mul-le-mul (c .pre .1) (c .pre .2), mul-le-mul (c .pre .1) (c .pre .1))
+add-xi c = omega (
+  arith,
+  mul-le-mul (c .pre .0) (c .pre .0),
+  mul-le-mul (c .pre .0) (c .pre .1),
+  mul-le-mul (c .pre .1) (c .pre .2),
+  mul-le-mul (c .pre .1) (c .pre .1),
+)
 
 add-w : tie.Need-add-w
-add-w c = omega (arith, mul-le-mul (c .pre .0) (c .pre .0), mul-le-mul (c .pre .0) (c .pre .1), mul-le-mul (c .pre .1) (c .pre .2), mul-le-mul (c .pre .1) (c .pre .1))
+add-w c = omega (
+  arith,
+  mul-le-mul (c .pre .0) (c .pre .0),
+  mul-le-mul (c .pre .0) (c .pre .1),
+  mul-le-mul (c .pre .1) (c .pre .2),
+  mul-le-mul (c .pre .1) (c .pre .1),
+)
 
 mul-t9 : tie.Need-mul-t9
-mul-t9 c = omega (arith, mul-le-mul (c .pre .0) (c .pre .0), mul-le-mul (c .pre .0) (c .pre .1), mul-le-mul (c .pre .1) (c .pre .2), mul-le-mul (c .pre .1) (c .pre .1))
+mul-t9 c = omega (
+  arith,
+  mul-le-mul (c .pre .0) (c .pre .0),
+  mul-le-mul (c .pre .0) (c .pre .1),
+  mul-le-mul (c .pre .1) (c .pre .2),
+  mul-le-mul (c .pre .1) (c .pre .1),
+)
 
 add-t10 : tie.Need-add-t10
-add-t10 c = omega (arith, mul-le-mul (c .pre .0) (c .pre .0), mul-le-mul (c .pre .0) (c .pre .1), mul-le-mul (c .pre .1) (c .pre .2), mul-le-mul (c .pre .1) (c .pre .1))
+add-t10 c = omega (
+  arith,
+  mul-le-mul (c .pre .0) (c .pre .0),
+  mul-le-mul (c .pre .0) (c .pre .1),
+  mul-le-mul (c .pre .1) (c .pre .2),
+  mul-le-mul (c .pre .1) (c .pre .1),
+)
 
 returns : tie.Need-returns
 unfolding frameOf

@@ -7,25 +7,26 @@ use Rattle.workspace.proofs.InPlace.{solve-at-is}
 use Rattle.workspace.proofs.solve_at.Statement.{statement}
 use Rattle.workspace.proofs.solve_at.Tie as tie
 
-begin-requires : tie.Need-begin-requires
-begin-requires c κs = search needs
-
 solve-in-requires : tie.Need-solve-in-requires
 solve-in-requires c κs =
+    let pre = c .before .before .before .pre in
     let args = c .before .before .before .args in
-    let b = bounds (c .before .before .before .pre .0) (args .which) in (
+    let b = bounds (pre .0) (args .which) in (
       λ i j hi hj. dense _ _ _ (omega arith) i j hi hj,
-      λ i j hi hj. omega (arith, c .before .begin .ensures, dense (args .f .cleared) (args .m) _ (c .before .before .before .pre .1 .1) i j hi hj),
+      λ i j hi hj. omega (arith, c .before .begin .ensures, dense (args .f .cleared) (args .m) _ (pre .1 .1) i j hi hj),
     )
-
-same-length : tie.Need-same-length
-same-length c = search needs
 
 returns : tie.Need-returns
 returns c =
-    let args = c .before .before .before .before .before .before .args in
-    let pre = c .before .before .before .before .before .before .pre in
-    solve-at-is (args .f) (args .work .now) _ (args .which) _ _ (pre .0) (pre .1 .0) (pre .1 .1) (c .before .before .before .before .begin .ensures) (c .before .before .solve-in .ensures)
+    let entry = c .before .before .before .before .before .before in
+    let args = entry .args in
+    let pre = entry .pre in
+    solve-at-is (args .f) (args .work .now) _ (args .which) _ _ (pre .0) (pre .1 .0) (pre .1 .1) (c .before .before .before .before .begin .ensures)
+    (c .before .before .solve-in .ensures)
 
 pub solve-at-spec : {M : Type 1} → statement M
-solve-at-spec = tie.close (tie.spec begin-requires solve-in-requires same-length returns)
+solve-at-spec = tie.close (tie.spec
+    (λ c κs. search needs)  -- begin-requires
+    solve-in-requires
+    (λ c. search needs)  -- same-length
+    returns)

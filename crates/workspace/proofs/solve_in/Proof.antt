@@ -22,37 +22,22 @@ unfolding solvedIn sweep
 loop-holds c = (omega arith, refl, refl)
 
 solve-lower-in-requires : tie.Need-solve-lower-in-requires Inv-loop μ-loop
-solve-lower-in-requires c κs = (
-  λ i k hi hk. within (c .before .before .loop .inv .1) (c .before .before .before .before .pre .0 i k hi hk),
-  λ i h. within (c .before .before .loop .inv .1) (c .before .before .before .before .pre .1 i _ h (c .before .loop-test .taken)),
-)
-
-add-j : tie.Need-add-j Inv-loop μ-loop
-add-j c = omega arith
-
-loop-less : tie.Need-loop-less Inv-loop μ-loop
-loop-less c = omega arith
+solve-lower-in-requires c κs =
+    let pre = c .before .before .before .before .pre in
+    let loop = c .before .before .loop in (
+      λ i k hi hk. within (loop .inv .1) (pre .0 i k hi hk),
+      λ i h. within (loop .inv .1) (pre .1 i _ h (c .before .loop-test .taken)),
+    )
 
 loop-again : tie.Need-loop-again Inv-loop μ-loop
 unfolding solvedIn sweep
 loop-again c = (omega arith, omega (arith, c .before .before .solve-lower-in .kept .0), rw add-one (cc))
 
-same-length : tie.Need-same-length Inv-loop μ-loop
-same-length c = search needs
-
-returns : tie.Need-returns Inv-loop μ-loop
-returns c = let e : c .before .loop .j ≡ c .before .before .before .args .m = omega arith in cc
-
 pub solve-in-spec : {M : Type 1} → statement M
 solve-in-spec =
-    tie.close
-    (tie.spec
-    Inv-loop
-    μ-loop
-    loop-holds
-    solve-lower-in-requires
-    add-j
-    loop-less
+    tie.close (tie.spec Inv-loop μ-loop loop-holds solve-lower-in-requires
+    (λ c. omega arith)  -- add-j
+    (λ c. omega arith)  -- loop-less
     loop-again
-    same-length
-    returns)
+    (λ c. search needs)  -- same-length
+    (λ c. let e : c .before .loop .j ≡ c .before .before .before .args .m = omega arith in cc))  -- returns

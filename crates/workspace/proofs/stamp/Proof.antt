@@ -22,37 +22,25 @@ unfolding stamp block sweep
 loop-holds c = (omega arith, refl, refl)
 
 stamp-column-requires : tie.Need-stamp-column-requires Inv-loop μ-loop
-stamp-column-requires c κs = (
-  λ i h. within (c .before .before .loop .inv .1) (c .before .before .before .before .before .pre .0 i _ h (c .before .loop-test .taken)),
-  λ i h. c .before .before .before .before .before .pre .1 i _ h (c .before .loop-test .taken),
-)
-
-add-j : tie.Need-add-j Inv-loop μ-loop
-add-j c = omega arith
-
-loop-less : tie.Need-loop-less Inv-loop μ-loop
-loop-less c = omega arith
+stamp-column-requires c κs =
+    let pre = c .before .before .before .before .before .pre in (
+      λ i h. within (c .before .before .loop .inv .1) (pre .0 i _ h (c .before .loop-test .taken)),
+      λ i h. pre .1 i _ h (c .before .loop-test .taken),
+    )
 
 loop-again : tie.Need-loop-again Inv-loop μ-loop
 unfolding stamp block sweep
 loop-again c = (omega arith, omega (arith, c .before .before .stamp-column .kept .0), rw add-one (cc))
 
-same-length : tie.Need-same-length Inv-loop μ-loop
-same-length c = search needs
-
 returns : tie.Need-returns Inv-loop μ-loop
-returns c = let e : c .before .loop .j ≡ c .before .before .before .before .args .n = omega arith in cc
+returns c =
+    let e : c .before .loop .j ≡ c .before .before .before .before .args .n = omega arith in cc
 
 pub stamp-spec : {M : Type 1} → statement M
 stamp-spec =
-    tie.close
-    (tie.spec
-    Inv-loop
-    μ-loop
-    loop-holds
-    stamp-column-requires
-    add-j
-    loop-less
+    tie.close (tie.spec Inv-loop μ-loop loop-holds stamp-column-requires
+    (λ c. omega arith)  -- add-j
+    (λ c. omega arith)  -- loop-less
     loop-again
-    same-length
+    (λ c. search needs)  -- same-length
     returns)

@@ -21,47 +21,31 @@ loop-holds : tie.Need-loop-holds Inv-loop μ-loop
 unfolding blockColumn steps
 loop-holds c = (omega arith, refl, refl)
 
-get-requires : tie.Need-get-requires Inv-loop μ-loop
-get-requires c κs = c .before .before .before .before .pre .1 _ (c .loop-test .taken)
-
 get-requires-2 : tie.Need-get-requires-2 Inv-loop μ-loop
-get-requires-2 c κs = within (c .before .before .before .loop .inv .1) (c .before .before .before .before .before .before .pre .0 _ (c .before .before .loop-test .taken))
-
-updated-requires : tie.Need-updated-requires Inv-loop μ-loop
-updated-requires c κs = tt
+get-requires-2 c κs = within (c .before .before .before .loop .inv .1)
+    (c .before .before .before .before .before .before .pre .0 _ (c .before .before .loop-test .taken))
 
 put-requires : tie.Need-put-requires Inv-loop μ-loop
-put-requires c κs = within (c .before .before .before .before .before .before .loop .inv .1) (c .before .before .before .before .before .before .before .before .before .pre .0 _ (c .before .before .before .before .before .loop-test .taken))
-
-add-i : tie.Need-add-i Inv-loop μ-loop
-add-i c = omega arith
-
-loop-less : tie.Need-loop-less Inv-loop μ-loop
-loop-less c = omega arith
+put-requires c κs = within (c .before .before .before .before .before .before .loop .inv .1)
+    (c .before .before .before .before .before .before .before .before .before .pre .0 _ (c .before .before .before .before .before .loop-test .taken))
 
 loop-again : tie.Need-loop-again Inv-loop μ-loop
 unfolding blockColumn steps
 loop-again c = (omega arith, omega (arith, c .before .before .put .kept .0), rw add-one (cc))
 
-same-length : tie.Need-same-length Inv-loop μ-loop
-same-length c = search needs
-
 returns : tie.Need-returns Inv-loop μ-loop
-returns c = let e : c .before .loop .i ≡ c .before .before .before .before .args .m = omega arith in cc
+returns c =
+    let e : c .before .loop .i ≡ c .before .before .before .before .args .m = omega arith in cc
 
 pub stamp-column-spec : {M : Type 1} → statement M
 stamp-column-spec =
-    tie.close
-    (tie.spec
-    Inv-loop
-    μ-loop
-    loop-holds
-    get-requires
+    tie.close (tie.spec Inv-loop μ-loop loop-holds
+    (λ c κs. c .before .before .before .before .pre .1 _ (c .loop-test .taken))  -- get-requires
     get-requires-2
-    updated-requires
+    (λ c κs. tt)  -- updated-requires
     put-requires
-    add-i
-    loop-less
+    (λ c. omega arith)  -- add-i
+    (λ c. omega arith)  -- loop-less
     loop-again
-    same-length
+    (λ c. search needs)  -- same-length
     returns)

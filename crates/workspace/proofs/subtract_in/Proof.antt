@@ -23,37 +23,21 @@ loop-holds c = (omega arith, refl, refl)
 
 subtract-column-in-requires : tie.Need-subtract-column-in-requires Inv-loop μ-loop
 subtract-column-in-requires c κs =
+    let loop = c .before .before .loop in
     let pre = c .before .before .before .before .pre in (
-      λ i h. within (c .before .before .loop .inv .1) (pre .0 i _ h (c .before .loop-test .taken)),
-      (λ i k hi hk. within (c .before .before .loop .inv .1) (pre .1 .0 i k hi hk), λ k h. within (c .before .before .loop .inv .1) (pre .1 .1 k _ h (c .before .loop-test .taken))),
+      λ i h. within (loop .inv .1) (pre .0 i _ h (c .before .loop-test .taken)),
+      (λ i k hi hk. within (loop .inv .1) (pre .1 .0 i k hi hk), λ k h. within (loop .inv .1) (pre .1 .1 k _ h (c .before .loop-test .taken))),
     )
-
-add-j : tie.Need-add-j Inv-loop μ-loop
-add-j c = omega arith
-
-loop-less : tie.Need-loop-less Inv-loop μ-loop
-loop-less c = omega arith
 
 loop-again : tie.Need-loop-again Inv-loop μ-loop
 unfolding subtractedIn sweep
 loop-again c = (omega arith, omega (arith, c .before .before .subtract-column-in .kept .0), rw add-one (cc))
 
-same-length : tie.Need-same-length Inv-loop μ-loop
-same-length c = search needs
-
-returns : tie.Need-returns Inv-loop μ-loop
-returns c = let e : c .before .loop .j ≡ c .before .before .before .args .w = omega arith in cc
-
 pub subtract-in-spec : {M : Type 1} → statement M
 subtract-in-spec =
-    tie.close
-    (tie.spec
-    Inv-loop
-    μ-loop
-    loop-holds
-    subtract-column-in-requires
-    add-j
-    loop-less
+    tie.close (tie.spec Inv-loop μ-loop loop-holds subtract-column-in-requires
+    (λ c. omega arith)  -- add-j
+    (λ c. omega arith)  -- loop-less
     loop-again
-    same-length
-    returns)
+    (λ c. search needs)  -- same-length
+    (λ c. let e : c .before .loop .j ≡ c .before .before .before .args .w = omega arith in cc))  -- returns

@@ -21,39 +21,17 @@ loop-holds : tie.Need-loop-holds Inv-loop μ-loop
 unfolding zeroed steps
 loop-holds c = (omega arith, refl, refl, refl)
 
-mul-c : tie.Need-mul-c Inv-loop μ-loop
-mul-c c = omega arith
-
-slice-write-c : tie.Need-slice-write-c Inv-loop μ-loop
-slice-write-c c = omega arith
-
-add-i : tie.Need-add-i Inv-loop μ-loop
-add-i c = omega arith
-
-loop-less : tie.Need-loop-less Inv-loop μ-loop
-loop-less c = omega arith
-
 loop-again : tie.Need-loop-again Inv-loop μ-loop
 unfolding zeroed steps ofBits
 loop-again c = (omega arith, omega arith, simp length-set (omega arith), rw add-one (cc))
 
-same-length : tie.Need-same-length Inv-loop μ-loop
-same-length c = search needs
-
-returns : tie.Need-returns Inv-loop μ-loop
-returns c = let e : c .before .loop .i ≡ length (c .before .before .args .c .now) = omega arith in cc
-
 pub zero-spec : {M : Type 1} → statement M
 zero-spec =
-    tie.close
-    (tie.spec
-    Inv-loop
-    μ-loop
-    loop-holds
-    mul-c
-    slice-write-c
-    add-i
-    loop-less
+    tie.close (tie.spec Inv-loop μ-loop loop-holds
+    (λ c. omega arith)  -- mul-c
+    (λ c. omega arith)  -- slice-write-c
+    (λ c. omega arith)  -- add-i
+    (λ c. omega arith)  -- loop-less
     loop-again
-    same-length
-    returns)
+    (λ c. search needs)  -- same-length
+    (λ c. let e : c .before .loop .i ≡ length (c .before .before .args .c .now) = omega arith in cc))  -- returns

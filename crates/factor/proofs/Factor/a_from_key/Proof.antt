@@ -25,87 +25,90 @@ module _ (found r : Found) (a : List Float) (e : r ≡ found) where
   present first size y rows b h = rw (h, sym e ∙ b)
 
 -- a block that is found ends within A
-end-fits : (sizes : List ℕ) (f : Factor) (key first size y len : ℕ) (r : Found) → r ≡ find sizes f key → r ≡ Block first size → y ≡ f .rows → width sizes f * f .rows ≤ len → first * y + size * y ≤ len
+end-fits : (sizes : List ℕ) (f : Factor) (key first size y len : ℕ) (r : Found) → r ≡ find sizes f key → r ≡ Block first size → y ≡ f .rows
+    → width sizes f * f .rows ≤ len → first * y + size * y ≤ len
 end-fits sizes f key first size y len r e b ey fit =
     let w : first + size ≤ width sizes f = found-ends sizes (f .keys) key (f .touched) first size (sym e ∙ b) in
     let m : (first + size) * f .rows ≤ width sizes f * f .rows = mul-le-mul-right (f .rows) w in
     rw ey (omega arith)
 
-find-requires : tie.Need-find-requires
-find-requires c κs = search needs
-
-enum-known-first : tie.Need-enum-known-first
-enum-known-first c = search needs
-
-enum-told : tie.Need-enum-told
-enum-told c = search needs
-
-sub-result : tie.Need-sub-result
-sub-result c = search needs
-
-part-result-start : tie.Need-part-result-start
-part-result-start c = search needs
-
-part-result-end : tie.Need-part-result-end
-part-result-end c = search needs
-
 returns : tie.Need-returns
-returns c = absent _ (c .before .before .before .find .result) _ (c .before .before .before .find .ensures) _ (c .before .enum-told .given .1)
-
-wide-requires : tie.Need-wide-requires
-wide-requires c κs = search needs
+returns c =
+    let the-find = c .before .before .before .find in
+    absent _ (the-find .result) _ (the-find .ensures) _ (c .before .enum-told .given .1)
 
 mul-start : tie.Need-mul-start
 mul-start c =
-    let args = c .before .before .before .before .before .before .args in
-    omega (arith, end-fits (args .sizes) (args .self) (args .key) _ _ (c .wide .result) (length (args .a .now)) (c .before .before .before .before .find .result) (c .before .before .before .before .find .ensures) (c .before .before .first .given .1) (c .wide .ensures) (c .before .before .before .before .before .before .pre .1))
+    let entry = c .before .before .before .before .before .before in
+    let the-find = c .before .before .before .before .find in
+    let args = entry .args in
+    omega (
+      arith,
+      end-fits (args .sizes) (args .self) (args .key) _ _ (c .wide .result) (length (args .a .now)) (the-find .result) (the-find .ensures)
+          (c .before .before .first .given .1) (c .wide .ensures) (entry .pre .1),
+    )
 
 mul-end : tie.Need-mul-end
 mul-end c =
-    let args = c .before .before .before .before .before .before .args in
-    omega (arith, end-fits (args .sizes) (args .self) (args .key) _ _ (c .wide .result) (length (args .a .now)) (c .before .before .before .before .find .result) (c .before .before .before .before .find .ensures) (c .before .before .first .given .1) (c .wide .ensures) (c .before .before .before .before .before .before .pre .1))
+    let entry = c .before .before .before .before .before .before in
+    let the-find = c .before .before .before .before .find in
+    let args = entry .args in
+    omega (
+      arith,
+      end-fits (args .sizes) (args .self) (args .key) _ _ (c .wide .result) (length (args .a .now)) (the-find .result) (the-find .ensures)
+          (c .before .before .first .given .1) (c .wide .ensures) (entry .pre .1),
+    )
 
 add-end : tie.Need-add-end
 add-end c =
-    let args = c .before .before .before .before .before .before .args in
-    omega (arith, end-fits (args .sizes) (args .self) (args .key) _ _ (c .wide .result) (length (args .a .now)) (c .before .before .before .before .find .result) (c .before .before .before .before .find .ensures) (c .before .before .first .given .1) (c .wide .ensures) (c .before .before .before .before .before .before .pre .1))
+    let entry = c .before .before .before .before .before .before in
+    let the-find = c .before .before .before .before .find in
+    let args = entry .args in
+    omega (
+      arith,
+      end-fits (args .sizes) (args .self) (args .key) _ _ (c .wide .result) (length (args .a .now)) (the-find .result) (the-find .ensures)
+          (c .before .before .first .given .1) (c .wide .ensures) (entry .pre .1),
+    )
 
 mul-result : tie.Need-mul-result
 mul-result c =
-    let args = c .before .before .before .before .before .before .args in
-    omega (arith, end-fits (args .sizes) (args .self) (args .key) _ _ (c .wide .result) (length (args .a .now)) (c .before .before .before .before .find .result) (c .before .before .before .before .find .ensures) (c .before .before .first .given .1) (c .wide .ensures) (c .before .before .before .before .before .before .pre .1))
-
-sub-result-2 : tie.Need-sub-result-2
-sub-result-2 c = search needs
-
-part-result-start-2 : tie.Need-part-result-start-2
-part-result-start-2 c = search needs
+    let entry = c .before .before .before .before .before .before in
+    let the-find = c .before .before .before .before .find in
+    let args = entry .args in
+    omega (
+      arith,
+      end-fits (args .sizes) (args .self) (args .key) _ _ (c .wide .result) (length (args .a .now)) (the-find .result) (the-find .ensures)
+          (c .before .before .first .given .1) (c .wide .ensures) (entry .pre .1),
+    )
 
 part-result-end-2 : tie.Need-part-result-end-2
 part-result-end-2 c =
-    let args = c .before .before .before .before .before .before .args in
-    omega (arith, end-fits (args .sizes) (args .self) (args .key) _ _ (c .wide .result) (length (args .a .now)) (c .before .before .before .before .find .result) (c .before .before .before .before .find .ensures) (c .before .before .first .given .1) (c .wide .ensures) (c .before .before .before .before .before .before .pre .1))
+    let entry = c .before .before .before .before .before .before in
+    let the-find = c .before .before .before .before .find in
+    let args = entry .args in
+    omega (
+      arith,
+      end-fits (args .sizes) (args .self) (args .key) _ _ (c .wide .result) (length (args .a .now)) (the-find .result) (the-find .ensures)
+          (c .before .before .first .given .1) (c .wide .ensures) (entry .pre .1),
+    )
 
 returns-2 : tie.Need-returns-2
-returns-2 c = present _ (c .before .before .before .before .before .find .result) _ (c .before .before .before .before .before .find .ensures) _ _ _ _ (c .before .before .before .first .given .1) (c .before .wide .ensures)
+returns-2 c =
+    let the-find = c .before .before .before .before .before .find in
+    present _ (the-find .result) _ (the-find .ensures) _ _ _ _ (c .before .before .before .first .given .1) (c .before .wide .ensures)
 
 pub a-from-key-spec : {M : Type 1} → statement M
 a-from-key-spec =
-    tie.close
-    (tie.spec
-    find-requires
-    enum-known-first
-    enum-told
-    sub-result
-    part-result-start
-    part-result-end
+    tie.close (tie.spec
+    (λ c κs. search needs)  -- find-requires
+    (λ c. search needs)  -- enum-known-first
+    (λ c. search needs)  -- enum-told
+    (λ c. search needs)  -- sub-result
+    (λ c. search needs)  -- part-result-start
+    (λ c. search needs)  -- part-result-end
     returns
-    wide-requires
-    mul-start
-    mul-end
-    add-end
-    mul-result
-    sub-result-2
-    part-result-start-2
-    part-result-end-2
-    returns-2)
+    (λ c κs. search needs)  -- wide-requires
+    mul-start mul-end add-end mul-result
+    (λ c. search needs)  -- sub-result-2
+    (λ c. search needs)  -- part-result-start-2
+    part-result-end-2 returns-2)

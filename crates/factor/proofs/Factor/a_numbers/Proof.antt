@@ -32,15 +32,6 @@ module _ (sizes : List ℕ) (f : Factor) where
   unfolding aNumbers
   of-observation p y d e w = rw (p, e, w)
 
-returns : tie.Need-returns
-returns c = (of-prior (c .before .args .sizes) (c .before .args .self) (c .if1 .taken), search needs)
-
-wide-requires : tie.Need-wide-requires
-wide-requires c κs = search needs
-
-width-requires : tie.Need-width-requires
-width-requires c κs = search needs
-
 mul-result : tie.Need-mul-result
 mul-result c =
     let b : c .before .before .before .args .self .rows < 256 = small (search needs) in
@@ -48,8 +39,17 @@ mul-result c =
 
 returns-2 : tie.Need-returns-2
 returns-2 c =
-    let b : c .before .before .before .args .self .rows < 256 = small (search needs) in
-    (of-observation (c .before .before .before .args .sizes) (c .before .before .before .args .self) (c .before .before .if1 .left) (c .before .wide .result) (c .width .result) (c .before .wide .ensures) (c .width .ensures .0), within (c .before .wide .result) (c .width .result) (omega (arith, c .before .wide .ensures)) (c .width .ensures .1))
+    let args = c .before .before .before .args in
+    let wide = c .before .wide in
+    let b : args .self .rows < 256 = small (search needs) in (
+      of-observation (args .sizes) (args .self) (c .before .before .if1 .left) (wide .result) (c .width .result) (wide .ensures)
+          (c .width .ensures .0),
+      within (wide .result) (c .width .result) (omega (arith, wide .ensures)) (c .width .ensures .1),
+    )
 
 pub a-numbers-spec : {M : Type 1} → statement M
-a-numbers-spec = tie.close (tie.spec returns wide-requires width-requires mul-result returns-2)
+a-numbers-spec = tie.close (tie.spec
+    (λ c. (of-prior (c .before .args .sizes) (c .before .args .self) (c .if1 .taken), search needs))  -- returns
+    (λ c κs. search needs)  -- wide-requires
+    (λ c κs. search needs)  -- width-requires
+    mul-result returns-2)

@@ -40,43 +40,30 @@ module _ (sizes : List ℕ) (variables : ℕ) (f : Factor) where
       unfolding fits every
       all-fit j e k = let t : all (λ i. keyFits variables f i) max-keys ≡ true = rw e at k in simp (le-leb _ _ few, rows, t)
 
-wide-requires : tie.Need-wide-requires Inv-loop μ-loop
-wide-requires c κs = search needs
-
 returns : tie.Need-returns Inv-loop μ-loop
-returns c = (
-  too-many (c .before .before .args .sizes) (c .before .before .args .variables) (c .before .before .args .self) (rw (c .before .wide .ensures) at (c .if1 .taken)),
-  search needs,
-)
-
-rows-fit-requires : tie.Need-rows-fit-requires Inv-loop μ-loop
-rows-fit-requires c κs = search needs
+returns c =
+    let args = c .before .before .args in (
+      too-many (args .sizes) (args .variables) (args .self) (rw (c .before .wide .ensures) at (c .if1 .taken)),
+      search needs,
+    )
 
 returns-2 : tie.Need-returns-2 Inv-loop μ-loop
 returns-2 c =
     let args = c .before .before .before .before .args in (
-      bad-rows (args .sizes) (args .variables) (args .self) (rw (c .before .before .before .wide .ensures) at (c .before .before .if1 .left)) (tells (c .before .rows-fit .ensures) (not-true _ (c .if2 .taken))),
+      bad-rows (args .sizes) (args .variables) (args .self) (rw (c .before .before .before .wide .ensures) at (c .before .before .if1 .left))
+          (tells (c .before .rows-fit .ensures) (not-true _ (c .if2 .taken))),
       search needs,
     )
-
-loop-holds : tie.Need-loop-holds Inv-loop μ-loop
-loop-holds c = (search needs, all-none _)
-
-key-fits-requires : tie.Need-key-fits-requires Inv-loop μ-loop
-key-fits-requires c κs = search needs
 
 returns-3 : tie.Need-returns-3 Inv-loop μ-loop
 returns-3 c =
     let args = c .before .before .before .before .before .before .before .before .args in (
-      bad-key (args .sizes) (args .variables) (args .self) (rw (c .before .before .before .before .before .before .before .wide .ensures) at (c .before .before .before .before .before .before .if1 .left)) (tells (c .before .before .before .before .before .rows-fit .ensures) (not-false _ (c .before .before .before .before .if2 .left))) (c .before .before .before .loop .place) (search needs) (tells (c .before .key-fits .ensures) (not-true _ (c .if3 .taken))),
+      bad-key (args .sizes) (args .variables) (args .self) (rw (c .before .before .before .before .before .before .before .wide .ensures) at
+          (c .before .before .before .before .before .before .if1 .left))
+          (tells (c .before .before .before .before .before .rows-fit .ensures) (not-false _ (c .before .before .before .before .if2 .left)))
+          (c .before .before .before .loop .place) (search needs) (tells (c .before .key-fits .ensures) (not-true _ (c .if3 .taken))),
       search needs,
     )
-
-add-place : tie.Need-add-place Inv-loop μ-loop
-add-place c = search needs
-
-loop-less : tie.Need-loop-less Inv-loop μ-loop
-loop-less c = search needs
 
 loop-again : tie.Need-loop-again Inv-loop μ-loop
 loop-again c = (search needs, all-more _ _ (c .before .before .before .loop .inv .1) (tells (c .before .key-fits .ensures) (not-false _ (c .if3 .left))))
@@ -84,24 +71,22 @@ loop-again c = (search needs, all-more _ _ (c .before .before .before .loop .inv
 returns-4 : tie.Need-returns-4 Inv-loop μ-loop
 returns-4 c =
     let args = c .before .before .before .before .before .before .args in (
-      all-fit (args .sizes) (args .variables) (args .self) (rw (c .before .before .before .before .before .wide .ensures) at (c .before .before .before .before .if1 .left)) (tells (c .before .before .before .rows-fit .ensures) (not-false _ (c .before .before .if2 .left))) (c .before .loop .place) (omega arith) (c .before .loop .inv .1),
+      all-fit (args .sizes) (args .variables) (args .self) (rw (c .before .before .before .before .before .wide .ensures) at
+          (c .before .before .before .before .if1 .left)) (tells (c .before .before .before .rows-fit .ensures)
+          (not-false _ (c .before .before .if2 .left))) (c .before .loop .place) (omega arith) (c .before .loop .inv .1),
       search needs,
     )
 
 pub fits-spec : {M : Type 1} → statement M
 fits-spec =
-    tie.close
-    (tie.spec
-    Inv-loop
-    μ-loop
-    wide-requires
+    tie.close (tie.spec Inv-loop μ-loop
+    (λ c κs. search needs)  -- wide-requires
     returns
-    rows-fit-requires
+    (λ c κs. search needs)  -- rows-fit-requires
     returns-2
-    loop-holds
-    key-fits-requires
+    (λ c. (search needs, all-none _))  -- loop-holds
+    (λ c κs. search needs)  -- key-fits-requires
     returns-3
-    add-place
-    loop-less
-    loop-again
-    returns-4)
+    (λ c. search needs)  -- add-place
+    (λ c. search needs)  -- loop-less
+    loop-again returns-4)

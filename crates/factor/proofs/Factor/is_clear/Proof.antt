@@ -31,24 +31,19 @@ returns-3 : tie.Need-returns-3 Inv-loop μ-loop
 unfolding isClear every
 returns-3 c = (simp (c .before .before .if1 .left, eq-eqb _ _ (c .before .if2 .left), ne-eqb _ _ (c .if3 .taken)), search needs)
 
-loop-holds : tie.Need-loop-holds Inv-loop μ-loop
-loop-holds c = (search needs, all-none _)
-
-element-copy-out-if4 : tie.Need-element-copy-out-if4 Inv-loop μ-loop
-element-copy-out-if4 c = search needs
-
 returns-4 : tie.Need-returns-4 Inv-loop μ-loop
 unfolding isClear every
 returns-4 c = (
-  simp (c .before .before .before .before .before .before .if1 .left, eq-eqb _ _ (c .before .before .before .before .before .if2 .left), eq-eqb _ _ (c .before .before .before .before .if3 .left), all-fail (λ j. eqb (keyAt (c .before .before .before .before .before .before .before .args .t1) j) 0) max-keys (c .before .before .before .loop .place) (search needs) (ne-eqb _ _ (c .if4 .taken))),
+  simp (
+    c .before .before .before .before .before .before .if1 .left,
+    eq-eqb _ _ (c .before .before .before .before .before .if2 .left),
+    eq-eqb _ _ (c .before .before .before .before .if3 .left),
+    all-fail
+        (λ j. eqb (keyAt (c .before .before .before .before .before .before .before .args .t1) j) 0) max-keys (c .before .before .before .loop .place)
+        (search needs) (ne-eqb _ _ (c .if4 .taken)),
+  ),
   search needs,
 )
-
-add-place : tie.Need-add-place Inv-loop μ-loop
-add-place c = search needs
-
-loop-less : tie.Need-loop-less Inv-loop μ-loop
-loop-less c = search needs
 
 loop-again : tie.Need-loop-again Inv-loop μ-loop
 loop-again c = (search needs, all-more _ _ (c .before .before .before .loop .inv .1) (eq-eqb _ _ (c .if4 .left)))
@@ -57,22 +52,22 @@ returns-5 : tie.Need-returns-5 Inv-loop μ-loop
 unfolding isClear every
 returns-5 c =
     let e : c .before .loop .place ≡ max-keys = omega arith in
-    let t : all (λ j. eqb (keyAt (c .before .before .before .before .before .args .t1) j) 0) max-keys ≡ true = rw e at (c .before .loop .inv .1) in
-    (simp (c .before .before .before .before .if1 .left, eq-eqb _ _ (c .before .before .before .if2 .left), eq-eqb _ _ (c .before .before .if3 .left), t), search needs)
+    let t : all (λ j. eqb (keyAt (c .before .before .before .before .before .args .t1) j) 0) max-keys ≡ true = rw e at (c .before .loop .inv .1) in (
+      simp (
+        c .before .before .before .before .if1 .left,
+        eq-eqb _ _ (c .before .before .before .if2 .left),
+        eq-eqb _ _ (c .before .before .if3 .left),
+        t,
+      ),
+      search needs,
+    )
 
 pub is-clear-spec : {M : Type 1} → statement M
 is-clear-spec =
-    tie.close
-    (tie.spec
-    Inv-loop
-    μ-loop
-    returns
-    returns-2
-    returns-3
-    loop-holds
-    element-copy-out-if4
+    tie.close (tie.spec Inv-loop μ-loop returns returns-2 returns-3
+    (λ c. (search needs, all-none _))  -- loop-holds
+    (λ c. search needs)  -- element-copy-out-if4
     returns-4
-    add-place
-    loop-less
-    loop-again
-    returns-5)
+    (λ c. search needs)  -- add-place
+    (λ c. search needs)  -- loop-less
+    loop-again returns-5)

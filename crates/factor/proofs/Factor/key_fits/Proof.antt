@@ -7,47 +7,42 @@ use Rattle.factor.specs.Factor.{above, keyFits}
 use Rattle.factor.proofs.Factor.key_fits.Statement.{statement}
 use Rattle.factor.proofs.Factor.key_fits.Tie as tie
 
-element-copy-out-key : tie.Need-element-copy-out-key
-element-copy-out-key c = search needs
-
-wide-requires : tie.Need-wide-requires
-wide-requires c κs = search needs
-
 returns : tie.Need-returns
 unfolding keyFits every above
 returns c = simp (le-ltb _ _ (rw (c .before .wide .ensures) at (c .if1 .taken)))
 
-wide-requires-2 : tie.Need-wide-requires-2
-wide-requires-2 c κs = search needs
-
 returns-2 : tie.Need-returns-2
 unfolding keyFits every above
-returns-2 c = simp (lt-ltb _ _ (rw (c .before .before .before .wide .ensures) at (c .before .before .if1 .left)), le-ltb _ _ (rw (c .before .wide2 .ensures) at (c .if2 .taken)))
+returns-2 c = simp (
+  lt-ltb _ _ (rw (c .before .before .before .wide .ensures) at (c .before .before .if1 .left)),
+  le-ltb _ _ (rw (c .before .wide2 .ensures) at (c .if2 .taken)),
+)
 
 returns-3 : tie.Need-returns-3
 unfolding keyFits every above
-returns-3 c = simp (lt-ltb _ _ (rw (c .before .before .before .before .wide .ensures) at (c .before .before .before .if1 .left)), lt-ltb _ _ (rw (c .before .before .wide2 .ensures) at (c .before .if2 .left)), eq-eqb _ _ (c .if3 .taken))
-
-sub-last : tie.Need-sub-last
-sub-last c = search needs
-
-element-copy-out-result : tie.Need-element-copy-out-result
-element-copy-out-result c = search needs
+returns-3 c = simp (
+  lt-ltb _ _ (rw (c .before .before .before .before .wide .ensures) at (c .before .before .before .if1 .left)),
+  lt-ltb _ _ (rw (c .before .before .wide2 .ensures) at (c .before .if2 .left)),
+  eq-eqb _ _ (c .if3 .taken),
+)
 
 returns-4 : tie.Need-returns-4
 unfolding keyFits every above
-returns-4 c = simp (lt-ltb _ _ (rw (c .before .before .before .before .before .wide .ensures) at (c .before .before .before .before .if1 .left)), lt-ltb _ _ (rw (c .before .before .before .wide2 .ensures) at (c .before .before .if2 .left)), ne-eqb _ _ (c .before .if3 .left), and-true)
+returns-4 c = simp (
+  lt-ltb _ _ (rw (c .before .before .before .before .before .wide .ensures) at (c .before .before .before .before .if1 .left)),
+  lt-ltb _ _ (rw (c .before .before .before .wide2 .ensures) at (c .before .before .if2 .left)),
+  ne-eqb _ _ (c .before .if3 .left),
+  and-true,
+)
 
 pub key-fits-spec : {M : Type 1} → statement M
 key-fits-spec =
-    tie.close
-    (tie.spec
-    element-copy-out-key
-    wide-requires
+    tie.close (tie.spec
+    (λ c. search needs)  -- element-copy-out-key
+    (λ c κs. search needs)  -- wide-requires
     returns
-    wide-requires-2
-    returns-2
-    returns-3
-    sub-last
-    element-copy-out-result
+    (λ c κs. search needs)  -- wide-requires-2
+    returns-2 returns-3
+    (λ c. search needs)  -- sub-last
+    (λ c. search needs)  -- element-copy-out-result
     returns-4)

@@ -41,32 +41,38 @@ module _ (sizes : List ℕ) (f : Factor) (a mean variance y n : ℕ) (ey : y ≡
     unfolding lengthsFit every
     not-mean h = rw ey (simp (a-fits, ne-eqb mean (f .rows) (λ e. h (e ∙ sym ey))))
 
-wide-requires : tie.Need-wide-requires
-wide-requires c κs = search needs
-
-a-numbers-requires : tie.Need-a-numbers-requires
-a-numbers-requires c κs = search needs
-
 returns : tie.Need-returns
 returns c =
+    let wide = c .before .before .wide in
     let args = c .before .before .before .args in
-    not-a (args .sizes) (args .self) (args .a) (args .mean) (args .variance) (c .before .before .wide .result) (c .before .a-numbers .result) (c .before .before .wide .ensures) (c .before .a-numbers .ensures .0) (c .if1 .taken)
+    not-a (args .sizes) (args .self) (args .a) (args .mean) (args .variance) (wide .result) (c .before .a-numbers .result) (wide .ensures)
+    (c .before .a-numbers .ensures .0) (c .if1 .taken)
 
 mul-result : tie.Need-mul-result
 mul-result c =
+    let wide = c .before .before .before .wide in
     let b : c .before .before .before .before .args .self .rows < 256 = small (search needs) in
-    omega (arith, square (c .before .before .before .wide .result) (omega (arith, c .before .before .before .wide .ensures)))
+    omega (arith, square (wide .result) (omega (arith, wide .ensures)))
 
 returns-2 : tie.Need-returns-2
 returns-2 c =
+    let wide = c .before .before .before .wide in
+    let a-numbers = c .before .before .a-numbers in
     let args = c .before .before .before .before .args in
-    mean-fits (args .sizes) (args .self) (args .a) (args .mean) (args .variance) (c .before .before .before .wide .result) (c .before .before .a-numbers .result) (c .before .before .before .wide .ensures) (c .before .before .a-numbers .ensures .0) (c .before .if1 .left) (c .if2 .taken)
+    mean-fits (args .sizes) (args .self) (args .a) (args .mean) (args .variance) (wide .result) (a-numbers .result) (wide .ensures)
+    (a-numbers .ensures .0) (c .before .if1 .left) (c .if2 .taken)
 
 returns-3 : tie.Need-returns-3
 returns-3 c =
+    let wide = c .before .before .before .wide in
+    let a-numbers = c .before .before .a-numbers in
     let args = c .before .before .before .before .args in
-    not-mean (args .sizes) (args .self) (args .a) (args .mean) (args .variance) (c .before .before .before .wide .result) (c .before .before .a-numbers .result) (c .before .before .before .wide .ensures) (c .before .before .a-numbers .ensures .0) (c .before .if1 .left) (c .if2 .left)
+    not-mean (args .sizes) (args .self) (args .a) (args .mean) (args .variance) (wide .result) (a-numbers .result) (wide .ensures)
+    (a-numbers .ensures .0) (c .before .if1 .left) (c .if2 .left)
 
 pub lengths-fit-spec : {M : Type 1} → statement M
 lengths-fit-spec =
-    tie.close (tie.spec wide-requires a-numbers-requires returns mul-result returns-2 returns-3)
+    tie.close (tie.spec
+    (λ c κs. search needs)  -- wide-requires
+    (λ c κs. search needs)  -- a-numbers-requires
+    returns mul-result returns-2 returns-3)

@@ -23,16 +23,11 @@ added sizes f y a e n = rw (e, n)
 square : (y : ℕ) → y < 256 → y * y ≤ 255 * 255
 square y h = let l : y ≤ 255 = omega arith in mul-le-mul l l
 
-wide-requires : tie.Need-wide-requires
-wide-requires c κs = search needs
-
-a-numbers-requires : tie.Need-a-numbers-requires
-a-numbers-requires c κs = search needs
-
 add-result : tie.Need-add-result
 add-result c =
-    let b : c .before .before .args .self .rows < 256 = small (search needs) in
-    omega (arith, c .before .wide .ensures, c .a-numbers .ensures .1, square (c .before .before .args .self .rows) b)
+    let args = c .before .before .args in
+    let b : args .self .rows < 256 = small (search needs) in
+    omega (arith, c .before .wide .ensures, c .a-numbers .ensures .1, square (args .self .rows) b)
 
 mul-result : tie.Need-mul-result
 mul-result c =
@@ -46,10 +41,16 @@ add-result-2 c =
 
 returns : tie.Need-returns
 returns c =
-    let b : c .before .before .args .self .rows < 256 = small (search needs) in
-    (added (c .before .before .args .sizes) (c .before .before .args .self) (c .before .wide .result) (c .a-numbers .result) (c .before .wide .ensures) (c .a-numbers .ensures .0), omega (arith, c .a-numbers .ensures .1, c .before .wide .ensures, square (c .before .wide .result) (omega (arith, c .before .wide .ensures))))
+    let args = c .before .before .args in
+    let wide = c .before .wide in
+    let b : args .self .rows < 256 = small (search needs) in (
+      added (args .sizes) (args .self) (wide .result) (c .a-numbers .result) (wide .ensures) (c .a-numbers .ensures .0),
+      omega (arith, c .a-numbers .ensures .1, wide .ensures, square (wide .result) (omega (arith, wide .ensures))),
+    )
 
 pub numbers-spec : {M : Type 1} → statement M
 numbers-spec =
-    tie.close
-    (tie.spec wide-requires a-numbers-requires add-result mul-result add-result-2 returns)
+    tie.close (tie.spec
+    (λ c κs. search needs)  -- wide-requires
+    (λ c κs. search needs)  -- a-numbers-requires
+    add-result mul-result add-result-2 returns)

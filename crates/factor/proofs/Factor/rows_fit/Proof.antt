@@ -31,47 +31,37 @@ module _ (sizes : List ℕ) (f : Factor) (rows : ℕ) (e : rows ≡ f .rows) whe
   unfolding rowsFit every
   prior-rows p t size key k s = rw (e, s, k) (simp (p, eq-eqb _ _ t, and-true))
 
-wide-requires : tie.Need-wide-requires
-wide-requires c κs = search needs
-
 returns : tie.Need-returns
 returns c =
+    let wide = c .before .before .wide in
     let args = c .before .before .before .args in
-    some-rows (args .sizes) (args .t1) (c .before .before .wide .result) (c .before .before .wide .ensures) (not-true (args .t1 .prior) (c .before .if1 .taken)) (c .if2 .taken)
+    some-rows (args .sizes) (args .t1) (wide .result) (wide .ensures) (not-true (args .t1 .prior) (c .before .if1 .taken)) (c .if2 .taken)
 
 returns-2 : tie.Need-returns-2
 returns-2 c =
+    let wide = c .before .before .wide in
     let args = c .before .before .before .args in
-    no-rows (args .sizes) (args .t1) (c .before .before .wide .result) (c .before .before .wide .ensures) (not-true (args .t1 .prior) (c .before .if1 .taken)) (c .if2 .left)
+    no-rows (args .sizes) (args .t1) (wide .result) (wide .ensures) (not-true (args .t1 .prior) (c .before .if1 .taken)) (c .if2 .left)
 
 returns-3 : tie.Need-returns-3
 returns-3 c =
+    let wide = c .before .before .wide in
     let args = c .before .before .before .args in
-    not-one (args .sizes) (args .t1) (c .before .before .wide .result) (c .before .before .wide .ensures) (not-false (args .t1 .prior) (c .before .if1 .left)) (c .if3 .taken)
-
-element-copy-out-wide : tie.Need-element-copy-out-wide
-element-copy-out-wide c = search needs
-
-wide-requires-2 : tie.Need-wide-requires-2
-wide-requires-2 c κs = search needs
-
-size-of-requires : tie.Need-size-of-requires
-size-of-requires c κs = search needs
+    not-one (args .sizes) (args .t1) (wide .result) (wide .ensures) (not-false (args .t1 .prior) (c .before .if1 .left)) (c .if3 .taken)
 
 returns-4 : tie.Need-returns-4
 returns-4 c =
+    let wide = c .before .before .before .before .before .wide in
     let args = c .before .before .before .before .before .before .args in
-    prior-rows (args .sizes) (args .t1) (c .before .before .before .before .before .wide .result) (c .before .before .before .before .before .wide .ensures) (not-false (args .t1 .prior) (c .before .before .before .before .if1 .left)) (c .before .before .before .if3 .left) (c .size-of .result) (c .before .wide2 .result) (c .before .wide2 .ensures) (c .size-of .ensures .0)
+    prior-rows (args .sizes) (args .t1) (wide .result) (wide .ensures) (not-false (args .t1 .prior) (c .before .before .before .before .if1 .left))
+    (c .before .before .before .if3 .left) (c .size-of .result) (c .before .wide2 .result) (c .before .wide2 .ensures) (c .size-of .ensures .0)
 
 pub rows-fit-spec : {M : Type 1} → statement M
 rows-fit-spec =
-    tie.close
-    (tie.spec
-    wide-requires
-    returns
-    returns-2
-    returns-3
-    element-copy-out-wide
-    wide-requires-2
-    size-of-requires
+    tie.close (tie.spec
+    (λ c κs. search needs)  -- wide-requires
+    returns returns-2 returns-3
+    (λ c. search needs)  -- element-copy-out-wide
+    (λ c κs. search needs)  -- wide-requires-2
+    (λ c κs. search needs)  -- size-of-requires
     returns-4)

@@ -11,6 +11,4 @@ returns c = refl
 
 pub refused-spec : {M : Type 1} → statement M
 refused-spec =
-    tie.close
-    (tie.spec
-    returns)
+    tie.close (tie.spec returns)

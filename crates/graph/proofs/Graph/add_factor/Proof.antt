@@ -14,149 +14,142 @@ use Rattle.graph.proofs.Graph.add_factor.Tie as tie
 
 lengths-fit-requires : tie.Need-lengths-fit-requires
 lengths-fit-requires c κs =
-    let args = c .before .before .before .before .before .args in
-    fits-touched (args .t1 .sizes) (args .t1 .variables) (args .f) (c .before .before .before .before .before .pre .1)
-
-refused-requires : tie.Need-refused-requires
-refused-requires c κs = search needs
+    let entry = c .before .before .before .before .before in
+    let args = entry .args in
+    fits-touched (args .t1 .sizes) (args .t1 .variables) (args .f) (entry .pre .1)
 
 returns : tie.Need-returns
 returns c =
     let args = c .before .before .before .before .before .before .before .before .args in
-    turned-back (args .t1) (args .f) (args .store .now) _ _ _ _ (unlike (args .t1) (args .f) (args .a .now) (args .mean .now) (args .variance .now) (args .store .now) (tells (c .before .before .lengths-fit .ensures) (not-true _ (c .before .if1 .taken)))) (c .refused .ensures) refl
-
-refused-requires-2 : tie.Need-refused-requires-2
-refused-requires-2 c κs = search needs
+    turned-back (args .t1) (args .f) (args .store .now) _ _ _ _ (unlike (args .t1) (args .f) (args .a .now) (args .mean .now) (args .variance .now)
+    (args .store .now) (tells (c .before .before .lengths-fit .ensures) (not-true _ (c .before .if1 .taken)))) (c .refused .ensures) refl
 
 returns-2 : tie.Need-returns-2
 returns-2 c =
     let args = c .before .before .before .before .before .before .before .before .before .args in
-    turned-back (args .t1) (args .f) (args .store .now) _ _ _ _ (full (args .t1) (args .f) (args .a .now) (args .mean .now) (args .variance .now) (args .store .now) (tells (c .before .before .before .lengths-fit .ensures) (not-false _ (c .before .before .if1 .left))) (c .before .if2 .taken)) (c .refused2 .ensures) refl
-
-offset-requires : tie.Need-offset-requires
-offset-requires c κs = search needs
+    turned-back (args .t1) (args .f) (args .store .now) _ _ _ _ (full (args .t1) (args .f) (args .a .now) (args .mean .now) (args .variance .now)
+    (args .store .now) (tells (c .before .before .before .lengths-fit .ensures) (not-false _ (c .before .before .if1 .left)))
+    (c .before .if2 .taken)) (c .refused2 .ensures) refl
 
 numbers-requires : tie.Need-numbers-requires
 numbers-requires c κs =
-    let args = c .before .before .before .before .before .before .before .before .before .args in
-    fits-touched (args .t1 .sizes) (args .t1 .variables) (args .f) (c .before .before .before .before .before .before .before .before .before .pre .1)
-
-add-if3 : tie.Need-add-if3
-add-if3 c = search needs
-
-refused-requires-3 : tie.Need-refused-requires-3
-refused-requires-3 c κs = search needs
+    let entry = c .before .before .before .before .before .before .before .before .before in
+    let args = entry .args in
+    fits-touched (args .t1 .sizes) (args .t1 .variables) (args .f) (entry .pre .1)
 
 returns-3 : tie.Need-returns-3
 returns-3 c =
     let args = c .before .before .before .before .before .before .before .before .before .before .before .before .args in
-    turned-back (args .t1) (args .f) (args .store .now) _ _ _ _ (short (args .t1) (args .f) (args .a .now) (args .mean .now) (args .variance .now) (args .store .now) (tells (c .before .before .before .before .before .before .lengths-fit .ensures) (not-false _ (c .before .before .before .before .before .if1 .left))) (c .before .before .before .before .if2 .left) (omega (arith, c .before .before .before .offset .ensures .0, c .before .before .numbers .ensures .0, c .before .if3 .taken))) (c .refused3 .ensures) refl
-
-given-finite-requires : tie.Need-given-finite-requires
-given-finite-requires c κs = search needs
-
-refused-requires-4 : tie.Need-refused-requires-4
-refused-requires-4 c κs = search needs
+    turned-back (args .t1) (args .f) (args .store .now) _ _ _ _ (short (args .t1) (args .f) (args .a .now) (args .mean .now) (args .variance .now)
+    (args .store .now) (tells (c .before .before .before .before .before .before .lengths-fit .ensures)
+    (not-false _ (c .before .before .before .before .before .if1 .left))) (c .before .before .before .before .if2 .left)
+    (omega (arith, c .before .before .before .offset .ensures .0, c .before .before .numbers .ensures .0, c .before .if3 .taken))) (c .refused3 .ensures) refl
 
 returns-4 : tie.Need-returns-4
 returns-4 c =
     let args = c .before .before .before .before .before .before .before .before .before .before .before .before .before .before .args in
-    turned-back (args .t1) (args .f) (args .store .now) _ _ _ _ (not-given (args .t1) (args .f) (args .a .now) (args .mean .now) (args .variance .now) (args .store .now) (tells (c .before .before .before .before .before .before .before .before .lengths-fit .ensures) (not-false _ (c .before .before .before .before .before .before .before .if1 .left))) (c .before .before .before .before .before .before .if2 .left) (omega (arith, c .before .before .before .before .before .offset .ensures .0, c .before .before .before .before .numbers .ensures .0, c .before .before .before .if3 .left)) (tells (c .before .before .given-finite .ensures) (not-true _ (c .before .if4 .taken)))) (c .refused4 .ensures) refl
+    turned-back (args .t1) (args .f) (args .store .now) _ _ _ _ (not-given (args .t1) (args .f) (args .a .now) (args .mean .now) (args .variance .now)
+    (args .store .now) (tells (c .before .before .before .before .before .before .before .before .lengths-fit .ensures)
+    (not-false _ (c .before .before .before .before .before .before .before .if1 .left)))
+    (c .before .before .before .before .before .before .if2 .left)
+    (omega (
+      arith,
+      c .before .before .before .before .before .offset .ensures .0,
+      c .before .before .before .before .numbers .ensures .0,
+      c .before .before .before .if3 .left,
+    )) (tells (c .before .before .given-finite .ensures) (not-true _ (c .before .if4 .taken))))
+    (c .refused4 .ensures) refl
 
 store-factor-requires : tie.Need-store-factor-requires
 store-factor-requires c κs =
-    let args = c .before .before .before .before .before .before .before .before .before .before .before .before .before .before .args in
-    let pre = c .before .before .before .before .before .before .before .before .before .before .before .before .before .before .pre in
-    room-for (args .t1) (args .f) (args .a .now) (args .mean .now) (args .variance .now) (args .store .now) (tells (c .before .before .before .before .before .before .before .before .lengths-fit .ensures) (not-false _ (c .before .before .before .before .before .before .before .if1 .left))) (c .before .before .before .before .before .before .if2 .left) (c .before .before .before .before .before .offset .result) (c .before .before .before .before .numbers .result) (c .before .before .before .before .before .offset .ensures .0) (c .before .before .before .before .numbers .ensures .0) (c .before .before .before .if3 .left) (tells (c .before .before .given-finite .ensures) (not-false _ (c .before .if4 .left))) (rows-most (args .t1) (pre .0) (args .f) (pre .1))
-
-enum-told : tie.Need-enum-told
-enum-told c = search needs
-
-enum-told-2 : tie.Need-enum-told-2
-enum-told-2 c = search needs
-
-refused-requires-5 : tie.Need-refused-requires-5
-refused-requires-5 c κs = search needs
-
-same-length : tie.Need-same-length
-same-length c = search needs
+    let entry = c .before .before .before .before .before .before .before .before .before .before .before .before .before .before in
+    let offset = c .before .before .before .before .before .offset in
+    let numbers = c .before .before .before .before .numbers in
+    let args = entry .args in
+    let pre = entry .pre in
+    room-for (args .t1) (args .f) (args .a .now) (args .mean .now) (args .variance .now) (args .store .now)
+    (tells (c .before .before .before .before .before .before .before .before .lengths-fit .ensures)
+    (not-false _ (c .before .before .before .before .before .before .before .if1 .left)))
+    (c .before .before .before .before .before .before .if2 .left) (offset .result) (numbers .result) (offset .ensures .0) (numbers .ensures .0)
+    (c .before .before .before .if3 .left) (tells (c .before .before .given-finite .ensures) (not-false _ (c .before .if4 .left)))
+    (rows-most (args .t1) (pre .0) (args .f) (pre .1))
 
 returns-5 : tie.Need-returns-5
 returns-5 c =
-    let args = c .before .before .before .before .before .before .before .before .before .before .before .before .before .before .before .before .before .before .before .before .args in
+    let args = c .before .before .before .before .before .before .before .before .before .before .before .before .before .before .before .before
+    .before .before .before .before .args in
     let offset = c .before .before .before .before .before .before .before .before .before .before .before .offset in
     let numbers = c .before .before .before .before .before .before .before .before .before .before .numbers in
     let store-factor = c .before .before .before .before .before .store-factor in
-    let p = ended (args .t1) (args .f) (args .a .now) (args .mean .now) (args .variance .now) (args .store .now) (tells (c .before .before .before .before .before .before .before .before .before .before .before .before .before .before .lengths-fit .ensures) (not-false _ (c .before .before .before .before .before .before .before .before .before .before .before .before .before .if1 .left))) (c .before .before .before .before .before .before .before .before .before .before .before .before .if2 .left) (offset .result) (numbers .result) (offset .ensures .0) (numbers .ensures .0) (c .before .before .before .before .before .before .before .before .before .if3 .left) (tells (c .before .before .before .before .before .before .before .before .given-finite .ensures) (not-false _ (c .before .before .before .before .before .before .before .if4 .left))) (store-factor .last .0) Pivot (sym (c .before .enum-told2 .given .1) ∙ store-factor .ensures .0) (store-factor .ensures .1 .0) in
+    let p = ended (args .t1) (args .f) (args .a .now) (args .mean .now) (args .variance .now) (args .store .now)
+    (tells (c .before .before .before .before .before .before .before .before .before .before .before .before .before .before .lengths-fit .ensures)
+    (not-false _ (c .before .before .before .before .before .before .before .before .before .before .before .before .before .if1 .left)))
+    (c .before .before .before .before .before .before .before .before .before .before .before .before .if2 .left) (offset .result)
+    (numbers .result) (offset .ensures .0) (numbers .ensures .0) (c .before .before .before .before .before .before .before .before .before .if3
+    .left) (tells (c .before .before .before .before .before .before .before .before .given-finite .ensures)
+    (not-false _ (c .before .before .before .before .before .before .before .if4 .left))) (store-factor .last .0) Pivot
+    (sym (c .before .enum-told2 .given .1) ∙ store-factor .ensures .0) (store-factor .ensures .1 .0) in
     turned-back (args .t1) (args .f) (args .store .now) _ _ _ _ (p .0) (c .refused5 .ensures) (p .1)
-
-enum-told-3 : tie.Need-enum-told-3
-enum-told-3 c = search needs
-
-refused-requires-6 : tie.Need-refused-requires-6
-refused-requires-6 c κs = search needs
-
-same-length-2 : tie.Need-same-length-2
-same-length-2 c = search needs
 
 returns-6 : tie.Need-returns-6
 returns-6 c =
-    let args = c .before .before .before .before .before .before .before .before .before .before .before .before .before .before .before .before .before .before .before .before .args in
+    let args = c .before .before .before .before .before .before .before .before .before .before .before .before .before .before .before .before
+    .before .before .before .before .args in
     let offset = c .before .before .before .before .before .before .before .before .before .before .before .offset in
     let numbers = c .before .before .before .before .before .before .before .before .before .before .numbers in
     let store-factor = c .before .before .before .before .before .store-factor in
-    let p = ended (args .t1) (args .f) (args .a .now) (args .mean .now) (args .variance .now) (args .store .now) (tells (c .before .before .before .before .before .before .before .before .before .before .before .before .before .before .lengths-fit .ensures) (not-false _ (c .before .before .before .before .before .before .before .before .before .before .before .before .before .if1 .left))) (c .before .before .before .before .before .before .before .before .before .before .before .before .if2 .left) (offset .result) (numbers .result) (offset .ensures .0) (numbers .ensures .0) (c .before .before .before .before .before .before .before .before .before .if3 .left) (tells (c .before .before .before .before .before .before .before .before .given-finite .ensures) (not-false _ (c .before .before .before .before .before .before .before .if4 .left))) (store-factor .last .0) Unbounded (sym (c .before .enum-told3 .given .1) ∙ store-factor .ensures .0) (store-factor .ensures .1 .0) in
+    let p = ended (args .t1) (args .f) (args .a .now) (args .mean .now) (args .variance .now) (args .store .now)
+    (tells (c .before .before .before .before .before .before .before .before .before .before .before .before .before .before .lengths-fit .ensures)
+    (not-false _ (c .before .before .before .before .before .before .before .before .before .before .before .before .before .if1 .left)))
+    (c .before .before .before .before .before .before .before .before .before .before .before .before .if2 .left) (offset .result)
+    (numbers .result) (offset .ensures .0) (numbers .ensures .0) (c .before .before .before .before .before .before .before .before .before .if3
+    .left) (tells (c .before .before .before .before .before .before .before .before .given-finite .ensures)
+    (not-false _ (c .before .before .before .before .before .before .before .if4 .left))) (store-factor .last .0) Unbounded
+    (sym (c .before .enum-told3 .given .1) ∙ store-factor .ensures .0) (store-factor .ensures .1 .0) in
     turned-back (args .t1) (args .f) (args .store .now) _ _ _ _ (p .0) (c .refused6 .ensures) (p .1)
-
-mul-f : tie.Need-mul-f
-mul-f c = search needs
-
-element-set-from-f : tie.Need-element-set-from-f
-element-set-from-f c = search needs
-
-add-self : tie.Need-add-self
-add-self c = search needs
-
-same-length-3 : tie.Need-same-length-3
-same-length-3 c = search needs
 
 returns-7 : tie.Need-returns-7
 returns-7 c =
-    let args = c .before .before .before .before .before .before .before .before .before .before .before .before .before .before .before .before .before .before .before .args in
+    let args = c .before .before .before .before .before .before .before .before .before .before .before .before .before .before .before .before
+    .before .before .before .args in
     let offset = c .before .before .before .before .before .before .before .before .before .before .offset in
     let numbers = c .before .before .before .before .before .before .before .before .before .numbers in
     let store-factor = c .before .before .before .before .store-factor in
-    ended (args .t1) (args .f) (args .a .now) (args .mean .now) (args .variance .now) (args .store .now) (tells (c .before .before .before .before .before .before .before .before .before .before .before .before .before .lengths-fit .ensures) (not-false _ (c .before .before .before .before .before .before .before .before .before .before .before .before .if1 .left))) (c .before .before .before .before .before .before .before .before .before .before .before .if2 .left) (offset .result) (numbers .result) (offset .ensures .0) (numbers .ensures .0) (c .before .before .before .before .before .before .before .before .if3 .left) (tells (c .before .before .before .before .before .before .before .given-finite .ensures) (not-false _ (c .before .before .before .before .before .before .if4 .left))) (store-factor .last .0) Done (sym (c .enum-told .given .1) ∙ store-factor .ensures .0) (store-factor .ensures .1 .0)
+    ended (args .t1) (args .f) (args .a .now) (args .mean .now) (args .variance .now) (args .store .now)
+    (tells (c .before .before .before .before .before .before .before .before .before .before .before .before .before .lengths-fit .ensures)
+    (not-false _ (c .before .before .before .before .before .before .before .before .before .before .before .before .if1 .left)))
+    (c .before .before .before .before .before .before .before .before .before .before .before .if2 .left) (offset .result) (numbers .result)
+    (offset .ensures .0) (numbers .ensures .0) (c .before .before .before .before .before .before .before .before .if3 .left)
+    (tells (c .before .before .before .before .before .before .before .given-finite .ensures)
+    (not-false _ (c .before .before .before .before .before .before .if4 .left))) (store-factor .last .0) Done
+    (sym (c .enum-told .given .1) ∙ store-factor .ensures .0) (store-factor .ensures .1 .0)
 
 pub add-factor-spec : {M : Type 1} → statement M
 add-factor-spec =
-    tie.close
-    (tie.spec
-    lengths-fit-requires
-    refused-requires
+    tie.close (tie.spec lengths-fit-requires
+    (λ c κs. search needs)  -- refused-requires
     returns
-    refused-requires-2
+    (λ c κs. search needs)  -- refused-requires-2
     returns-2
-    offset-requires
+    (λ c κs. search needs)  -- offset-requires
     numbers-requires
-    add-if3
-    refused-requires-3
+    (λ c. search needs)  -- add-if3
+    (λ c κs. search needs)  -- refused-requires-3
     returns-3
-    given-finite-requires
-    refused-requires-4
-    returns-4
-    store-factor-requires
-    enum-told
-    enum-told-2
-    refused-requires-5
-    same-length
+    (λ c κs. search needs)  -- given-finite-requires
+    (λ c κs. search needs)  -- refused-requires-4
+    returns-4 store-factor-requires
+    (λ c. search needs)  -- enum-told
+    (λ c. search needs)  -- enum-told-2
+    (λ c κs. search needs)  -- refused-requires-5
+    (λ c. search needs)  -- same-length
     returns-5
-    enum-told-3
-    refused-requires-6
-    same-length-2
+    (λ c. search needs)  -- enum-told-3
+    (λ c κs. search needs)  -- refused-requires-6
+    (λ c. search needs)  -- same-length-2
     returns-6
-    mul-f
-    element-set-from-f
-    add-self
-    same-length-3
+    (λ c. search needs)  -- mul-f
+    (λ c. search needs)  -- element-set-from-f
+    (λ c. search needs)  -- add-self
+    (λ c. search needs)  -- same-length-3
     returns-7)

@@ -1,4 +1,5 @@
--- `graph::Graph::add_observation` meets its contract: a record that fails the test is refused, and of any other `enter_observation` says the same. Assumes nothing.
+-- `graph::Graph::add_observation` meets its contract: a record that fails the test is refused, and of any other `enter_observation` says the same.
+-- Assumes nothing.
 use Prim.Native.Nat.{ℕ}
 use mathlib.Core.Bool.{false}
 use mathlib.Core.List.{List}
@@ -22,27 +23,25 @@ module _ (g : Graph) (keys : List ℕ) (rows : ℕ) (a mean variance store : Lis
   unfolding observationVerdict
   no-graph h = rw h
 
-valid-requires : tie.Need-valid-requires
-valid-requires c κs = search needs
-
-refused-requires : tie.Need-refused-requires
-refused-requires c κs = search needs
-
 returns : tie.Need-returns
 unfolding addObservation observationStore
 returns c =
     let args = c .before .before .before .before .before .before .before .before .args in
     observation-tells (args .self) (args .keys .now) (args .rows) (args .a .now) (args .mean .now) (args .variance .now) (args .store .now) _ _
-    (turned-back (args .self) _ (args .store .now) _ _ _ _ (no-graph (args .self) (args .keys .now) (args .rows) (args .a .now) (args .mean .now) (args .variance .now) (args .store .now) (tells (c .before .before .valid .ensures .0) (not-true _ (c .before .if1 .taken)))) (c .refused .ensures) refl)
-
-enter-observation-requires : tie.Need-enter-observation-requires
-enter-observation-requires c κs = tells (c .before .before .valid .ensures .0) (not-false _ (c .before .if1 .left))
-
-same-length : tie.Need-same-length
-same-length c = search needs
+    (turned-back (args .self) _ (args .store .now) _ _ _ _ (no-graph (args .self) (args .keys .now) (args .rows) (args .a .now) (args .mean .now)
+    (args .variance .now) (args .store .now) (tells (c .before .before .valid .ensures .0) (not-true _ (c .before .if1 .taken)))) (c .refused .ensures) refl)
 
 returns-2 : tie.Need-returns-2
-returns-2 c = let args = c .before .before .before .before .before .before .before .before .before .before .before .args in observation-tells (args .self) (args .keys .now) (args .rows) (args .a .now) (args .mean .now) (args .variance .now) (args .store .now) _ _ (c .before .before .enter-observation .ensures)
+returns-2 c =
+    let args = c .before .before .before .before .before .before .before .before .before .before .before .args in
+    observation-tells (args .self) (args .keys .now) (args .rows) (args .a .now) (args .mean .now) (args .variance .now) (args .store .now) _ _
+    (c .before .before .enter-observation .ensures)
 
 pub add-observation-spec : {M : Type 1} → statement M
-add-observation-spec = tie.close (tie.spec valid-requires refused-requires returns enter-observation-requires same-length returns-2)
+add-observation-spec = tie.close (tie.spec
+    (λ c κs. search needs)  -- valid-requires
+    (λ c κs. search needs)  -- refused-requires
+    returns
+    (λ c κs. tells (c .before .before .valid .ensures .0) (not-false _ (c .before .if1 .left)))  -- enter-observation-requires
+    (λ c. search needs)  -- same-length
+    returns-2)

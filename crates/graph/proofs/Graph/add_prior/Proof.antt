@@ -22,27 +22,24 @@ module _ (g : Graph) (key : ℕ) (mean variance store : List Float) where
   unfolding priorVerdict
   no-graph h = rw h
 
-valid-requires : tie.Need-valid-requires
-valid-requires c κs = search needs
-
-refused-requires : tie.Need-refused-requires
-refused-requires c κs = search needs
-
 returns : tie.Need-returns
 unfolding addPrior priorStore
 returns c =
     let args = c .before .before .before .before .before .before .args in
     prior-tells (args .self) (args .key) (args .mean .now) (args .variance .now) (args .store .now) _ _
-    (turned-back (args .self) _ (args .store .now) _ _ _ _ (no-graph (args .self) (args .key) (args .mean .now) (args .variance .now) (args .store .now) (tells (c .before .before .valid .ensures .0) (not-true _ (c .before .if1 .taken)))) (c .refused .ensures) refl)
-
-enter-prior-requires : tie.Need-enter-prior-requires
-enter-prior-requires c κs = tells (c .before .before .valid .ensures .0) (not-false _ (c .before .if1 .left))
-
-same-length : tie.Need-same-length
-same-length c = search needs
+    (turned-back (args .self) _ (args .store .now) _ _ _ _ (no-graph (args .self) (args .key) (args .mean .now) (args .variance .now)
+    (args .store .now) (tells (c .before .before .valid .ensures .0) (not-true _ (c .before .if1 .taken)))) (c .refused .ensures) refl)
 
 returns-2 : tie.Need-returns-2
-returns-2 c = let args = c .before .before .before .before .before .before .before .before .before .args in prior-tells (args .self) (args .key) (args .mean .now) (args .variance .now) (args .store .now) _ _ (c .before .before .enter-prior .ensures)
+returns-2 c =
+    let args = c .before .before .before .before .before .before .before .before .before .args in
+    prior-tells (args .self) (args .key) (args .mean .now) (args .variance .now) (args .store .now) _ _ (c .before .before .enter-prior .ensures)
 
 pub add-prior-spec : {M : Type 1} → statement M
-add-prior-spec = tie.close (tie.spec valid-requires refused-requires returns enter-prior-requires same-length returns-2)
+add-prior-spec = tie.close (tie.spec
+    (λ c κs. search needs)  -- valid-requires
+    (λ c κs. search needs)  -- refused-requires
+    returns
+    (λ c κs. tells (c .before .before .valid .ensures .0) (not-false _ (c .before .if1 .left)))  -- enter-prior-requires
+    (λ c. search needs)  -- same-length
+    returns-2)

@@ -20,22 +20,16 @@ module _ (g : Graph) (name : Symbol) (size : ℕ) where
   unfolding addVariable
   no-graph h = rw h
 
-valid-requires : tie.Need-valid-requires
-valid-requires c κs = search needs
-
-refused-requires : tie.Need-refused-requires
-refused-requires c κs = search needs
-
 returns : tie.Need-returns
 returns c =
     let args = c .before .before .before .args in
-    variable-tells _ _ _ _ (c .refused .ensures ∙ no-graph (args .self) (args .name) (args .size) (tells (c .before .before .valid .ensures .0) (not-true _ (c .before .if1 .taken))))
-
-enter-variable-requires : tie.Need-enter-variable-requires
-enter-variable-requires c κs = tells (c .before .valid .ensures .0) (not-false _ (c .if1 .left))
-
-returns-2 : tie.Need-returns-2
-returns-2 c = variable-tells _ _ _ _ (c .enter-variable .ensures)
+    variable-tells _ _ _ _ (c .refused .ensures ∙ no-graph (args .self) (args .name) (args .size)
+    (tells (c .before .before .valid .ensures .0) (not-true _ (c .before .if1 .taken))))
 
 pub add-variable-spec : {M : Type 1} → statement M
-add-variable-spec = tie.close (tie.spec valid-requires refused-requires returns enter-variable-requires returns-2)
+add-variable-spec = tie.close (tie.spec
+    (λ c κs. search needs)  -- valid-requires
+    (λ c κs. search needs)  -- refused-requires
+    returns
+    (λ c κs. tells (c .before .valid .ensures .0) (not-false _ (c .if1 .left)))  -- enter-variable-requires
+    (λ c. variable-tells _ _ _ _ (c .enter-variable .ensures)))  -- returns-2

@@ -32,55 +32,53 @@ all-known g keys h30 h11 =
     let m : getD keys j 0 < max-variables = omega (arith, valid-variables g h30) in
     lt-ltb _ _ m)
 
-fitting : (g : Graph) (keys : List ℕ) (rows : ℕ) → countsFit (length keys) rows ≡ true → rising keys ≡ true → known (g .variables) keys ≡ true → (f : Factor) → f ≡ observationOf keys rows → fits (g .sizes) (g .variables) f ≡ true
+fitting : (g : Graph) (keys : List ℕ) (rows : ℕ) → countsFit (length keys) rows ≡ true → rising keys ≡ true → known (g .variables) keys ≡ true
+    → (f : Factor) → f ≡ observationOf keys rows → fits (g .sizes) (g .variables) f ≡ true
 fitting g keys rows h4 h3 h11 f e = rw e (counted-fits g keys rows h4 h3 h11)
 
-taken : (g : Graph) (keys : List ℕ) (rows : ℕ) (a mean variance store : List Float) → valid g ≡ true → countsFit (length keys) rows ≡ true → rising keys ≡ true → known (g .variables) keys ≡ true
-    → (f : Factor) (s : List Float) (r : Added) → f ≡ observationOf keys rows → (r ≡ settle g f (factorVerdict g f a mean variance store)) × (s ≡ stored g store (factorVerdict g f a mean variance store))
+taken : (g : Graph) (keys : List ℕ) (rows : ℕ) (a mean variance store : List Float) → valid g ≡ true → countsFit (length keys) rows ≡ true
+    → rising keys ≡ true → known (g .variables) keys ≡ true
+    → (f : Factor) (s : List Float) (r : Added) → f ≡ observationOf keys rows
+    → (r ≡ settle g f (factorVerdict g f a mean variance store)) × (s ≡ stored g store (factorVerdict g f a mean variance store))
     → (r ≡ addObservation g keys rows a mean variance store) × (s ≡ observationStore g keys rows a mean variance store)
 unfolding addObservation observationStore
 taken g keys rows a mean variance store h30 h4 h3 h11 f s r e h = rw (e, sym (observation-as g keys rows a mean variance store h30 h4 h3 h11)) at h
 
-counts-fit-requires : tie.Need-counts-fit-requires
-counts-fit-requires c κs = search needs
-
-refused-requires : tie.Need-refused-requires
-refused-requires c κs = search needs
-
 returns : tie.Need-returns
 unfolding addObservation observationStore
 returns c =
-    let args = c .before .before .before .before .before .before .before .before .args in
-    turned-back (args .self) _ (args .store .now) _ _ _ _ (outside (args .self) (args .keys .now) (args .rows) (args .a .now) (args .mean .now) (args .variance .now) (args .store .now) (c .before .before .before .before .before .before .before .before .pre) (tells (c .before .before .counts-fit .ensures) (not-true _ (c .before .if1 .taken)))) (c .refused .ensures) refl
-
-rising-requires : tie.Need-rising-requires
-rising-requires c κs = search needs
-
-refused-requires-2 : tie.Need-refused-requires-2
-refused-requires-2 c κs = search needs
+    let entry = c .before .before .before .before .before .before .before .before in
+    let args = entry .args in
+    turned-back (args .self) _ (args .store .now) _ _ _ _ (outside (args .self) (args .keys .now) (args .rows) (args .a .now) (args .mean .now)
+    (args .variance .now) (args .store .now) (entry .pre) (tells (c .before .before .counts-fit .ensures) (not-true _ (c .before .if1 .taken))))
+    (c .refused .ensures) refl
 
 returns-2 : tie.Need-returns-2
 unfolding addObservation observationStore
 returns-2 c =
-    let args = c .before .before .before .before .before .before .before .before .before .before .args in
-    turned-back (args .self) _ (args .store .now) _ _ _ _ (not-rising (args .self) (args .keys .now) (args .rows) (args .a .now) (args .mean .now) (args .variance .now) (args .store .now) (c .before .before .before .before .before .before .before .before .before .before .pre) (tells (c .before .before .before .before .counts-fit .ensures) (not-false _ (c .before .before .before .if1 .left))) (tells (c .before .before .rising .ensures) (not-true _ (c .before .if2 .taken)))) (c .refused2 .ensures) refl
-
-known-requires : tie.Need-known-requires
-known-requires c κs = search needs
-
-refused-requires-3 : tie.Need-refused-requires-3
-refused-requires-3 c κs = search needs
+    let entry = c .before .before .before .before .before .before .before .before .before .before in
+    let args = entry .args in
+    turned-back (args .self) _ (args .store .now) _ _ _ _ (not-rising (args .self) (args .keys .now) (args .rows) (args .a .now) (args .mean .now)
+    (args .variance .now) (args .store .now) (entry .pre) (tells (c .before .before .before .before .counts-fit .ensures)
+    (not-false _ (c .before .before .before .if1 .left))) (tells (c .before .before .rising .ensures) (not-true _ (c .before .if2 .taken))))
+    (c .refused2 .ensures) refl
 
 returns-3 : tie.Need-returns-3
 unfolding addObservation observationStore
 returns-3 c =
-    let args = c .before .before .before .before .before .before .before .before .before .before .before .before .args in
-    turned-back (args .self) _ (args .store .now) _ _ _ _ (not-known (args .self) (args .keys .now) (args .rows) (args .a .now) (args .mean .now) (args .variance .now) (args .store .now) (c .before .before .before .before .before .before .before .before .before .before .before .before .pre) (tells (c .before .before .before .before .before .before .counts-fit .ensures) (not-false _ (c .before .before .before .before .before .if1 .left))) (tells (c .before .before .before .before .rising .ensures) (not-false _ (c .before .before .before .if2 .left))) (tells (c .before .before .known .ensures) (not-true _ (c .before .if3 .taken)))) (c .refused3 .ensures) refl
+    let entry = c .before .before .before .before .before .before .before .before .before .before .before .before in
+    let args = entry .args in
+    turned-back (args .self) _ (args .store .now) _ _ _ _ (not-known (args .self) (args .keys .now) (args .rows) (args .a .now) (args .mean .now)
+    (args .variance .now) (args .store .now) (entry .pre) (tells (c .before .before .before .before .before .before .counts-fit .ensures)
+    (not-false _ (c .before .before .before .before .before .if1 .left)))
+    (tells (c .before .before .before .before .rising .ensures) (not-false _ (c .before .before .before .if2 .left)))
+    (tells (c .before .before .known .ensures) (not-true _ (c .before .if3 .taken)))) (c .refused3 .ensures) refl
 
 observation-of-requires : tie.Need-observation-of-requires
 observation-of-requires c κs =
-    let args = c .before .before .before .before .before .before .before .before .before .before .before .args in
-    let pre = c .before .before .before .before .before .before .before .before .before .before .before .pre in
+    let entry = c .before .before .before .before .before .before .before .before .before .before .before in
+    let args = entry .args in
+    let pre = entry .pre in
     let counts-fit = c .before .before .before .before .before .counts-fit in
     let if1 = c .before .before .before .before .if1 in (
       few-keys _ _ (tells (counts-fit .ensures) (not-false _ (if1 .left))),
@@ -90,34 +88,41 @@ observation-of-requires c κs =
 
 add-factor-requires : tie.Need-add-factor-requires
 add-factor-requires c κs =
-    let args = c .before .before .before .before .before .before .before .before .before .before .before .before .before .args in
-    let pre = c .before .before .before .before .before .before .before .before .before .before .before .before .before .pre in (
+    let entry = c .before .before .before .before .before .before .before .before .before .before .before .before .before in
+    let observation-of = c .before .observation-of in
+    let args = entry .args in
+    let pre = entry .pre in (
       pre,
-      fitting (args .self) (args .keys .now) (args .rows) (tells (c .before .before .before .before .before .before .before .counts-fit .ensures) (not-false _ (c .before .before .before .before .before .before .if1 .left))) (tells (c .before .before .before .before .before .rising .ensures) (not-false _ (c .before .before .before .before .if2 .left))) (tells (c .before .before .before .known .ensures) (not-false _ (c .before .before .if3 .left))) (c .before .observation-of .result) (c .before .observation-of .ensures),
+      fitting (args .self) (args .keys .now) (args .rows) (tells (c .before .before .before .before .before .before .before .counts-fit .ensures)
+          (not-false _ (c .before .before .before .before .before .before .if1 .left)))
+          (tells (c .before .before .before .before .before .rising .ensures) (not-false _ (c .before .before .before .before .if2 .left)))
+          (tells (c .before .before .before .known .ensures) (not-false _ (c .before .before .if3 .left))) (observation-of .result) (observation-of .ensures),
     )
-
-same-length : tie.Need-same-length
-same-length c = search needs
 
 returns-4 : tie.Need-returns-4
 returns-4 c =
-    let args = c .before .before .before .before .before .before .before .before .before .before .before .before .before .before .before .before .args in
-    taken (args .self) (args .keys .now) (args .rows) (args .a .now) (args .mean .now) (args .variance .now) (args .store .now) (c .before .before .before .before .before .before .before .before .before .before .before .before .before .before .before .before .pre) (tells (c .before .before .before .before .before .before .before .before .before .before .counts-fit .ensures) (not-false _ (c .before .before .before .before .before .before .before .before .before .if1 .left))) (tells (c .before .before .before .before .before .before .before .before .rising .ensures) (not-false _ (c .before .before .before .before .before .before .before .if2 .left))) (tells (c .before .before .before .before .before .before .known .ensures) (not-false _ (c .before .before .before .before .before .if3 .left))) (c .before .before .before .before .observation-of .result) _ _ (c .before .before .before .before .observation-of .ensures) (c .before .before .add-factor .ensures)
+    let entry = c .before .before .before .before .before .before .before .before .before .before .before .before .before .before .before .before in
+    let observation-of = c .before .before .before .before .observation-of in
+    let args = entry .args in
+    taken (args .self) (args .keys .now) (args .rows) (args .a .now) (args .mean .now) (args .variance .now) (args .store .now) (entry .pre)
+    (tells (c .before .before .before .before .before .before .before .before .before .before .counts-fit .ensures)
+    (not-false _ (c .before .before .before .before .before .before .before .before .before .if1 .left)))
+    (tells (c .before .before .before .before .before .before .before .before .rising .ensures)
+    (not-false _ (c .before .before .before .before .before .before .before .if2 .left)))
+    (tells (c .before .before .before .before .before .before .known .ensures) (not-false _ (c .before .before .before .before .before .if3 .left)))
+    (observation-of .result) _ _ (observation-of .ensures) (c .before .before .add-factor .ensures)
 
 pub enter-observation-spec : {M : Type 1} → statement M
 enter-observation-spec =
-    tie.close
-    (tie.spec
-    counts-fit-requires
-    refused-requires
+    tie.close (tie.spec
+    (λ c κs. search needs)  -- counts-fit-requires
+    (λ c κs. search needs)  -- refused-requires
     returns
-    rising-requires
-    refused-requires-2
+    (λ c κs. search needs)  -- rising-requires
+    (λ c κs. search needs)  -- refused-requires-2
     returns-2
-    known-requires
-    refused-requires-3
-    returns-3
-    observation-of-requires
-    add-factor-requires
-    same-length
+    (λ c κs. search needs)  -- known-requires
+    (λ c κs. search needs)  -- refused-requires-3
+    returns-3 observation-of-requires add-factor-requires
+    (λ c. search needs)  -- same-length
     returns-4)

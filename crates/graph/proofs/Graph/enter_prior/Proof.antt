@@ -25,67 +25,61 @@ module _ (g : Graph) (key : ℕ) (mean variance store : List Float) (h30 : valid
   fits-as : (f : Factor) (size : ℕ) → key < g .variables → f ≡ priorOf key size → size ≡ sizeAt g key → fits (g .sizes) (g .variables) f ≡ true
   fits-as f size l ef es = rw (ef, es) (prior-fits (g .sizes) (g .variables) key l)
 
-  taken : key < g .variables → (f : Factor) (a s : List Float) (r : Added) → f ≡ priorOf key (sizeAt g key) → a ≡ [] → (r ≡ settle g f (factorVerdict g f a mean variance store)) × (s ≡ stored g store (factorVerdict g f a mean variance store))
+  taken : key < g .variables → (f : Factor) (a s : List Float) (r : Added) → f ≡ priorOf key (sizeAt g key) → a ≡ []
+      → (r ≡ settle g f (factorVerdict g f a mean variance store)) × (s ≡ stored g store (factorVerdict g f a mean variance store))
       → (r ≡ addPrior g key mean variance store) × (s ≡ priorStore g key mean variance store)
   unfolding addPrior priorStore
   taken l f a s r ef ea h =
       let e : factorVerdict g f a mean variance store ≡ priorVerdict g key mean variance store = rw (ef, ea) (sym (prior-as g key mean variance store h30 l)) in
       rw (e, ef) at h
 
-refused-requires : tie.Need-refused-requires
-refused-requires c κs = search needs
-
 returns : tie.Need-returns
 unfolding addPrior priorStore
 returns c =
-    let args = c .before .before .before .before .before .before .args in
-    turned-back (args .self) _ (args .store .now) _ _ _ _ (no-key (args .self) (args .key) (args .mean .now) (args .variance .now) (args .store .now) (c .before .before .before .before .before .before .pre) (c .before .if1 .taken)) (c .refused .ensures) refl
-
-size-of-requires : tie.Need-size-of-requires
-size-of-requires c κs = search needs
+    let entry = c .before .before .before .before .before .before in
+    let args = entry .args in
+    turned-back (args .self) _ (args .store .now) _ _ _ _ (no-key (args .self) (args .key) (args .mean .now) (args .variance .now) (args .store .now)
+    (entry .pre) (c .before .if1 .taken)) (c .refused .ensures) refl
 
 prior-of-requires : tie.Need-prior-of-requires
 prior-of-requires c κs =
-    let args = c .before .before .before .before .before .before .before .args in
-    let v : args .self .variables ≤ max-variables = valid-variables (args .self) (c .before .before .before .before .before .before .before .pre) in
+    let entry = c .before .before .before .before .before .before .before in
+    let args = entry .args in
+    let v : args .self .variables ≤ max-variables = valid-variables (args .self) (entry .pre) in
     (omega (arith, c .before .before .if1 .left), c .size-of .ensures .1)
-
-sub-add-factor : tie.Need-sub-add-factor
-sub-add-factor c = search needs
-
-part-add-factor-start : tie.Need-part-add-factor-start
-part-add-factor-start c = search needs
-
-part-add-factor-end : tie.Need-part-add-factor-end
-part-add-factor-end c = search needs
 
 add-factor-requires : tie.Need-add-factor-requires
 add-factor-requires c κs =
-    let args = c .before .before .before .before .before .before .before .before .before .before .args in
-    let pre = c .before .before .before .before .before .before .before .before .before .before .pre in (
+    let entry = c .before .before .before .before .before .before .before .before .before .before in
+    let size-of = c .before .before .before .size-of in
+    let prior-of = c .before .before .prior-of in
+    let args = entry .args in
+    let pre = entry .pre in (
       pre,
-      fits-as (args .self) (args .key) (args .mean .now) (args .variance .now) (args .store .now) (pre) (c .before .before .prior-of .result) (c .before .before .before .size-of .result) (c .before .before .before .before .before .if1 .left) (c .before .before .prior-of .ensures) (c .before .before .before .size-of .ensures .0),
+      fits-as (args .self) (args .key) (args .mean .now) (args .variance .now) (args .store .now) (pre) (prior-of .result) (size-of .result)
+          (c .before .before .before .before .before .if1 .left) (prior-of .ensures) (size-of .ensures .0),
     )
-
-same-length : tie.Need-same-length
-same-length c = search needs
 
 returns-2 : tie.Need-returns-2
 returns-2 c =
-    let args = c .before .before .before .before .before .before .before .before .before .before .before .before .before .args in
-    taken (args .self) (args .key) (args .mean .now) (args .variance .now) (args .store .now) (c .before .before .before .before .before .before .before .before .before .before .before .before .before .pre) (c .before .before .before .before .before .before .before .before .if1 .left) (c .before .before .before .before .before .prior-of .result) _ _ _ (c .before .before .before .before .before .prior-of .ensures ∙ ap (priorOf (args .key)) (c .before .before .before .before .before .before .size-of .ensures .0)) refl (c .before .before .add-factor .ensures)
+    let entry = c .before .before .before .before .before .before .before .before .before .before .before .before .before in
+    let prior-of = c .before .before .before .before .before .prior-of in
+    let args = entry .args in
+    taken (args .self) (args .key) (args .mean .now) (args .variance .now) (args .store .now) (entry .pre)
+    (c .before .before .before .before .before .before .before .before .if1 .left) (prior-of .result) _ _ _
+    (prior-of .ensures ∙ ap (priorOf (args .key)) (c .before .before .before .before .before .before .size-of .ensures .0)) refl
+    (c .before .before .add-factor .ensures)
 
 pub enter-prior-spec : {M : Type 1} → statement M
 enter-prior-spec =
-    tie.close
-    (tie.spec
-    refused-requires
+    tie.close (tie.spec
+    (λ c κs. search needs)  -- refused-requires
     returns
-    size-of-requires
+    (λ c κs. search needs)  -- size-of-requires
     prior-of-requires
-    sub-add-factor
-    part-add-factor-start
-    part-add-factor-end
+    (λ c. search needs)  -- sub-add-factor
+    (λ c. search needs)  -- part-add-factor-start
+    (λ c. search needs)  -- part-add-factor-end
     add-factor-requires
-    same-length
+    (λ c. search needs)  -- same-length
     returns-2)

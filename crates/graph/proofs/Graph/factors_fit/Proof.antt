@@ -16,62 +16,47 @@ use Rattle.graph.proofs.Graph.factors_fit.Statement.{statement}
 use Rattle.graph.proofs.Graph.factors_fit.Tie as tie
 
 abbrev Inv-loop : tie.InvT-loop
-Inv-loop self sizes number₀ number = (number ≤ max-factors) × (all (λ i. factorPlace self i) number ≡ true) × ((i : ℕ) → i < number → length (factorAt self i .keys) ≡ max-keys)
+Inv-loop self sizes number₀ number = (number ≤ max-factors) × (all (λ i. factorPlace self i) number ≡ true) ×
+    ((i : ℕ) → i < number → length (factorAt self i .keys) ≡ max-keys)
 
 abbrev μ-loop : tie.MeasureT-loop
 μ-loop self sizes number₀ number = max-factors - number
 
-loop-holds : tie.Need-loop-holds Inv-loop μ-loop
-loop-holds c = (search needs, all-none _, below-none _)
-
-mul-f : tie.Need-mul-f Inv-loop μ-loop
-mul-f c = search needs
-
-element-copy-out-f : tie.Need-element-copy-out-f Inv-loop μ-loop
-element-copy-out-f c = search needs
-
-factor-place-requires : tie.Need-factor-place-requires Inv-loop μ-loop
-factor-place-requires c κs = search needs
-
 returns : tie.Need-returns Inv-loop μ-loop
 unfolding factorsFit
-returns c = (
-  sym (all-fail (λ i. factorPlace (c .before .before .before .before .before .before .args .t1) i) max-factors (c .before .before .before .before .loop .number) (search needs) (tells (placed-is (c .before .before .before .before .before .before .args .t1) (c .before .before .before .before .loop .number) _ _ _ refl refl (c .before .factor-place .ensures .0)) (not-true _ (c .if1 .taken)))),
-  λ x. absurd (false≢true x),
-)
-
-add-number : tie.Need-add-number Inv-loop μ-loop
-add-number c = search needs
-
-loop-less : tie.Need-loop-less Inv-loop μ-loop
-loop-less c = search needs
+returns c =
+    let args = c .before .before .before .before .before .before .args in
+    let loop = c .before .before .before .before .loop in (
+      sym (all-fail (λ i. factorPlace (args .t1) i) max-factors (loop .number) (search needs)
+          (tells (placed-is (args .t1) (loop .number) _ _ _ refl refl (c .before .factor-place .ensures .0)) (not-true _ (c .if1 .taken)))),
+      λ x. absurd (false≢true x),
+    )
 
 loop-again : tie.Need-loop-again Inv-loop μ-loop
 loop-again c =
+    let factor-place = c .before .factor-place in
     let loop = c .before .before .before .before .loop in (
       search needs,
-      all-more _ _ (loop .inv .1) (tells (placed-is (c .before .before .before .before .before .before .args .t1) (loop .number) _ _ _ refl refl (c .before .factor-place .ensures .0)) (not-false _ (c .if1 .left))),
-      below-more _ _ (loop .inv .2) (c .before .factor-place .ensures .1),
+      all-more _ _ (loop .inv .1) (tells (placed-is (c .before .before .before .before .before .before .args .t1) (loop .number) _ _ _ refl refl
+          (factor-place .ensures .0)) (not-false _ (c .if1 .left))),
+      below-more _ _ (loop .inv .2) (factor-place .ensures .1),
     )
 
 returns-2 : tie.Need-returns-2 Inv-loop μ-loop
 unfolding factorsFit
 returns-2 c =
-    let e : c .before .loop .number ≡ max-factors = omega arith in
-    (sym (rw e at (c .before .loop .inv .1)), λ _ i l. c .before .loop .inv .2 i (omega arith))
+    let loop = c .before .loop in
+    let e : loop .number ≡ max-factors = omega arith in
+    (sym (rw e at (loop .inv .1)), λ _ i l. loop .inv .2 i (omega arith))
 
 pub factors-fit-spec : {M : Type 1} → statement M
 factors-fit-spec =
-    tie.close
-    (tie.spec
-    Inv-loop
-    μ-loop
-    loop-holds
-    mul-f
-    element-copy-out-f
-    factor-place-requires
+    tie.close (tie.spec Inv-loop μ-loop
+    (λ c. (search needs, all-none _, below-none _))  -- loop-holds
+    (λ c. search needs)  -- mul-f
+    (λ c. search needs)  -- element-copy-out-f
+    (λ c κs. search needs)  -- factor-place-requires
     returns
-    add-number
-    loop-less
-    loop-again
-    returns-2)
+    (λ c. search needs)  -- add-number
+    (λ c. search needs)  -- loop-less
+    loop-again returns-2)

@@ -16,47 +16,29 @@ Inv-loop n name self key₀ key = (key ≤ n) × (all (λ j. not (same (nameAt s
 abbrev μ-loop : tie.MeasureT-loop
 μ-loop n name self key₀ key = n - key
 
-loop-holds : tie.Need-loop-holds Inv-loop μ-loop
-loop-holds c = (search needs, all-none _)
-
-mul-other : tie.Need-mul-other Inv-loop μ-loop
-mul-other c = search needs
-
-element-copy-out-other : tie.Need-element-copy-out-other Inv-loop μ-loop
-element-copy-out-other c = search needs
-
-same-requires : tie.Need-same-requires Inv-loop μ-loop
-same-requires c κs = search needs
-
 returns : tie.Need-returns Inv-loop μ-loop
 unfolding free
-returns c = sym (all-fail (λ j. not (same (nameAt (c .before .before .before .before .before .args .t1) j) (c .before .before .before .before .before .args .name))) _ (c .before .before .before .before .loop .key) (omega arith) (ap not (tells (c .before .same .ensures) (c .if1 .taken))))
-
-add-key : tie.Need-add-key Inv-loop μ-loop
-add-key c = search needs
-
-loop-less : tie.Need-loop-less Inv-loop μ-loop
-loop-less c = search needs
+returns c =
+    let args = c .before .before .before .before .before .args in
+    sym (all-fail (λ j. not (same (nameAt (args .t1) j) (args .name))) _ (c .before .before .before .before .loop .key) (omega arith)
+    (ap not (tells (c .before .same .ensures) (c .if1 .taken))))
 
 loop-again : tie.Need-loop-again Inv-loop μ-loop
 loop-again c = (omega arith, all-more _ _ (c .before .before .before .before .loop .inv .1) (ap not (tells (c .before .same .ensures) (c .if1 .left))))
 
 returns-2 : tie.Need-returns-2 Inv-loop μ-loop
 unfolding free
-returns-2 c = let e : c .before .loop .key ≡ c .before .before .args .n = omega arith in sym (rw e at (c .before .loop .inv .1))
+returns-2 c =
+    let e : c .before .loop .key ≡ c .before .before .args .n = omega arith in sym (rw e at (c .before .loop .inv .1))
 
 pub free-spec : {M : Type 1} → statement M
 free-spec =
-    tie.close
-    (tie.spec
-    Inv-loop
-    μ-loop
-    loop-holds
-    mul-other
-    element-copy-out-other
-    same-requires
+    tie.close (tie.spec Inv-loop μ-loop
+    (λ c. (search needs, all-none _))  -- loop-holds
+    (λ c. search needs)  -- mul-other
+    (λ c. search needs)  -- element-copy-out-other
+    (λ c κs. search needs)  -- same-requires
     returns
-    add-key
-    loop-less
-    loop-again
-    returns-2)
+    (λ c. search needs)  -- add-key
+    (λ c. search needs)  -- loop-less
+    loop-again returns-2)

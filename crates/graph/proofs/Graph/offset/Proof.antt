@@ -18,9 +18,6 @@ Inv-loop number self sizes sum₀ i₀ sum i = (i ≤ number) × (sum ≤ most-n
 abbrev μ-loop : tie.MeasureT-loop
 μ-loop number self sizes sum₀ i₀ sum i = number - i
 
-loop-holds : tie.Need-loop-holds Inv-loop μ-loop
-loop-holds c = (search needs, search needs, sym (sum-none _))
-
 mul-f : tie.Need-mul-f Inv-loop μ-loop
 mul-f c = omega (arith, valid-count (c .before .before .before .args .t1) (c .before .before .before .pre .0))
 
@@ -28,16 +25,14 @@ element-copy-out-f : tie.Need-element-copy-out-f Inv-loop μ-loop
 element-copy-out-f c = omega (arith, valid-count (c .before .before .before .args .t1) (c .before .before .before .pre .0))
 
 numbers-requires : tie.Need-numbers-requires Inv-loop μ-loop
-numbers-requires c κs = valid-touched (c .before .before .before .before .args .t1) (c .before .before .before .before .pre .0) (c .before .before .loop .i) (omega arith)
+numbers-requires c κs =
+    let entry = c .before .before .before .before in
+    valid-touched (entry .args .t1) (entry .pre .0) (c .before .before .loop .i) (omega arith)
 
 add-sum : tie.Need-add-sum Inv-loop μ-loop
-add-sum c = omega (arith, c .numbers .ensures .1, c .before .before .before .loop .inv .1, valid-count (c .before .before .before .before .before .args .t1) (c .before .before .before .before .before .pre .0))
-
-add-i : tie.Need-add-i Inv-loop μ-loop
-add-i c = search needs
-
-loop-less : tie.Need-loop-less Inv-loop μ-loop
-loop-less c = search needs
+add-sum c =
+    let entry = c .before .before .before .before .before in
+    omega (arith, c .numbers .ensures .1, c .before .before .before .loop .inv .1, valid-count (entry .args .t1) (entry .pre .0))
 
 loop-again : tie.Need-loop-again Inv-loop μ-loop
 loop-again c =
@@ -45,30 +40,25 @@ loop-again c =
     let loop = c .before .before .before .loop in (
       omega arith,
       omega (arith, c .numbers .ensures .1, loop .inv .1),
-      ap (λ (x : ℕ). loop .sum + x) (c .numbers .ensures .0) ∙ ap (λ (x : ℕ). x + numbers (args .t1 .sizes) (factorAt (args .t1) (loop .i))) (loop .inv .2) ∙ sym (sum-more (λ k. numbers (args .t1 .sizes) (factorAt (args .t1) k)) (loop .i)),
+      ap (λ (x : ℕ). loop .sum + x) (c .numbers .ensures .0) ∙ ap (λ (x : ℕ). x + numbers (args .t1 .sizes) (factorAt (args .t1) (loop .i)))
+          (loop .inv .2) ∙ sym (sum-more (λ k. numbers (args .t1 .sizes) (factorAt (args .t1) k)) (loop .i)),
     )
 
 returns : tie.Need-returns Inv-loop μ-loop
 unfolding offset
 returns c =
+    let loop = c .before .loop in
     let args = c .before .before .before .args in
-    let e : c .before .loop .i ≡ args .number = omega arith in (
-      c .before .loop .inv .2 ∙ ap (counting.sum (λ k. numbers (args .t1 .sizes) (factorAt (args .t1) k))) e,
-      omega (arith, c .before .loop .inv .1, valid-count (args .t1) (c .before .before .before .pre .0)),
+    let e : loop .i ≡ args .number = omega arith in (
+      loop .inv .2 ∙ ap (counting.sum (λ k. numbers (args .t1 .sizes) (factorAt (args .t1) k))) e,
+      omega (arith, loop .inv .1, valid-count (args .t1) (c .before .before .before .pre .0)),
     )
 
 pub offset-spec : {M : Type 1} → statement M
 offset-spec =
-    tie.close
-    (tie.spec
-    Inv-loop
-    μ-loop
-    loop-holds
-    mul-f
-    element-copy-out-f
-    numbers-requires
-    add-sum
-    add-i
-    loop-less
-    loop-again
-    returns)
+    tie.close (tie.spec Inv-loop μ-loop
+    (λ c. (search needs, search needs, sym (sum-none _)))  -- loop-holds
+    mul-f element-copy-out-f numbers-requires add-sum
+    (λ c. search needs)  -- add-i
+    (λ c. search needs)  -- loop-less
+    loop-again returns)

@@ -29,47 +29,30 @@ Inv-loop self sum₀ key₀ sum key = (key ≤ max-variables) × (sum ≤ 255 * 
 abbrev μ-loop : tie.MeasureT-loop
 μ-loop self sum₀ key₀ sum key = max-variables - key
 
-loop-holds : tie.Need-loop-holds Inv-loop μ-loop
-loop-holds c = (search needs, search needs, sym (sum-none _))
-
-element-copy-out-sum : tie.Need-element-copy-out-sum Inv-loop μ-loop
-element-copy-out-sum c = search needs
-
-cast-sum : tie.Need-cast-sum Inv-loop μ-loop
-cast-sum c = search needs
-
 add-sum : tie.Need-add-sum Inv-loop μ-loop
 add-sum c =
     let b : Fits w8 (getD (c .before .before .before .args .t1 .sizes) (c .before .before .loop .key) 0) = search needs in
     omega (arith, b .fits, c .before .before .loop .inv .1)
 
-add-key : tie.Need-add-key Inv-loop μ-loop
-add-key c = search needs
-
-loop-less : tie.Need-loop-less Inv-loop μ-loop
-loop-less c = search needs
-
 loop-again : tie.Need-loop-again Inv-loop μ-loop
 loop-again c =
     let b : Fits w8 (getD (c .before .before .before .args .t1 .sizes) (c .before .before .loop .key) 0) = search needs in
-    (omega arith, omega (arith, b .fits, c .before .before .loop .inv .1), added (c .before .before .before .args .t1) (c .before .before .loop .key) (c .before .before .loop .inv .2))
+    let loop = c .before .before .loop in
+    (omega arith, omega (arith, b .fits, loop .inv .1), added (c .before .before .before .args .t1) (loop .key) (loop .inv .2))
 
 returns : tie.Need-returns Inv-loop μ-loop
 returns c =
-    let e : c .before .loop .key ≡ max-variables = omega arith in
-    summed (c .before .before .args .t1) (c .before .loop .key) e (c .before .loop .inv .2)
+    let loop = c .before .loop in
+    let e : loop .key ≡ max-variables = omega arith in
+    summed (c .before .before .args .t1) (loop .key) e (loop .inv .2)
 
 pub total-spec : {M : Type 1} → statement M
 total-spec =
-    tie.close
-    (tie.spec
-    Inv-loop
-    μ-loop
-    loop-holds
-    element-copy-out-sum
-    cast-sum
+    tie.close (tie.spec Inv-loop μ-loop
+    (λ c. (search needs, search needs, sym (sum-none _)))  -- loop-holds
+    (λ c. search needs)  -- element-copy-out-sum
+    (λ c. search needs)  -- cast-sum
     add-sum
-    add-key
-    loop-less
-    loop-again
-    returns)
+    (λ c. search needs)  -- add-key
+    (λ c. search needs)  -- loop-less
+    loop-again returns)

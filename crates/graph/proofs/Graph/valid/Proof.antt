@@ -55,44 +55,42 @@ module _ (g : Graph) where
 decided : (g : Graph) (r : Bool) → r ≡ factorsFit g → factorsFit g ≡ valid g → (r ≡ true → Shaped g) → (r ≡ valid g) × ((r ≡ true) ↔ Reached g)
 decided g r e d sh = (e ∙ d, (λ t. exact g (sh t) .0 (sym (e ∙ d) ∙ t), λ h. e ∙ d ∙ good-of g h .1))
 
-returns : tie.Need-returns
-returns c = not-reached _ (too-many (c .before .before .args .self) (c .if1 .taken))
-
 returns-2 : tie.Need-returns-2
 returns-2 c = not-reached _ (too-many-factors (c .before .before .before .before .args .self) (c .before .before .if1 .left) (c .if2 .taken))
 
-variables-fit-requires : tie.Need-variables-fit-requires
-variables-fit-requires c κs = search needs
-
 returns-3 : tie.Need-returns-3
-returns-3 c = not-reached _ (bad-variable (c .before .before .before .before .before .before .args .self) (c .before .before .before .before .if1 .left) (c .before .before .if2 .left) (tells (c .before .variables-fit .ensures) (not-true _ (c .if3 .taken))))
-
-total-requires : tie.Need-total-requires
-total-requires c κs = search needs
+returns-3 c = not-reached _ (bad-variable (c .before .before .before .before .before .before .args .self)
+    (c .before .before .before .before .if1 .left) (c .before .before .if2 .left) (tells (c .before .variables-fit .ensures) (not-true _ (c .if3 .taken))))
 
 returns-4 : tie.Need-returns-4
-returns-4 c = not-reached _ (too-large (c .before .before .before .before .before .before .before .before .args .self) (c .before .before .before .before .before .before .if1 .left) (c .before .before .before .before .if2 .left) (tells (c .before .before .before .variables-fit .ensures) (not-false _ (c .before .before .if3 .left))) (c .before .total .result) (c .before .total .ensures) (c .if4 .taken))
-
-factors-fit-requires : tie.Need-factors-fit-requires
-factors-fit-requires c κs = search needs
+returns-4 c = not-reached _ (too-large (c .before .before .before .before .before .before .before .before .args .self)
+    (c .before .before .before .before .before .before .if1 .left) (c .before .before .before .before .if2 .left)
+    (tells (c .before .before .before .variables-fit .ensures) (not-false _ (c .before .before .if3 .left))) (c .before .total .result)
+    (c .before .total .ensures) (c .if4 .taken))
 
 returns-5 : tie.Need-returns-5
 returns-5 c =
-    let sy : length (c .before .before .before .before .before .before .before .before .before .args .self .symbols) ≡ max-variables = search (needs, unmapped) in
+    let sy : length (c .before .before .before .before .before .before .before .before .before .args .self .symbols)
+    ≡ max-variables = search (needs, unmapped) in
     let si : length (c .before .before .before .before .before .before .before .before .before .args .self .sizes) ≡ max-variables = search needs in
     let fa : length (c .before .before .before .before .before .before .before .before .before .args .self .factors) ≡ max-factors = search (needs, unmapped) in
-    decided (c .before .before .before .before .before .before .before .before .before .args .self) (c .factors-fit .result) (c .factors-fit .ensures .0) (by-factors (c .before .before .before .before .before .before .before .before .before .args .self) (c .before .before .before .before .before .before .before .if1 .left) (c .before .before .before .before .before .if2 .left) (tells (c .before .before .before .before .variables-fit .ensures) (not-false _ (c .before .before .before .if3 .left))) (c .before .before .total .result) (c .before .before .total .ensures) (c .before .if4 .left))
-    (λ t. record { symbols = sy; sizes = si; factors = fa; keys = c .factors-fit .ensures .1 t })
+    let args = c .before .before .before .before .before .before .before .before .before .args in
+    let the-total = c .before .before .total in
+    let factors-fit = c .factors-fit in
+    decided (args .self) (factors-fit .result) (factors-fit .ensures .0)
+    (by-factors (args .self) (c .before .before .before .before .before .before .before .if1 .left)
+    (c .before .before .before .before .before .if2 .left) (tells (c .before .before .before .before .variables-fit .ensures)
+    (not-false _ (c .before .before .before .if3 .left))) (the-total .result) (the-total .ensures) (c .before .if4 .left))
+    (λ t. record { symbols = sy; sizes = si; factors = fa; keys = factors-fit .ensures .1 t })
 
 pub valid-spec : {M : Type 1} → statement M
 valid-spec =
-    tie.close
-    (tie.spec
-    returns
+    tie.close (tie.spec
+    (λ c. not-reached _ (too-many (c .before .before .args .self) (c .if1 .taken)))  -- returns
     returns-2
-    variables-fit-requires
+    (λ c κs. search needs)  -- variables-fit-requires
     returns-3
-    total-requires
+    (λ c κs. search needs)  -- total-requires
     returns-4
-    factors-fit-requires
+    (λ c κs. search needs)  -- factors-fit-requires
     returns-5)

@@ -16,81 +16,51 @@ use Rattle.graph.proofs.Graph.variables_fit.Statement.{statement}
 use Rattle.graph.proofs.Graph.variables_fit.Tie as tie
 
 abbrev Inv-loop : tie.InvT-loop
-Inv-loop self letters₀ indices₀ key₀ letters indices key = (key ≤ max-variables) × (all (λ i. place self i) key ≡ true) × (length letters ≡ max-variables) × (length indices ≡ max-variables) × Names self letters indices key
+Inv-loop self letters₀ indices₀ key₀ letters indices key = (key ≤ max-variables) × (all (λ i. place self i) key ≡ true) ×
+    (length letters ≡ max-variables) × (length indices ≡ max-variables) × Names self letters indices key
 
 abbrev μ-loop : tie.MeasureT-loop
 μ-loop self letters₀ indices₀ key₀ letters indices key = max-variables - key
-
-loop-holds : tie.Need-loop-holds Inv-loop μ-loop
-loop-holds c = (search needs, all-none _, search needs, search needs, below-none _)
-
-mul-name : tie.Need-mul-name Inv-loop μ-loop
-mul-name c = search needs
-
-element-copy-out-name : tie.Need-element-copy-out-name Inv-loop μ-loop
-element-copy-out-name c = search needs
-
-element-copy-out-size : tie.Need-element-copy-out-size Inv-loop μ-loop
-element-copy-out-size c = search needs
-
-variable-place-requires : tie.Need-variable-place-requires Inv-loop μ-loop
-variable-place-requires c κs = search needs
 
 returns : tie.Need-returns Inv-loop μ-loop
 unfolding variablesFit
 returns c =
     let args = c .before .before .before .before .before .before .before .before .args in
     let loop = c .before .before .before .before .before .before .before .loop in
-    sym (all-fail (λ i. place (args .t1) i) max-variables (loop .key) (search needs) (tells (variable-placed (args .t1) (loop .letters) (loop .indices) (loop .key) _ _ (loop .inv .4) refl (c .before .variable-place .ensures)) (not-true _ (c .if1 .taken))))
-
-mul-letters : tie.Need-mul-letters Inv-loop μ-loop
-mul-letters c = search needs
-
-array-write-letters : tie.Need-array-write-letters Inv-loop μ-loop
-array-write-letters c = search needs
-
-mul-indices : tie.Need-mul-indices Inv-loop μ-loop
-mul-indices c = search needs
-
-array-write-indices : tie.Need-array-write-indices Inv-loop μ-loop
-array-write-indices c = search needs
-
-add-key : tie.Need-add-key Inv-loop μ-loop
-add-key c = search needs
-
-loop-less : tie.Need-loop-less Inv-loop μ-loop
-loop-less c = search needs
+    sym (all-fail (λ i. place (args .t1) i) max-variables (loop .key) (search needs)
+    (tells (variable-placed (args .t1) (loop .letters) (loop .indices) (loop .key) _ _ (loop .inv .4) refl (c .before .variable-place .ensures))
+    (not-true _ (c .if1 .taken))))
 
 loop-again : tie.Need-loop-again Inv-loop μ-loop
-loop-again c = (
-  search needs,
-  all-more _ _ (c .before .before .before .before .before .before .before .loop .inv .1) (tells (variable-placed (c .before .before .before .before .before .before .before .before .args .t1) (c .before .before .before .before .before .before .before .loop .letters) (c .before .before .before .before .before .before .before .loop .indices) (c .before .before .before .before .before .before .before .loop .key) _ _ (c .before .before .before .before .before .before .before .loop .inv .4) refl (c .before .variable-place .ensures)) (not-false _ (c .if1 .left))),
-  search needs,
-  search needs,
-  names-more (c .before .before .before .before .before .before .before .before .args .t1) (c .before .before .before .before .before .before .before .loop .letters) (c .before .before .before .before .before .before .before .loop .indices) (c .before .before .before .before .before .before .before .loop .key) (omega arith) (omega arith) (c .before .before .before .before .before .before .before .loop .inv .4),
-)
+loop-again c =
+    let args = c .before .before .before .before .before .before .before .before .args in
+    let loop = c .before .before .before .before .before .before .before .loop in (
+      search needs,
+      all-more _ _ (loop .inv .1) (tells (variable-placed (args .t1) (loop .letters) (loop .indices) (loop .key) _ _ (loop .inv .4) refl
+          (c .before .variable-place .ensures)) (not-false _ (c .if1 .left))),
+      search needs,
+      search needs,
+      names-more (args .t1) (loop .letters) (loop .indices) (loop .key) (omega arith) (omega arith) (loop .inv .4),
+    )
 
 returns-2 : tie.Need-returns-2 Inv-loop μ-loop
 unfolding variablesFit
-returns-2 c = let e : c .before .loop .key ≡ max-variables = omega arith in sym (rw e at (c .before .loop .inv .1))
+returns-2 c =
+    let e : c .before .loop .key ≡ max-variables = omega arith in sym (rw e at (c .before .loop .inv .1))
 
 pub variables-fit-spec : {M : Type 1} → statement M
 variables-fit-spec =
-    tie.close
-    (tie.spec
-    Inv-loop
-    μ-loop
-    loop-holds
-    mul-name
-    element-copy-out-name
-    element-copy-out-size
-    variable-place-requires
+    tie.close (tie.spec Inv-loop μ-loop
+    (λ c. (search needs, all-none _, search needs, search needs, below-none _))  -- loop-holds
+    (λ c. search needs)  -- mul-name
+    (λ c. search needs)  -- element-copy-out-name
+    (λ c. search needs)  -- element-copy-out-size
+    (λ c κs. search needs)  -- variable-place-requires
     returns
-    mul-letters
-    array-write-letters
-    mul-indices
-    array-write-indices
-    add-key
-    loop-less
-    loop-again
-    returns-2)
+    (λ c. search needs)  -- mul-letters
+    (λ c. search needs)  -- array-write-letters
+    (λ c. search needs)  -- mul-indices
+    (λ c. search needs)  -- array-write-indices
+    (λ c. search needs)  -- add-key
+    (λ c. search needs)  -- loop-less
+    loop-again returns-2)

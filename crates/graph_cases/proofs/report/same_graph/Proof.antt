@@ -10,61 +10,19 @@ Inv-loop a b i₀ i = i ≤ 64
 abbrev μ-loop : tie.MeasureT-loop
 μ-loop a b i₀ i = 64 - i
 
-loop-holds : tie.Need-loop-holds Inv-loop μ-loop
-loop-holds c = search needs
-
-mul-x : tie.Need-mul-x Inv-loop μ-loop
-mul-x c = search needs
-
-element-copy-out-x : tie.Need-element-copy-out-x Inv-loop μ-loop
-element-copy-out-x c = search needs
-
-mul-y : tie.Need-mul-y Inv-loop μ-loop
-mul-y c = search needs
-
-element-copy-out-y : tie.Need-element-copy-out-y Inv-loop μ-loop
-element-copy-out-y c = search needs
-
-same-factor-requires : tie.Need-same-factor-requires Inv-loop μ-loop
-same-factor-requires c κs = search needs
-
-returns : tie.Need-returns Inv-loop μ-loop
-returns c = search needs
-
-add-i : tie.Need-add-i Inv-loop μ-loop
-add-i c = search needs
-
-loop-less : tie.Need-loop-less Inv-loop μ-loop
-loop-less c = search needs
-
-loop-again : tie.Need-loop-again Inv-loop μ-loop
-loop-again c = search needs
-
-same-variables-requires : tie.Need-same-variables-requires Inv-loop μ-loop
-same-variables-requires c κs = search needs
-
-returns-2 : tie.Need-returns-2 Inv-loop μ-loop
-returns-2 c = search needs
-
-returns-3 : tie.Need-returns-3 Inv-loop μ-loop
-returns-3 c = search needs
-
 pub same-graph-spec : {M : Type 1} → statement M
 same-graph-spec =
-    tie.close
-    (tie.spec
-    Inv-loop
-    μ-loop
-    loop-holds
-    mul-x
-    element-copy-out-x
-    mul-y
-    element-copy-out-y
-    same-factor-requires
-    returns
-    add-i
-    loop-less
-    loop-again
-    same-variables-requires
-    returns-2
-    returns-3)
+    tie.close (tie.spec Inv-loop μ-loop
+    (λ c. search needs)  -- loop-holds
+    (λ c. search needs)  -- mul-x
+    (λ c. search needs)  -- element-copy-out-x
+    (λ c. search needs)  -- mul-y
+    (λ c. search needs)  -- element-copy-out-y
+    (λ c κs. search needs)  -- same-factor-requires
+    (λ c. search needs)  -- returns
+    (λ c. search needs)  -- add-i
+    (λ c. search needs)  -- loop-less
+    (λ c. search needs)  -- loop-again
+    (λ c κs. search needs)  -- same-variables-requires
+    (λ c. search needs)  -- returns-2
+    (λ c. search needs))  -- returns-3

@@ -10,65 +10,20 @@ Inv-loop a b i₀ i = i ≤ 32
 abbrev μ-loop : tie.MeasureT-loop
 μ-loop a b i₀ i = 32 - i
 
-loop-holds : tie.Need-loop-holds Inv-loop μ-loop
-loop-holds c = search needs
-
-mul-x : tie.Need-mul-x Inv-loop μ-loop
-mul-x c = search needs
-
-element-copy-out-x : tie.Need-element-copy-out-x Inv-loop μ-loop
-element-copy-out-x c = search needs
-
-mul-y : tie.Need-mul-y Inv-loop μ-loop
-mul-y c = search needs
-
-element-copy-out-y : tie.Need-element-copy-out-y Inv-loop μ-loop
-element-copy-out-y c = search needs
-
-same-symbol-requires : tie.Need-same-symbol-requires Inv-loop μ-loop
-same-symbol-requires c κs = search needs
-
-returns : tie.Need-returns Inv-loop μ-loop
-returns c = search needs
-
-element-copy-out-if2 : tie.Need-element-copy-out-if2 Inv-loop μ-loop
-element-copy-out-if2 c = search needs
-
-element-copy-out-if2-2 : tie.Need-element-copy-out-if2-2 Inv-loop μ-loop
-element-copy-out-if2-2 c = search needs
-
-returns-2 : tie.Need-returns-2 Inv-loop μ-loop
-returns-2 c = search needs
-
-add-i : tie.Need-add-i Inv-loop μ-loop
-add-i c = search needs
-
-loop-less : tie.Need-loop-less Inv-loop μ-loop
-loop-less c = search needs
-
-loop-again : tie.Need-loop-again Inv-loop μ-loop
-loop-again c = search needs
-
-returns-3 : tie.Need-returns-3 Inv-loop μ-loop
-returns-3 c = search needs
-
 pub same-variables-spec : {M : Type 1} → statement M
 same-variables-spec =
-    tie.close
-    (tie.spec
-    Inv-loop
-    μ-loop
-    loop-holds
-    mul-x
-    element-copy-out-x
-    mul-y
-    element-copy-out-y
-    same-symbol-requires
-    returns
-    element-copy-out-if2
-    element-copy-out-if2-2
-    returns-2
-    add-i
-    loop-less
-    loop-again
-    returns-3)
+    tie.close (tie.spec Inv-loop μ-loop
+    (λ c. search needs)  -- loop-holds
+    (λ c. search needs)  -- mul-x
+    (λ c. search needs)  -- element-copy-out-x
+    (λ c. search needs)  -- mul-y
+    (λ c. search needs)  -- element-copy-out-y
+    (λ c κs. search needs)  -- same-symbol-requires
+    (λ c. search needs)  -- returns
+    (λ c. search needs)  -- element-copy-out-if2
+    (λ c. search needs)  -- element-copy-out-if2-2
+    (λ c. search needs)  -- returns-2
+    (λ c. search needs)  -- add-i
+    (λ c. search needs)  -- loop-less
+    (λ c. search needs)  -- loop-again
+    (λ c. search needs))  -- returns-3

@@ -16,18 +16,6 @@ Inv-loop f n r₀ i₀ r i = (i ≤ n) × Set (take i (f .keys)) r
 abbrev μ-loop : tie.MeasureT-loop
 μ-loop f n r₀ i₀ r i = n - i
 
-wide-requires : tie.Need-wide-requires Inv-loop μ-loop
-wide-requires c κs = search needs
-
-loop-holds : tie.Need-loop-holds Inv-loop μ-loop
-loop-holds c = (omega arith, set-none)
-
-element-copy-out-wide : tie.Need-element-copy-out-wide Inv-loop μ-loop
-element-copy-out-wide c = omega (arith, c .before .before .before .pre .few, c .before .before .wide .ensures)
-
-wide-requires-2 : tie.Need-wide-requires-2 Inv-loop μ-loop
-wide-requires-2 c κs = search needs
-
 single-requires : tie.Need-single-requires Inv-loop μ-loop
 single-requires c κs =
     let pre = c .before .before .before .before .before .pre in
@@ -41,17 +29,18 @@ add-i c =
     let wide = c .before .before .before .before .before .wide in
     record { fits = omega (arith, pre .few, wide .ensures) }
 
-loop-less : tie.Need-loop-less Inv-loop μ-loop
-loop-less c = omega arith
-
 loop-again : tie.Need-loop-again Inv-loop μ-loop
 loop-again c =
-    let args = c .before .before .before .before .before .before .args in
+    let entry = c .before .before .before .before .before .before in
+    let args = entry .args in
     let loop = c .before .before .before .before .loop in
     let single = c .single in
-    let pre = c .before .before .before .before .before .before .pre in
-    let wide = c .before .before .before .before .before .wide in
-    (omega arith, set-take (args .t1 .keys) (loop .i) (loop .r) (single .result) (omega (arith, pre .few, pre .long, wide .ensures)) (loop .inv .1) (single .ensures ∙ ap (λ (x : ℕ). 2 ^ x) (c .before .wide2 .ensures)))
+    let pre = entry .pre in
+    let wide = c .before .before .before .before .before .wide in (
+      omega arith,
+      set-take (args .t1 .keys) (loop .i) (loop .r) (single .result) (omega (arith, pre .few, pre .long, wide .ensures)) (loop .inv .1)
+          (single .ensures ∙ ap (λ (x : ℕ). 2 ^ x) (c .before .wide2 .ensures)),
+    )
 
 returns : tie.Need-returns Inv-loop μ-loop
 returns c =
@@ -62,16 +51,11 @@ returns c =
 
 pub mask-of-spec : {M : Type 1} → statement M
 mask-of-spec =
-    tie.close
-    (tie.spec
-    Inv-loop
-    μ-loop
-    wide-requires
-    loop-holds
-    element-copy-out-wide
-    wide-requires-2
-    single-requires
-    add-i
-    loop-less
-    loop-again
-    returns)
+    tie.close (tie.spec Inv-loop μ-loop
+    (λ c κs. search needs)  -- wide-requires
+    (λ c. (omega arith, set-none))  -- loop-holds
+    (λ c. omega (arith, c .before .before .before .pre .few, c .before .before .wide .ensures))  -- element-copy-out-wide
+    (λ c κs. search needs)  -- wide-requires-2
+    single-requires add-i
+    (λ c. omega arith)  -- loop-less
+    loop-again returns)

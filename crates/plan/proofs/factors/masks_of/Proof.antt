@@ -12,29 +12,8 @@ Inv-loop count factors r₀ i₀ r i = (i ≤ count) × MaskedTo factors r i
 abbrev μ-loop : tie.MeasureT-loop
 μ-loop count factors r₀ i₀ r i = count - i
 
-loop-holds : tie.Need-loop-holds Inv-loop μ-loop
-loop-holds c = (omega arith, masked-none (c .args .t1))
-
-mul-f : tie.Need-mul-f Inv-loop μ-loop
-mul-f c = record { fits = omega arith }
-
-array-copy-out-f : tie.Need-array-copy-out-f Inv-loop μ-loop
-array-copy-out-f c = omega arith
-
 mask-of-requires : tie.Need-mask-of-requires Inv-loop μ-loop
 mask-of-requires c κs = c .before .before .before .pre .1 (c .before .before .loop .i) (c .before .loop-test .taken)
-
-mul-r : tie.Need-mul-r Inv-loop μ-loop
-mul-r c = record { fits = omega arith }
-
-array-write-r : tie.Need-array-write-r Inv-loop μ-loop
-array-write-r c = omega arith
-
-add-i : tie.Need-add-i Inv-loop μ-loop
-add-i c = record { fits = omega arith }
-
-loop-less : tie.Need-loop-less Inv-loop μ-loop
-loop-less c = omega arith
 
 loop-again : tie.Need-loop-again Inv-loop μ-loop
 loop-again c =
@@ -51,17 +30,13 @@ returns c =
 
 pub masks-of-spec : {M : Type 1} → statement M
 masks-of-spec =
-    tie.close
-    (tie.spec
-    Inv-loop
-    μ-loop
-    loop-holds
-    mul-f
-    array-copy-out-f
+    tie.close (tie.spec Inv-loop μ-loop
+    (λ c. (omega arith, masked-none (c .args .t1)))  -- loop-holds
+    (λ c. record { fits = omega arith })  -- mul-f
+    (λ c. omega arith)  -- array-copy-out-f
     mask-of-requires
-    mul-r
-    array-write-r
-    add-i
-    loop-less
-    loop-again
-    returns)
+    (λ c. record { fits = omega arith })  -- mul-r
+    (λ c. omega arith)  -- array-write-r
+    (λ c. record { fits = omega arith })  -- add-i
+    (λ c. omega arith)  -- loop-less
+    loop-again returns)

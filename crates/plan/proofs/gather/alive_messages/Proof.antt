@@ -16,28 +16,12 @@ abbrev μ-loop : tie.MeasureT-loop
 μ-loop t self content n upto₀ within₀ i₀ upto within i = n - i
 
 loop-holds : tie.Need-loop-holds Inv-loop μ-loop
-loop-holds c = start (c .before .before .args .t) (c .before .before .args .t1)
-
-element-copy-out-at : tie.Need-element-copy-out-at Inv-loop μ-loop
-element-copy-out-at c = search needs
-
-cast-at : tie.Need-cast-at Inv-loop μ-loop
-cast-at c = search needs
-
-single-requires : tie.Need-single-requires Inv-loop μ-loop
-single-requires c κs = omega (arith, c .before .before .before .before .before .before .pre .few)
-
-element-copy-out-from : tie.Need-element-copy-out-from Inv-loop μ-loop
-element-copy-out-from c = omega (arith, c .before .before .before .before .before .before .before .pre .few)
-
-cast-from : tie.Need-cast-from Inv-loop μ-loop
-cast-from c = search needs
+loop-holds c =
+    let args = c .before .before .args in
+    start (args .t) (args .t1)
 
 element-copy-out-to : tie.Need-element-copy-out-to Inv-loop μ-loop
 element-copy-out-to c = omega (arith, c .before .before .before .before .before .before .before .before .pre .few)
-
-cast-to : tie.Need-cast-to Inv-loop μ-loop
-cast-to c = search needs
 
 messages-in-requires : tie.Need-messages-in-requires Inv-loop μ-loop
 messages-in-requires c κs =
@@ -66,9 +50,6 @@ messages-in-requires c κs =
 add-i : tie.Need-add-i Inv-loop μ-loop
 add-i c = record { fits = omega (arith, c .before .before .before .before .before .before .pre .few) }
 
-loop-less : tie.Need-loop-less Inv-loop μ-loop
-loop-less c = omega arith
-
 loop-again : tie.Need-loop-again Inv-loop μ-loop
 loop-again c =
     let args = c .before .before .before .before .before .before .args in
@@ -88,27 +69,22 @@ loop-again c =
 
 returns : tie.Need-returns Inv-loop μ-loop
 returns c =
-    let args = c .before .before .before .before .args in
+    let entry = c .before .before .before .before in
+    let args = entry .args in
     let loop = c .before .loop in
-    let pre = c .before .before .before .before .pre in
+    let pre = entry .pre in
     done (args .t) (args .t1) (loop .upto) (loop .within) (loop .i) (loop .inv) (c .loop-test .left) (omega (arith, pre .few))
 
 pub alive-messages-spec : {M : Type 1} → statement M
 alive-messages-spec =
-    tie.close
-    (tie.spec
-    Inv-loop
-    μ-loop
-    loop-holds
-    element-copy-out-at
-    cast-at
-    single-requires
-    element-copy-out-from
-    cast-from
+    tie.close (tie.spec Inv-loop μ-loop loop-holds
+    (λ c. search needs)  -- element-copy-out-at
+    (λ c. search needs)  -- cast-at
+    (λ c κs. omega (arith, c .before .before .before .before .before .before .pre .few))  -- single-requires
+    (λ c. omega (arith, c .before .before .before .before .before .before .before .pre .few))  -- element-copy-out-from
+    (λ c. search needs)  -- cast-from
     element-copy-out-to
-    cast-to
-    messages-in-requires
-    add-i
-    loop-less
-    loop-again
-    returns)
+    (λ c. search needs)  -- cast-to
+    messages-in-requires add-i
+    (λ c. omega arith)  -- loop-less
+    loop-again returns)

@@ -21,12 +21,6 @@ none-space = record {
   low = λ i h. absurd (omega arith);
 }
 
-alive-messages-requires : tie.Need-alive-messages-requires
-alive-messages-requires c κs = c .pre .0 .forward
-
-alive-messages-requires-2 : tie.Need-alive-messages-requires-2
-alive-messages-requires-2 c κs = c .before .pre .0 .backward
-
 leaves-of-requires : tie.Need-leaves-of-requires
 leaves-of-requires c κs =
     let pre = c .before .before .pre in
@@ -58,9 +52,10 @@ leaves-of-requires-2 c κs =
 
 uncovered-requires : tie.Need-uncovered-requires
 uncovered-requires c κs =
-    let pre = c .before .before .before .before .pre in
+    let entry = c .before .before .before .before in
+    let pre = entry .pre in
     let leaves-of2 = c .leaves-of2 in
-    let args = c .before .before .before .before .args in
+    let args = entry .args in
     let alive-messages = c .before .before .before .alive-messages in
     let alive-messages2 = c .before .before .alive-messages2 in
     let leaves-of = c .before .leaves-of in (
@@ -73,21 +68,13 @@ uncovered-requires c κs =
       ),
     )
 
-kept-keys-requires : tie.Need-kept-keys-requires
-kept-keys-requires c κs = c .before .before .before .before .before .before .pre .0 .forward
-
-kept-keys-requires-2 : tie.Need-kept-keys-requires-2
-kept-keys-requires-2 c κs = c .before .before .before .before .before .before .before .pre .0 .backward
-
 slice-aggregate-union : tie.Need-slice-aggregate-union
 slice-aggregate-union c = sym (c .before .before .before .before .before .before .before .before .before .good .1 .1 .0 .1 .0 .1)
 
-slice-aggregate-union-2 : tie.Need-slice-aggregate-union-2
-slice-aggregate-union-2 c = sym (c .before .before .before .before .before .uncovered .ensures .space .items .long)
-
 union-requires : tie.Need-union-requires
 union-requires c κs =
-    let long : length (c .before .before .before .before .before .before .before .before .before .before .args .t3) ≡ max-factors = c .before .before .before .before .before .before .before .before .before .before .good .1 .1 .0 .1 .0 .1 in
+    let entry = c .before .before .before .before .before .before .before .before .before .before in
+    let long : length (entry .args .t3) ≡ max-factors = entry .good .1 .1 .0 .1 .0 .1 in
     let all = c .before .before .before .before .before .uncovered in (
       record {
         few = omega (arith, all .ensures .space .items .few, all .ensures .space .items .long);
@@ -101,8 +88,9 @@ single-requires c κs = c .before .before .before .before .before .before .befor
 
 returns : tie.Need-returns
 returns c =
-    let args = c .before .before .before .before .before .before .before .before .before .before .before .before .args in
-    let pre = c .before .before .before .before .before .before .before .before .before .before .before .before .pre in
+    let entry = c .before .before .before .before .before .before .before .before .before .before .before .before in
+    let args = entry .args in
+    let pre = entry .pre in
     let alive-messages = c .before .before .before .before .before .before .before .before .before .before .before .alive-messages in
     let alive-messages2 = c .before .before .before .before .before .before .before .before .before .before .alive-messages2 in
     let leaves-of = c .before .before .before .before .before .before .before .before .before .leaves-of in
@@ -121,17 +109,12 @@ returns c =
 
 pub gather-spec : {M : Type 1} → statement M
 gather-spec =
-    tie.close
-    (tie.spec
-    alive-messages-requires
-    alive-messages-requires-2
-    leaves-of-requires
-    leaves-of-requires-2
-    uncovered-requires
-    kept-keys-requires
-    kept-keys-requires-2
+    tie.close (tie.spec
+    (λ c κs. c .pre .0 .forward)  -- alive-messages-requires
+    (λ c κs. c .before .pre .0 .backward)  -- alive-messages-requires-2
+    leaves-of-requires leaves-of-requires-2 uncovered-requires
+    (λ c κs. c .before .before .before .before .before .before .pre .0 .forward)  -- kept-keys-requires
+    (λ c κs. c .before .before .before .before .before .before .before .pre .0 .backward)  -- kept-keys-requires-2
     slice-aggregate-union
-    slice-aggregate-union-2
-    union-requires
-    single-requires
-    returns)
+    (λ c. sym (c .before .before .before .before .before .uncovered .ensures .space .items .long))  -- slice-aggregate-union-2
+    union-requires single-requires returns)

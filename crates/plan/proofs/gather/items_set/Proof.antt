@@ -17,30 +17,19 @@ Inv-loop items count r₀ i₀ r i = (i ≤ count) × Set (take i items) r
 abbrev μ-loop : tie.MeasureT-loop
 μ-loop items count r₀ i₀ r i = count - i
 
-loop-holds : tie.Need-loop-holds Inv-loop μ-loop
-loop-holds c = (search needs, set-none)
-
-element-copy-out-x : tie.Need-element-copy-out-x Inv-loop μ-loop
-element-copy-out-x c = omega (arith, c .before .before .pre .few)
-
 cast-x : tie.Need-cast-x Inv-loop μ-loop
 cast-x c = record { fits = omega (arith, c .before .before .before .pre .low (c .before .before .loop .i) (c .before .loop-test .taken)) }
 
 single64-requires : tie.Need-single64-requires Inv-loop μ-loop
 single64-requires c κs = c .before .before .before .pre .low (c .before .before .loop .i) (c .before .loop-test .taken)
 
-add-i : tie.Need-add-i Inv-loop μ-loop
-add-i c = record { fits = omega (arith, c .before .before .before .before .pre .few) }
-
-loop-less : tie.Need-loop-less Inv-loop μ-loop
-loop-less c = omega arith
-
 loop-again : tie.Need-loop-again Inv-loop μ-loop
 loop-again c =
-    let args = c .before .before .before .before .args in
+    let entry = c .before .before .before .before in
+    let args = entry .args in
     let loop = c .before .before .before .loop in
     let single64 = c .single64 in
-    let pre = c .before .before .before .before .pre in
+    let pre = entry .pre in
     (omega arith, set-take (now (args .items)) (loop .i) (loop .r) (single64 .result) (omega (arith, pre .few, pre .long)) (loop .inv .1) (single64 .ensures))
 
 returns : tie.Need-returns Inv-loop μ-loop
@@ -52,15 +41,10 @@ returns c =
 
 pub items-set-spec : {M : Type 1} → statement M
 items-set-spec =
-    tie.close
-    (tie.spec
-    Inv-loop
-    μ-loop
-    loop-holds
-    element-copy-out-x
-    cast-x
-    single64-requires
-    add-i
-    loop-less
-    loop-again
-    returns)
+    tie.close (tie.spec Inv-loop μ-loop
+    (λ c. (search needs, set-none))  -- loop-holds
+    (λ c. omega (arith, c .before .before .pre .few))  -- element-copy-out-x
+    cast-x single64-requires
+    (λ c. record { fits = omega (arith, c .before .before .before .before .pre .few) })  -- add-i
+    (λ c. omega arith)  -- loop-less
+    loop-again returns)

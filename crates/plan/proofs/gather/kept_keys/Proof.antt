@@ -17,27 +17,6 @@ Inv-loop set self n r₀ j₀ r j = (j ≤ n) × KeptTo self set j r
 abbrev μ-loop : tie.MeasureT-loop
 μ-loop set self n r₀ j₀ r j = n - j
 
-loop-holds : tie.Need-loop-holds Inv-loop μ-loop
-loop-holds c = (search needs, kept-none (c .args .t1) (c .args .set))
-
-single-requires : tie.Need-single-requires Inv-loop μ-loop
-single-requires c κs = omega (arith, c .before .before .pre .few)
-
-add-m : tie.Need-add-m Inv-loop μ-loop
-add-m c = record { fits = omega (arith, c .before .before .before .before .pre .few) }
-
-mul-m : tie.Need-mul-m Inv-loop μ-loop
-mul-m c = record { fits = omega (arith, c .before .before .before .before .pre .few) }
-
-element-copy-out-m : tie.Need-element-copy-out-m Inv-loop μ-loop
-element-copy-out-m c = omega (arith, c .before .before .before .before .pre .few)
-
-add-j : tie.Need-add-j Inv-loop μ-loop
-add-j c = record { fits = omega (arith, c .before .before .before .before .pre .few) }
-
-loop-less : tie.Need-loop-less Inv-loop μ-loop
-loop-less c = omega arith
-
 loop-again : tie.Need-loop-again Inv-loop μ-loop
 loop-again c =
     let args = c .before .before .before .before .args in
@@ -58,20 +37,17 @@ returns c =
     let args = c .before .before .args in
     let e : loop .j ≡ args .t1 .count = omega arith in
     λ low i h. subst (λ (n : ℕ). KeptTo (args .t1) (args .set) n (loop .r)) e (loop .inv .1) i h
-    ∙ ap (λ (l : List ℕ). mem i (joined (keptAt (args .t1)) l)) (sym (keysIn-below (args .t1 .count) (args .set) (omega (arith, c .before .before .pre .few)) low))
+    ∙ ap (λ (l : List ℕ). mem i (joined (keptAt (args .t1)) l)) (sym
+    (keysIn-below (args .t1 .count) (args .set) (omega (arith, c .before .before .pre .few)) low))
 
 pub kept-keys-spec : {M : Type 1} → statement M
 kept-keys-spec =
-    tie.close
-    (tie.spec
-    Inv-loop
-    μ-loop
-    loop-holds
-    single-requires
-    add-m
-    mul-m
-    element-copy-out-m
-    add-j
-    loop-less
-    loop-again
-    returns)
+    tie.close (tie.spec Inv-loop μ-loop
+    (λ c. (search needs, kept-none (c .args .t1) (c .args .set)))  -- loop-holds
+    (λ c κs. omega (arith, c .before .before .pre .few))  -- single-requires
+    (λ c. record { fits = omega (arith, c .before .before .before .before .pre .few) })  -- add-m
+    (λ c. record { fits = omega (arith, c .before .before .before .before .pre .few) })  -- mul-m
+    (λ c. omega (arith, c .before .before .before .before .pre .few))  -- element-copy-out-m
+    (λ c. record { fits = omega (arith, c .before .before .before .before .pre .few) })  -- add-j
+    (λ c. omega arith)  -- loop-less
+    loop-again returns)

@@ -16,31 +16,21 @@ Inv-loop self set n l₀ j₀ l j = (f : self .count ≤ max-variables) (v : Lis
 abbrev μ-loop : tie.MeasureT-loop
 μ-loop self set n l₀ j₀ l j = n - j
 
-loop-holds : tie.Need-loop-holds Inv-loop μ-loop
-loop-holds c = λ f v s. begin (c .args .messages) (c .args .set) (c .args .listing) f v s
-
-single-requires : tie.Need-single-requires Inv-loop μ-loop
-single-requires c κs = omega (arith, c .before .before .pre .0 .few)
-
 mark-leaves-requires : tie.Need-mark-leaves-requires Inv-loop μ-loop
 mark-leaves-requires c κs =
-    let pre = c .before .before .before .before .pre in
+    let entry = c .before .before .before .before in
+    let pre = entry .pre in
     let loop = c .before .before .before .loop in
-    let args = c .before .before .before .before .args in
+    let args = entry .args in
     let single = c .before .single in (
       pre .0,
       (
         loop .inv (pre .0 .few) (pre .1 .1) (pre .1 .0) .space,
         openable (args .messages) (args .set) (args .listing) (pre .0 .few) (pre .1 .1) (pre .1 .0)
-            (loop .l) (loop .j) (single .result) (loop .inv (pre .0 .few) (pre .1 .1) (pre .1 .0)) (c .before .before .loop-test .taken) (single .ensures) (c .if1 .taken),
+            (loop .l) (loop .j) (single .result) (loop .inv (pre .0 .few) (pre .1 .1) (pre .1 .0)) (c .before .before .loop-test .taken)
+            (single .ensures) (c .if1 .taken),
       ),
     )
-
-add-j : tie.Need-add-j Inv-loop μ-loop
-add-j c = record { fits = omega (arith, c .before .before .before .before .pre .0 .few) }
-
-loop-less : tie.Need-loop-less Inv-loop μ-loop
-loop-less c = omega arith
 
 loop-again : tie.Need-loop-again Inv-loop μ-loop
 loop-again c =
@@ -64,14 +54,10 @@ returns c =
 
 pub leaves-of-spec : {M : Type 1} → statement M
 leaves-of-spec =
-    tie.close
-    (tie.spec
-    Inv-loop
-    μ-loop
-    loop-holds
-    single-requires
+    tie.close (tie.spec Inv-loop μ-loop
+    (λ c. λ f v s. begin (c .args .messages) (c .args .set) (c .args .listing) f v s)  -- loop-holds
+    (λ c κs. omega (arith, c .before .before .pre .0 .few))  -- single-requires
     mark-leaves-requires
-    add-j
-    loop-less
-    loop-again
-    returns)
+    (λ c. record { fits = omega (arith, c .before .before .before .before .pre .0 .few) })  -- add-j
+    (λ c. omega arith)  -- loop-less
+    loop-again returns)

@@ -19,20 +19,11 @@ Inv-loop j self content l₀ l = (r : Ready max-variables self) (f : Forest self
 abbrev μ-loop : tie.MeasureT-loop
 μ-loop j self content l₀ l = heavy (messagesOf self) (stackOf l)
 
-cast-l : tie.Need-cast-l Inv-loop μ-loop
-cast-l c = search needs
-
-element-write-l : tie.Need-element-write-l Inv-loop μ-loop
-element-write-l c = omega arith
-
 loop-holds : tie.Need-loop-holds Inv-loop μ-loop
 loop-holds c =
     let args = c .before .before .args in
     let pre = c .before .before .pre in
     λ r f. start (args .t1) r f (args .listing) (args .root) (pre .1 .0) (pre .1 .1)
-
-sub-t : tie.Need-sub-t Inv-loop μ-loop
-sub-t c = omega arith
 
 element-copy-out-m : tie.Need-element-copy-out-m Inv-loop μ-loop
 element-copy-out-m c =
@@ -41,8 +32,9 @@ element-copy-out-m c =
 
 cast-m : tie.Need-cast-m Inv-loop μ-loop
 cast-m c =
-    let args = c .before .before .before .before .before .args in
-    let pre = c .before .before .before .before .before .pre in
+    let entry = c .before .before .before .before .before in
+    let args = entry .args in
+    let pre = entry .pre in
     let loop = c .before .before .loop in
     record {
       fits = omega (
@@ -54,17 +46,19 @@ cast-m c =
 
 element-copy-out-from : tie.Need-element-copy-out-from Inv-loop μ-loop
 element-copy-out-from c =
-    let args = c .before .before .before .before .before .args in
-    let pre = c .before .before .before .before .before .pre in
+    let entry = c .before .before .before .before .before in
+    let args = entry .args in
+    let pre = entry .pre in
     let loop = c .before .before .loop in
     top-low (args .t1) (pre .0) (pre .1 .1 .forest) (opened (args .t1) (pre .0) (pre .1 .1 .forest) (args .listing) (args .root)) (loop .l)
     (loop .inv (pre .0) (pre .1 .1 .forest)) (c .before .loop-test .taken)
 
 cast-from : tie.Need-cast-from Inv-loop μ-loop
 cast-from c =
-    let pre = c .before .before .before .before .before .before .pre in
+    let entry = c .before .before .before .before .before .before in
+    let pre = entry .pre in
     let loop = c .before .before .before .loop in
-    let args = c .before .before .before .before .before .before .args in
+    let args = entry .args in
     let loop-test = c .before .before .loop-test in
     record {
       fits = omega (
@@ -81,17 +75,19 @@ cast-from c =
 
 element-copy-out-to : tie.Need-element-copy-out-to Inv-loop μ-loop
 element-copy-out-to c =
-    let args = c .before .before .before .before .before .before .args in
-    let pre = c .before .before .before .before .before .before .pre in
+    let entry = c .before .before .before .before .before .before in
+    let args = entry .args in
+    let pre = entry .pre in
     let loop = c .before .before .before .loop in
     top-low (args .t1) (pre .0) (pre .1 .1 .forest) (opened (args .t1) (pre .0) (pre .1 .1 .forest) (args .listing) (args .root)) (loop .l)
     (loop .inv (pre .0) (pre .1 .1 .forest)) (c .before .before .loop-test .taken)
 
 cast-to : tie.Need-cast-to Inv-loop μ-loop
 cast-to c =
-    let pre = c .before .before .before .before .before .before .before .pre in
+    let entry = c .before .before .before .before .before .before .before in
+    let pre = entry .pre in
     let loop = c .before .before .before .before .loop in
-    let args = c .before .before .before .before .before .before .before .args in
+    let args = entry .args in
     let loop-test = c .before .before .before .loop-test in
     record {
       fits = omega (
@@ -105,8 +101,9 @@ cast-to c =
 
 visit-requires : tie.Need-visit-requires Inv-loop μ-loop
 visit-requires c κs =
-    let args = c .before .before .before .before .before .before .before .before .args in
-    let pre = c .before .before .before .before .before .before .before .before .pre in
+    let entry = c .before .before .before .before .before .before .before .before in
+    let args = entry .args in
+    let pre = entry .pre in
     let loop = c .before .before .before .before .before .loop in
     let loop-test = c .before .before .before .before .loop-test in
     visitable (args .t1) (pre .0) (pre .1 .1 .forest) (opened (args .t1) (pre .0) (pre .1 .1 .forest) (args .listing) (args .root)) (loop .l)
@@ -114,8 +111,9 @@ visit-requires c κs =
 
 loop-less : tie.Need-loop-less Inv-loop μ-loop
 loop-less c =
-    let args = c .before .before .before .before .before .before .before .before .before .args in
-    let pre = c .before .before .before .before .before .before .before .before .before .pre in
+    let entry = c .before .before .before .before .before .before .before .before .before in
+    let args = entry .args in
+    let pre = entry .pre in
     let loop = c .before .before .before .before .before .before .loop in
     let loop-test = c .before .before .before .before .before .loop-test in
     let visit = c .visit in
@@ -124,8 +122,9 @@ loop-less c =
 
 loop-again : tie.Need-loop-again Inv-loop μ-loop
 loop-again c =
-    let args = c .before .before .before .before .before .before .before .before .before .args in
-    let pre = c .before .before .before .before .before .before .before .before .before .pre in
+    let entry = c .before .before .before .before .before .before .before .before .before in
+    let args = entry .args in
+    let pre = entry .pre in
     let loop = c .before .before .before .before .before .before .loop in
     let loop-test = c .before .before .before .before .before .loop-test in
     let visit = c .visit in
@@ -134,28 +133,19 @@ loop-again c =
 
 returns : tie.Need-returns Inv-loop μ-loop
 returns c =
-    let args = c .before .before .before .before .args in
-    let pre = c .before .before .before .before .pre in
+    let entry = c .before .before .before .before in
+    let args = entry .args in
+    let pre = entry .pre in
     let loop = c .before .loop in
-    done (args .t1) (pre .0) (pre .1 .1 .forest) (args .listing) (args .root) (pre .1 .0) (pre .1 .1) (loop .l) (loop .inv (pre .0) (pre .1 .1 .forest)) (c .loop-test .left)
+    done (args .t1) (pre .0) (pre .1 .1 .forest) (args .listing) (args .root) (pre .1 .0) (pre .1 .1) (loop .l)
+    (loop .inv (pre .0) (pre .1 .1 .forest)) (c .loop-test .left)
 
 pub mark-leaves-spec : {M : Type 1} → statement M
 mark-leaves-spec =
-    tie.close
-    (tie.spec
-    Inv-loop
-    μ-loop
-    cast-l
-    element-write-l
+    tie.close (tie.spec Inv-loop μ-loop
+    (λ c. search needs)  -- cast-l
+    (λ c. omega arith)  -- element-write-l
     loop-holds
-    sub-t
-    element-copy-out-m
-    cast-m
-    element-copy-out-from
-    cast-from
-    element-copy-out-to
-    cast-to
-    visit-requires
-    loop-less
-    loop-again
-    returns)
+    (λ c. omega arith)  -- sub-t
+    element-copy-out-m cast-m element-copy-out-from cast-from element-copy-out-to cast-to visit-requires loop-less
+    loop-again returns)

@@ -19,12 +19,6 @@ Inv-loop content from to r₀ i₀ r i = (from ≤ i) × (i ≤ to) × Set (mess
 abbrev μ-loop : tie.MeasureT-loop
 μ-loop content from to r₀ i₀ r i = to - i
 
-loop-holds : tie.Need-loop-holds Inv-loop μ-loop
-loop-holds c = (search needs, c .pre .1, inner-none (now (c .args .content)) (c .args .from))
-
-element-copy-out-s : tie.Need-element-copy-out-s Inv-loop μ-loop
-element-copy-out-s c = omega (arith, c .before .before .pre .0 .few)
-
 cast-s : tie.Need-cast-s Inv-loop μ-loop
 cast-s c = record { fits = omega (arith, c .before .before .before .pre .0 .low (c .before .before .loop .i) (c .before .loop-test .taken)) }
 
@@ -34,23 +28,20 @@ single-requires c κs =
     let loop = c .before .before .before .loop in
     omega (arith, pre .0 .low (loop .i) (c .before .before .loop-test .taken))
 
-add-i : tie.Need-add-i Inv-loop μ-loop
-add-i c = record { fits = omega (arith, c .before .before .before .before .pre .0 .few) }
-
-loop-less : tie.Need-loop-less Inv-loop μ-loop
-loop-less c = omega arith
-
 loop-again : tie.Need-loop-again Inv-loop μ-loop
 loop-again c =
-    let args = c .before .before .before .before .args in
+    let entry = c .before .before .before .before in
+    let args = entry .args in
     let loop = c .before .before .before .loop in
-    let pre = c .before .before .before .before .pre in (
+    let pre = entry .pre in (
       omega arith,
       omega arith,
       ⊎-elim (λ w. subst (λ (x : ℕ). Set (messagesIn (part (args .from) (loop .i + 1) (now (args .content)))) x) (sym (w .2))
-          (inner-msg (now (args .content)) (args .from) (loop .i) (loop .r) (loop .inv .0) (omega (arith, pre .0 .few, pre .0 .long)) (loop .inv .2) (w .1 .result) (w .0 .taken) (w .1 .ensures)))
+          (inner-msg (now (args .content)) (args .from) (loop .i) (loop .r) (loop .inv .0) (omega (arith, pre .0 .few, pre .0 .long)) (loop .inv .2)
+          (w .1 .result) (w .0 .taken) (w .1 .ensures)))
           (λ w. subst (λ (x : ℕ). Set (messagesIn (part (args .from) (loop .i + 1) (now (args .content)))) x) (sym (w .1))
-          (inner-orig (now (args .content)) (args .from) (loop .i) (loop .r) (loop .inv .0) (omega (arith, pre .0 .few, pre .0 .long)) (loop .inv .2) (w .0 .left))) (c .if1 .came),
+          (inner-orig (now (args .content)) (args .from) (loop .i) (loop .r) (loop .inv .0) (omega (arith, pre .0 .few, pre .0 .long)) (loop .inv .2)
+          (w .0 .left))) (c .if1 .came),
     )
 
 returns : tie.Need-returns Inv-loop μ-loop
@@ -62,15 +53,10 @@ returns c =
 
 pub messages-in-spec : {M : Type 1} → statement M
 messages-in-spec =
-    tie.close
-    (tie.spec
-    Inv-loop
-    μ-loop
-    loop-holds
-    element-copy-out-s
-    cast-s
-    single-requires
-    add-i
-    loop-less
-    loop-again
-    returns)
+    tie.close (tie.spec Inv-loop μ-loop
+    (λ c. (search needs, c .pre .1, inner-none (now (c .args .content)) (c .args .from)))  -- loop-holds
+    (λ c. omega (arith, c .before .before .pre .0 .few))  -- element-copy-out-s
+    cast-s single-requires
+    (λ c. record { fits = omega (arith, c .before .before .before .before .pre .0 .few) })  -- add-i
+    (λ c. omega arith)  -- loop-less
+    loop-again returns)

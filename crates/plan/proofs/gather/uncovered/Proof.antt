@@ -13,48 +13,37 @@ use Rattle.plan.proofs.gather.uncovered.Statement.{statement}
 use Rattle.plan.proofs.gather.uncovered.Tie as tie
 
 abbrev Inv-loop : tie.InvT-loop
-Inv-loop count live l₀ covered i₀ l i = (g : length live ≡ max-factors) (v : Live live count) (r : Coverable live count l₀) (s : Space l₀) → Covering live count l₀ g v r s l i
+Inv-loop count live l₀ covered i₀ l i = (g : length live ≡ max-factors) (v : Live live count) (r : Coverable live count l₀) (s : Space l₀)
+    → Covering live count l₀ g v r s l i
 
 abbrev μ-loop : tie.MeasureT-loop
 μ-loop count live l₀ covered i₀ l i = count - i
-
-items-set-requires : tie.Need-items-set-requires Inv-loop μ-loop
-items-set-requires c κs = c .before .before .pre .1 .0 .items
 
 loop-holds : tie.Need-loop-holds Inv-loop μ-loop
 loop-holds c =
     let args = c .before .before .before .args in
     λ g v r s. start (args .t1) (args .count) (args .listing) g v r s
 
-array-read-x : tie.Need-array-read-x Inv-loop μ-loop
-array-read-x c = omega (arith, c .before .before .before .before .before .pre .0 .few)
-
-cast-x : tie.Need-cast-x Inv-loop μ-loop
-cast-x c = search needs
-
-add-i : tie.Need-add-i Inv-loop μ-loop
-add-i c = record { fits = omega (arith, c .before .before .before .before .before .pre .0 .few) }
-
 single64-requires : tie.Need-single64-requires Inv-loop μ-loop
 single64-requires c κs = c .before .before .before .before .before .pre .0 .low (c .before .loop .i) (c .loop-test .taken)
 
-cast-l : tie.Need-cast-l Inv-loop μ-loop
-cast-l c = search needs
-
 element-write-l : tie.Need-element-write-l Inv-loop μ-loop
 element-write-l c =
-    let args = c .before .before .before .before .before .before .before .args in
-    let pre = c .before .before .before .before .before .before .before .pre in
+    let entry = c .before .before .before .before .before .before .before in
+    let args = entry .args in
+    let pre = entry .pre in
     let loop = c .before .before .before .loop in
     let items-set = c .before .before .before .before .items-set in
     let single64 = c .before .single64 in
-    free-room (args .t1) (args .count) (args .listing) (search needs) (pre .0) (pre .1 .1) (pre .1 .0) (loop .l) (loop .i) (items-set .result) (single64 .result)
+    free-room (args .t1) (args .count) (args .listing) (search needs) (pre .0) (pre .1 .1) (pre .1 .0) (loop .l) (loop .i) (items-set .result)
+    (single64 .result)
     (loop .inv (search needs) (pre .0) (pre .1 .1) (pre .1 .0)) (c .before .before .loop-test .taken) (single64 .ensures) (items-set .ensures) (c .if1 .taken)
 
 add-l : tie.Need-add-l Inv-loop μ-loop
 add-l c =
-    let args = c .before .before .before .before .before .before .before .args in
-    let pre = c .before .before .before .before .before .before .before .pre in
+    let entry = c .before .before .before .before .before .before .before in
+    let args = entry .args in
+    let pre = entry .pre in
     let loop = c .before .before .before .loop in
     let items-set = c .before .before .before .before .items-set in
     let single64 = c .before .single64 in
@@ -62,13 +51,11 @@ add-l c =
       fits = omega (
         arith,
         free-room (args .t1) (args .count) (args .listing) (search needs) (pre .0) (pre .1 .1) (pre .1 .0) (loop .l) (loop .i)
-            (items-set .result) (single64 .result) (loop .inv (search needs) (pre .0) (pre .1 .1) (pre .1 .0)) (c .before .before .loop-test .taken) (single64 .ensures)
+            (items-set .result) (single64 .result) (loop .inv (search needs) (pre .0) (pre .1 .1) (pre .1 .0)) (c .before .before .loop-test .taken)
+            (single64 .ensures)
             (items-set .ensures) (c .if1 .taken),
       );
     }
-
-loop-less : tie.Need-loop-less Inv-loop μ-loop
-loop-less c = omega arith
 
 loop-again : tie.Need-loop-again Inv-loop μ-loop
 loop-again c =
@@ -78,9 +65,6 @@ loop-again c =
     let single64 = c .before .single64 in
     λ g v r s. list-more (args .t1) (args .count) (args .listing) g v r s (loop .l) (loop .i) (items-set .result) (single64 .result) (loop .inv g v r s)
     (c .before .before .loop-test .taken) (single64 .ensures) (items-set .ensures) (c .if1 .taken)
-
-loop-less-2 : tie.Need-loop-less-2 Inv-loop μ-loop
-loop-less-2 c = omega arith
 
 loop-again-2 : tie.Need-loop-again-2 Inv-loop μ-loop
 loop-again-2 c =
@@ -93,29 +77,25 @@ loop-again-2 c =
 
 returns : tie.Need-returns Inv-loop μ-loop
 returns c =
-    let args = c .before .before .before .before .before .args in
-    let pre = c .before .before .before .before .before .pre in
+    let entry = c .before .before .before .before .before in
+    let args = entry .args in
+    let pre = entry .pre in
     let loop = c .before .loop in
     done (args .t1) (args .count) (args .listing) (search needs) (pre .0) (pre .1 .1) (pre .1 .0) (loop .l) (loop .i)
     (loop .inv (search needs) (pre .0) (pre .1 .1) (pre .1 .0)) (c .loop-test .left)
 
 pub uncovered-spec : {M : Type 1} → statement M
 uncovered-spec =
-    tie.close
-    (tie.spec
-    Inv-loop
-    μ-loop
-    items-set-requires
+    tie.close (tie.spec Inv-loop μ-loop
+    (λ c κs. c .before .before .pre .1 .0 .items)  -- items-set-requires
     loop-holds
-    array-read-x
-    cast-x
-    add-i
+    (λ c. omega (arith, c .before .before .before .before .before .pre .0 .few))  -- array-read-x
+    (λ c. search needs)  -- cast-x
+    (λ c. record { fits = omega (arith, c .before .before .before .before .before .pre .0 .few) })  -- add-i
     single64-requires
-    cast-l
-    element-write-l
-    add-l
-    loop-less
+    (λ c. search needs)  -- cast-l
+    element-write-l add-l
+    (λ c. omega arith)  -- loop-less
     loop-again
-    loop-less-2
-    loop-again-2
-    returns)
+    (λ c. omega arith)  -- loop-less-2
+    loop-again-2 returns)

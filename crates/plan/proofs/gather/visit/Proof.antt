@@ -14,32 +14,23 @@ Inv-loop content from to l₀ i₀ l i = (v : Visitable content from to l₀) �
 abbrev μ-loop : tie.MeasureT-loop
 μ-loop content from to l₀ i₀ l i = to - i
 
-loop-holds : tie.Need-loop-holds Inv-loop μ-loop
-loop-holds c = λ v. start (now (c .args .content)) (c .args .from) (c .args .to) (c .args .listing) v
-
-element-copy-out-s : tie.Need-element-copy-out-s Inv-loop μ-loop
-element-copy-out-s c = omega (arith, c .before .before .pre .codes .few)
-
 cast-s : tie.Need-cast-s Inv-loop μ-loop
 cast-s c = record { fits = omega (arith, c .before .before .before .pre .codes .low (c .before .before .loop .i) (c .before .loop-test .taken)) }
 
-add-i : tie.Need-add-i Inv-loop μ-loop
-add-i c = record { fits = omega (arith, c .before .before .before .pre .codes .few) }
-
-cast-l : tie.Need-cast-l Inv-loop μ-loop
-cast-l c = record { fits = omega arith }
-
 element-write-l : tie.Need-element-write-l Inv-loop μ-loop
 element-write-l c =
-    let args = c .before .before .before .before .args in
-    let pre = c .before .before .before .before .pre in
+    let entry = c .before .before .before .before in
+    let args = entry .args in
+    let pre = entry .pre in
     let loop = c .before .before .before .loop in
-    orig-room (now (args .content)) (args .from) (args .to) (args .listing) (pre) (loop .l) (loop .i) (loop .inv (pre)) (c .before .before .loop-test .taken) (c .if1 .taken)
+    orig-room (now (args .content)) (args .from) (args .to) (args .listing) (pre) (loop .l) (loop .i) (loop .inv (pre))
+    (c .before .before .loop-test .taken) (c .if1 .taken)
 
 add-l : tie.Need-add-l Inv-loop μ-loop
 add-l c =
-    let args = c .before .before .before .before .args in
-    let pre = c .before .before .before .before .pre in
+    let entry = c .before .before .before .before in
+    let args = entry .args in
+    let pre = entry .pre in
     let loop = c .before .before .before .loop in
     record {
       fits = omega (
@@ -49,14 +40,12 @@ add-l c =
       );
     }
 
-loop-less : tie.Need-loop-less Inv-loop μ-loop
-loop-less c = omega arith
-
 loop-again : tie.Need-loop-again Inv-loop μ-loop
 loop-again c =
     let args = c .before .before .before .before .args in
     let loop = c .before .before .before .loop in
-    λ v. visit-orig (now (args .content)) (args .from) (args .to) (args .listing) v (loop .l) (loop .i) (loop .inv v) (c .before .before .loop-test .taken) (c .if1 .taken)
+    λ v. visit-orig (now (args .content)) (args .from) (args .to) (args .listing) v (loop .l) (loop .i) (loop .inv v)
+    (c .before .before .loop-test .taken) (c .if1 .taken)
 
 cast-l-2 : tie.Need-cast-l-2 Inv-loop μ-loop
 cast-l-2 c =
@@ -66,15 +55,18 @@ cast-l-2 c =
 
 element-write-l-2 : tie.Need-element-write-l-2 Inv-loop μ-loop
 element-write-l-2 c =
-    let args = c .before .before .before .before .args in
-    let pre = c .before .before .before .before .pre in
+    let entry = c .before .before .before .before in
+    let args = entry .args in
+    let pre = entry .pre in
     let loop = c .before .before .before .loop in
-    msg-room (now (args .content)) (args .from) (args .to) (args .listing) (pre) (loop .l) (loop .i) (loop .inv (pre)) (c .before .before .loop-test .taken) (c .if1 .left)
+    msg-room (now (args .content)) (args .from) (args .to) (args .listing) (pre) (loop .l) (loop .i) (loop .inv (pre))
+    (c .before .before .loop-test .taken) (c .if1 .left)
 
 add-l-2 : tie.Need-add-l-2 Inv-loop μ-loop
 add-l-2 c =
-    let args = c .before .before .before .before .args in
-    let pre = c .before .before .before .before .pre in
+    let entry = c .before .before .before .before in
+    let args = entry .args in
+    let pre = entry .pre in
     let loop = c .before .before .before .loop in
     record {
       fits = omega (
@@ -84,14 +76,12 @@ add-l-2 c =
       );
     }
 
-loop-less-2 : tie.Need-loop-less-2 Inv-loop μ-loop
-loop-less-2 c = omega arith
-
 loop-again-2 : tie.Need-loop-again-2 Inv-loop μ-loop
 loop-again-2 c =
     let args = c .before .before .before .before .args in
     let loop = c .before .before .before .loop in
-    λ v. visit-msg (now (args .content)) (args .from) (args .to) (args .listing) v (loop .l) (loop .i) (loop .inv v) (c .before .before .loop-test .taken) (c .if1 .left)
+    λ v. visit-msg (now (args .content)) (args .from) (args .to) (args .listing) v (loop .l) (loop .i) (loop .inv v)
+    (c .before .before .loop-test .taken) (c .if1 .left)
 
 returns : tie.Need-returns Inv-loop μ-loop
 returns c =
@@ -102,22 +92,14 @@ returns c =
 
 pub visit-spec : {M : Type 1} → statement M
 visit-spec =
-    tie.close
-    (tie.spec
-    Inv-loop
-    μ-loop
-    loop-holds
-    element-copy-out-s
+    tie.close (tie.spec Inv-loop μ-loop
+    (λ c. λ v. start (now (c .args .content)) (c .args .from) (c .args .to) (c .args .listing) v)  -- loop-holds
+    (λ c. omega (arith, c .before .before .pre .codes .few))  -- element-copy-out-s
     cast-s
-    add-i
-    cast-l
-    element-write-l
-    add-l
-    loop-less
-    loop-again
-    cast-l-2
-    element-write-l-2
-    add-l-2
-    loop-less-2
-    loop-again-2
-    returns)
+    (λ c. record { fits = omega (arith, c .before .before .before .pre .codes .few) })  -- add-i
+    (λ c. record { fits = omega arith })  -- cast-l
+    element-write-l add-l
+    (λ c. omega arith)  -- loop-less
+    loop-again cast-l-2 element-write-l-2 add-l-2
+    (λ c. omega arith)  -- loop-less-2
+    loop-again-2 returns)

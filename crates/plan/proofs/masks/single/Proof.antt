@@ -9,14 +9,8 @@ use lib.Pow.{shl-exact}
 use Rattle.plan.proofs.masks.single.Statement.{statement}
 use Rattle.plan.proofs.masks.single.Tie as tie
 
-cast-result : tie.Need-cast-result
-cast-result c = search needs
-
-shl-result : tie.Need-shl-result
-shl-result c = search needs
-
-returns : tie.Need-returns
-returns c = shl-exact 1 (c .args .k) 32 (omega arith) (omega arith) ∙ one-mul (2 ^ c .args .k)
-
 pub single-spec : {M : Type 1} → statement M
-single-spec = tie.close (tie.spec cast-result shl-result returns)
+single-spec = tie.close (tie.spec
+    (λ c. search needs)  -- cast-result
+    (λ c. search needs)  -- shl-result
+    (λ c. shl-exact 1 (c .args .k) 32 (omega arith) (omega arith) ∙ one-mul (2 ^ c .args .k)))  -- returns

@@ -9,11 +9,7 @@ use lib.Pow.{shl-exact}
 use Rattle.plan.proofs.masks.single64.Statement.{statement}
 use Rattle.plan.proofs.masks.single64.Tie as tie
 
-shl-result : tie.Need-shl-result
-shl-result c = search needs
-
-returns : tie.Need-returns
-returns c = shl-exact 1 (c .args .i) 64 (omega arith) (omega arith) ∙ one-mul (2 ^ c .args .i)
-
 pub single64-spec : {M : Type 1} → statement M
-single64-spec = tie.close (tie.spec shl-result returns)
+single64-spec = tie.close (tie.spec
+    (λ c. search needs)  -- shl-result
+    (λ c. shl-exact 1 (c .args .i) 64 (omega arith) (omega arith) ∙ one-mul (2 ^ c .args .i)))  -- returns

@@ -19,9 +19,6 @@ abbrev μ-loop : tie.MeasureT-loop
 loop-holds : tie.Need-loop-holds Inv-loop μ-loop
 loop-holds c = (search needs, search needs, union-none (now (c .args .sets)) (now (c .args .numbers)) (c .args .from) (c .args .from) (omega arith))
 
-shared-slice-read-s : tie.Need-shared-slice-read-s Inv-loop μ-loop
-shared-slice-read-s c = omega (arith, c .before .before .before .pre .0 .few)
-
 cast-s : tie.Need-cast-s Inv-loop μ-loop
 cast-s c = record { fits = omega (arith, c .before .before .before .pre .0 .low (c .before .before .loop .i) (c .before .loop-test .taken)) }
 
@@ -31,18 +28,17 @@ mul-m c = record { fits = omega (arith, c .before .before .before .pre .0 .low (
 shared-slice-read-m : tie.Need-shared-slice-read-m Inv-loop μ-loop
 shared-slice-read-m c = c .before .before .before .before .pre .0 .low (c .before .before .before .loop .i) (c .before .before .loop-test .taken)
 
-add-i : tie.Need-add-i Inv-loop μ-loop
-add-i c = record { fits = omega (arith, c .before .before .before .before .pre .0 .few) }
-
-loop-less : tie.Need-loop-less Inv-loop μ-loop
-loop-less c = omega arith
-
 loop-again : tie.Need-loop-again Inv-loop μ-loop
 loop-again c =
-    let args = c .before .before .before .before .args in
+    let entry = c .before .before .before .before in
+    let args = entry .args in
     let loop = c .before .before .before .loop in
-    let pre = c .before .before .before .before .pre in
-    (omega arith, omega arith, union-more (now (args .sets)) (now (args .numbers)) (args .from) (loop .i) (loop .r) (loop .inv .0) (omega (arith, pre .0 .few)) (loop .inv .2))
+    let pre = entry .pre in (
+      omega arith,
+      omega arith,
+      union-more (now (args .sets)) (now (args .numbers)) (args .from) (loop .i) (loop .r) (loop .inv .0)
+          (omega (arith, pre .0 .few)) (loop .inv .2),
+    )
 
 returns : tie.Need-returns Inv-loop μ-loop
 returns c =
@@ -53,16 +49,9 @@ returns c =
 
 pub union-spec : {M : Type 1} → statement M
 union-spec =
-    tie.close
-    (tie.spec
-    Inv-loop
-    μ-loop
-    loop-holds
-    shared-slice-read-s
-    cast-s
-    mul-m
-    shared-slice-read-m
-    add-i
-    loop-less
-    loop-again
-    returns)
+    tie.close (tie.spec Inv-loop μ-loop loop-holds
+    (λ c. omega (arith, c .before .before .before .pre .0 .few))  -- shared-slice-read-s
+    cast-s mul-m shared-slice-read-m
+    (λ c. record { fits = omega (arith, c .before .before .before .before .pre .0 .few) })  -- add-i
+    (λ c. omega arith)  -- loop-less
+    loop-again returns)

@@ -5,12 +5,6 @@ use Rattle.plan.proofs.Begins.{begin-ready, begins}
 use Rattle.plan.proofs.pass.begin.Statement.{statement}
 use Rattle.plan.proofs.pass.begin.Tie as tie
 
-laid-masks-requires : tie.Need-laid-masks-requires
-laid-masks-requires c κs = search needs
-
-laid-slots-requires : tie.Need-laid-slots-requires
-laid-slots-requires c κs = search needs
-
 returns : tie.Need-returns
 returns c =
     let args = c .before .before .args in
@@ -24,4 +18,7 @@ returns c =
     )
 
 pub begin-spec : {M : Type 1} → statement M
-begin-spec = tie.close (tie.spec laid-masks-requires laid-slots-requires returns)
+begin-spec = tie.close (tie.spec
+    (λ c κs. search needs)  -- laid-masks-requires
+    (λ c κs. search needs)  -- laid-slots-requires
+    returns)

@@ -42,9 +42,6 @@ loop-holds : tie.Need-loop-holds Inv-loop μ-loop
 unfolding any
 loop-holds c = (search needs, λ j. has-zero j)
 
-element-copy-out-s : tie.Need-element-copy-out-s Inv-loop μ-loop
-element-copy-out-s c = omega (arith, c .before .before .pre .few)
-
 cast-s : tie.Need-cast-s Inv-loop μ-loop
 cast-s c = record { fits = omega (arith, c .before .before .before .pre .low (c .before .before .loop .i) (c .before .loop-test .taken)) }
 
@@ -54,17 +51,12 @@ mul-m c = record { fits = omega (arith, c .before .before .before .pre .low (c .
 element-copy-out-m : tie.Need-element-copy-out-m Inv-loop μ-loop
 element-copy-out-m c = c .before .before .before .pre .low (c .before .before .loop .i) (c .before .loop-test .taken)
 
-add-i : tie.Need-add-i Inv-loop μ-loop
-add-i c = record { fits = omega (arith, c .before .before .before .before .before .pre .few) }
-
-loop-less : tie.Need-loop-less Inv-loop μ-loop
-loop-less c = omega arith
-
 loop-again : tie.Need-loop-again Inv-loop μ-loop
 loop-again c =
-    let args = c .before .before .before .before .before .args in
+    let entry = c .before .before .before .before .before in
+    let args = entry .args in
     let loop = c .before .before .before .before .loop in
-    let pre = c .before .before .before .before .before .pre in (
+    let pre = entry .pre in (
       omega arith,
       more (now (args .masks)) (now (args .slots))
           (args .active) (loop .r) (loop .i)
@@ -80,20 +72,14 @@ returns c =
     let loop = c .before .loop in
     let args = c .before .before .args in
     let e : loop .i ≡ args .used = omega arith in
-    λ j. loop .inv .1 j ∙ ap (λ (n : ℕ). any (λ x. strays (args .active) (getD (now (args .masks)) x 0) && has j (getD (now (args .masks)) x 0)) (take n (now (args .slots)))) e
+    λ j. loop .inv .1 j ∙ ap (λ (n : ℕ). any (λ x. strays (args .active) (getD (now (args .masks)) x 0) && has j (getD (now (args .masks)) x 0))
+    (take n (now (args .slots)))) e
 
 pub coupled-spec : {M : Type 1} → statement M
 coupled-spec =
-    tie.close
-    (tie.spec
-    Inv-loop
-    μ-loop
-    loop-holds
-    element-copy-out-s
-    cast-s
-    mul-m
-    element-copy-out-m
-    add-i
-    loop-less
-    loop-again
-    returns)
+    tie.close (tie.spec Inv-loop μ-loop loop-holds
+    (λ c. omega (arith, c .before .before .pre .few))  -- element-copy-out-s
+    cast-s mul-m element-copy-out-m
+    (λ c. record { fits = omega (arith, c .before .before .before .before .before .pre .few) })  -- add-i
+    (λ c. omega arith)  -- loop-less
+    loop-again returns)

@@ -18,37 +18,20 @@ Inv-loop count n order p₀ t₀ p t = (t ≤ n) × Ready t p × Along order n p
 abbrev μ-loop : tie.MeasureT-loop
 μ-loop count n order p₀ t₀ p t = n - t
 
-begin-requires : tie.Need-begin-requires Inv-loop μ-loop
-begin-requires c κs = c .pre .0
-
-loop-holds : tie.Need-loop-holds Inv-loop μ-loop
-loop-holds c = (omega arith, c .begin .ensures .0, λ K N m. m, search needs)
-
-array-read-k : tie.Need-array-read-k Inv-loop μ-loop
-array-read-k c = omega (arith, c .before .before .before .pre .1 .few)
-
-cast-k : tie.Need-cast-k Inv-loop μ-loop
-cast-k c = search needs
-
 step-requires : tie.Need-step-requires Inv-loop μ-loop
 step-requires c κs =
     let loop = c .before .loop in
     let pre = c .before .before .before .pre in
     (loop .inv .1, (omega (arith, pre .1 .few), omega (arith, pre .1 .few, pre .1 .low (loop .t) (c .loop-test .taken))))
 
-add-t : tie.Need-add-t Inv-loop μ-loop
-add-t c = record { fits = omega (arith, c .before .before .before .before .pre .1 .few) }
-
-loop-less : tie.Need-loop-less Inv-loop μ-loop
-loop-less c = omega arith
-
 loop-again : tie.Need-loop-again Inv-loop μ-loop
 loop-again c =
+    let entry = c .before .before .before .before in
     let step = c .step in
-    let args = c .before .before .before .before .args in
+    let args = entry .args in
     let begin = c .before .before .before .begin in
     let loop = c .before .before .loop in
-    let pre = c .before .before .before .before .pre in (
+    let pre = entry .pre in (
       omega arith,
       step .ensures .0,
       along-more (args .t4) (args .n) (begin .result) (loop .t) (loop .p) (step .result) (loop .inv .3) (pre .1)
@@ -62,21 +45,20 @@ returns c =
     let args = c .before .before .before .args in
     let begin = c .before .before .begin in
     let pre = c .before .before .before .pre in
-    let e : loop .t ≡ args .n = omega arith in
-    (subst (λ (k : ℕ). Ready k (loop .p)) e (loop .inv .1), along-done (args .keys) (args .live) (args .t4) (args .count) (args .n) (begin .result) (loop .p) (pre .1 .few) (begin .ensures .1) (subst (λ (k : ℕ). Along (args .t4) (args .n) (begin .result) k (loop .p)) e (loop .inv .2)))
+    let e : loop .t ≡ args .n = omega arith in (
+      subst (λ (k : ℕ). Ready k (loop .p)) e (loop .inv .1),
+      along-done (args .keys) (args .live) (args .t4) (args .count) (args .n) (begin .result)
+          (loop .p) (pre .1 .few) (begin .ensures .1) (subst (λ (k : ℕ). Along (args .t4) (args .n) (begin .result) k (loop .p)) e (loop .inv .2)),
+    )
 
 pub full-pass-spec : {M : Type 1} → statement M
 full-pass-spec =
-    tie.close
-    (tie.spec
-    Inv-loop
-    μ-loop
-    begin-requires
-    loop-holds
-    array-read-k
-    cast-k
+    tie.close (tie.spec Inv-loop μ-loop
+    (λ c κs. c .pre .0)  -- begin-requires
+    (λ c. (omega arith, c .begin .ensures .0, λ K N m. m, search needs))  -- loop-holds
+    (λ c. omega (arith, c .before .before .before .pre .1 .few))  -- array-read-k
+    (λ c. search needs)  -- cast-k
     step-requires
-    add-t
-    loop-less
-    loop-again
-    returns)
+    (λ c. record { fits = omega (arith, c .before .before .before .before .pre .1 .few) })  -- add-t
+    (λ c. omega arith)  -- loop-less
+    loop-again returns)

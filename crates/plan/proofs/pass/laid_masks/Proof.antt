@@ -32,32 +32,15 @@ Inv-loop keys r₀ i₀ r i = (i ≤ max-factors) × (r ≡ part keys i) × (len
 abbrev μ-loop : tie.MeasureT-loop
 μ-loop keys r₀ i₀ r i = max-factors - i
 
-loop-holds : tie.Need-loop-holds Inv-loop μ-loop
-loop-holds c = (search needs, refl, search needs)
-
-mul-r : tie.Need-mul-r Inv-loop μ-loop
-mul-r c = record { fits = omega arith }
-
-array-read-r : tie.Need-array-read-r Inv-loop μ-loop
-array-read-r c = omega arith
-
-mul-r-2 : tie.Need-mul-r-2 Inv-loop μ-loop
-mul-r-2 c = record { fits = omega arith }
-
-array-write-r : tie.Need-array-write-r Inv-loop μ-loop
-array-write-r c = omega arith
-
-add-i : tie.Need-add-i Inv-loop μ-loop
-add-i c = record { fits = omega arith }
-
-loop-less : tie.Need-loop-less Inv-loop μ-loop
-loop-less c = omega arith
-
 loop-again : tie.Need-loop-again Inv-loop μ-loop
 loop-again c =
     let loop = c .before .loop in
-    let args = c .before .before .args in
-    (omega arith, ap (λ (l : List ℕ). set l (loop .i) (getD (args .t1) (loop .i) 0)) (loop .inv .1) ∙ turn (args .t1) (loop .i) (omega arith) (omega arith), loop .inv .2)
+    let args = c .before .before .args in (
+      omega arith,
+      ap (λ (l : List ℕ). set l (loop .i) (getD (args .t1) (loop .i) 0)) (loop .inv .1)
+          ∙ turn (args .t1) (loop .i) (omega arith) (omega arith),
+      loop .inv .2,
+    )
 
 returns : tie.Need-returns Inv-loop μ-loop
 unfolding laid
@@ -69,16 +52,12 @@ returns c =
 
 pub laid-masks-spec : {M : Type 1} → statement M
 laid-masks-spec =
-    tie.close
-    (tie.spec
-    Inv-loop
-    μ-loop
-    loop-holds
-    mul-r
-    array-read-r
-    mul-r-2
-    array-write-r
-    add-i
-    loop-less
-    loop-again
-    returns)
+    tie.close (tie.spec Inv-loop μ-loop
+    (λ c. (search needs, refl, search needs))  -- loop-holds
+    (λ c. record { fits = omega arith })  -- mul-r
+    (λ c. omega arith)  -- array-read-r
+    (λ c. record { fits = omega arith })  -- mul-r-2
+    (λ c. omega arith)  -- array-write-r
+    (λ c. record { fits = omega arith })  -- add-i
+    (λ c. omega arith)  -- loop-less
+    loop-again returns)

@@ -24,21 +24,6 @@ Inv-loop count live r₀ i₀ r i = (i ≤ count) × (length r ≡ pass-slots) �
 abbrev μ-loop : tie.MeasureT-loop
 μ-loop count live r₀ i₀ r i = count - i
 
-loop-holds : tie.Need-loop-holds Inv-loop μ-loop
-loop-holds c = (search needs, refl, refl, search needs)
-
-array-read-r : tie.Need-array-read-r Inv-loop μ-loop
-array-read-r c = omega arith
-
-array-write-r : tie.Need-array-write-r Inv-loop μ-loop
-array-write-r c = omega arith
-
-add-i : tie.Need-add-i Inv-loop μ-loop
-add-i c = record { fits = omega arith }
-
-loop-less : tie.Need-loop-less Inv-loop μ-loop
-loop-less c = omega arith
-
 loop-again : tie.Need-loop-again Inv-loop μ-loop
 loop-again c =
     let loop = c .before .loop in
@@ -59,14 +44,10 @@ returns c =
 
 pub laid-slots-spec : {M : Type 1} → statement M
 laid-slots-spec =
-    tie.close
-    (tie.spec
-    Inv-loop
-    μ-loop
-    loop-holds
-    array-read-r
-    array-write-r
-    add-i
-    loop-less
-    loop-again
-    returns)
+    tie.close (tie.spec Inv-loop μ-loop
+    (λ c. (search needs, refl, refl, search needs))  -- loop-holds
+    (λ c. omega arith)  -- array-read-r
+    (λ c. omega arith)  -- array-write-r
+    (λ c. record { fits = omega arith })  -- add-i
+    (λ c. omega arith)  -- loop-less
+    loop-again returns)

@@ -14,40 +14,20 @@ Inv-loop masks cleared b₀ i₀ b i = Turned masks cleared b₀ b i
 abbrev μ-loop : tie.MeasureT-loop
 μ-loop masks cleared b₀ i₀ b i = b .used - i
 
-loop-holds : tie.Need-loop-holds Inv-loop μ-loop
-loop-holds c = start (now (c .args .masks)) (c .args .cleared) (c .args .board) (c .pre)
-
-element-copy-out-code : tie.Need-element-copy-out-code Inv-loop μ-loop
-element-copy-out-code c = omega (arith, c .before .loop .inv .room .active .few)
-
 cast-s : tie.Need-cast-s Inv-loop μ-loop
 cast-s c =
     let loop = c .before .before .loop in
     record { fits = omega (arith, loop .inv .room .active .low (loop .i) (c .before .loop-test .taken)) }
 
 mul-m : tie.Need-mul-m Inv-loop μ-loop
-mul-m c = record { fits = omega (arith, c .before .before .loop .inv .room .active .low (c .before .before .loop .i) (c .before .loop-test .taken)) }
+mul-m c =
+    let loop = c .before .before .loop in
+    record { fits = omega (arith, loop .inv .room .active .low (loop .i) (c .before .loop-test .taken)) }
 
 element-copy-out-m : tie.Need-element-copy-out-m Inv-loop μ-loop
-element-copy-out-m c = c .before .before .loop .inv .room .active .low (c .before .before .loop .i) (c .before .loop-test .taken)
-
-element-write-b : tie.Need-element-write-b Inv-loop μ-loop
-element-write-b c = omega (arith, c .before .before .before .before .loop .inv .room .room)
-
-add-b : tie.Need-add-b Inv-loop μ-loop
-add-b c = record { fits = omega (arith, c .before .before .before .before .loop .inv .room .room) }
-
-sub-last : tie.Need-sub-last Inv-loop μ-loop
-sub-last c = omega arith
-
-element-copy-out-moved : tie.Need-element-copy-out-moved Inv-loop μ-loop
-element-copy-out-moved c = omega (arith, c .before .before .before .before .loop .inv .room .active .few)
-
-element-write-b-2 : tie.Need-element-write-b-2 Inv-loop μ-loop
-element-write-b-2 c = omega (arith, c .before .before .before .before .before .loop .inv .room .active .few)
-
-loop-less : tie.Need-loop-less Inv-loop μ-loop
-loop-less c = omega arith
+element-copy-out-m c =
+    let loop = c .before .before .loop in
+    loop .inv .room .active .low (loop .i) (c .before .loop-test .taken)
 
 loop-again : tie.Need-loop-again Inv-loop μ-loop
 loop-again c =
@@ -58,9 +38,6 @@ loop-again c =
 
 add-i : tie.Need-add-i Inv-loop μ-loop
 add-i c = record { fits = omega (arith, c .before .before .before .before .loop .inv .room .active .few) }
-
-loop-less-2 : tie.Need-loop-less-2 Inv-loop μ-loop
-loop-less-2 c = omega arith
 
 loop-again-2 : tie.Need-loop-again-2 Inv-loop μ-loop
 loop-again-2 c =
@@ -77,23 +54,16 @@ returns c =
 
 pub walk-spec : {M : Type 1} → statement M
 walk-spec =
-    tie.close
-    (tie.spec
-    Inv-loop
-    μ-loop
-    loop-holds
-    element-copy-out-code
-    cast-s
-    mul-m
-    element-copy-out-m
-    element-write-b
-    add-b
-    sub-last
-    element-copy-out-moved
-    element-write-b-2
-    loop-less
-    loop-again
-    add-i
-    loop-less-2
-    loop-again-2
-    returns)
+    tie.close (tie.spec Inv-loop μ-loop
+    (λ c. start (now (c .args .masks)) (c .args .cleared) (c .args .board) (c .pre))  -- loop-holds
+    (λ c. omega (arith, c .before .loop .inv .room .active .few))  -- element-copy-out-code
+    cast-s mul-m element-copy-out-m
+    (λ c. omega (arith, c .before .before .before .before .loop .inv .room .room))  -- element-write-b
+    (λ c. record { fits = omega (arith, c .before .before .before .before .loop .inv .room .room) })  -- add-b
+    (λ c. omega arith)  -- sub-last
+    (λ c. omega (arith, c .before .before .before .before .loop .inv .room .active .few))  -- element-copy-out-moved
+    (λ c. omega (arith, c .before .before .before .before .before .loop .inv .room .active .few))  -- element-write-b-2
+    (λ c. omega arith)  -- loop-less
+    loop-again add-i
+    (λ c. omega arith)  -- loop-less-2
+    loop-again-2 returns)

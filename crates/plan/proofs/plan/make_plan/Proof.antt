@@ -24,32 +24,27 @@ full-pass-requires c κs =
     let args = c .args in
     (c .pre .ordered .originals, in-order (args .keys) (args .live) (args .order) (args .count) (args .n) (c .pre) (search needs) (search needs))
 
-reversed-requires : tie.Need-reversed-requires Inv-loop μ-loop
-reversed-requires c κs = c .before .pre .few
-
 full-pass-requires-2 : tie.Need-full-pass-requires-2 Inv-loop μ-loop
 full-pass-requires-2 c κs =
     let pre = c .before .before .pre in
-    let args = c .before .before .args in
-    (pre .ordered .originals, in-back (args .keys) (args .live) (args .order) (args .count) (args .n) pre (search needs) (search needs) (c .reversed .result) (c .reversed .ensures))
+    let args = c .before .before .args in (
+      pre .ordered .originals,
+      in-back (args .keys) (args .live) (args .order) (args .count) (args .n) pre (search needs) (search needs)
+          (c .reversed .result) (c .reversed .ensures),
+    )
 
 loop-holds : tie.Need-loop-holds Inv-loop μ-loop
 loop-holds c =
     let args = c .before .before .before .args in
     λ both. start (args .keys) (args .live) (args .order) (args .count) (args .n) (c .before .before .full-pass .result) (c .full-pass2 .result) both _ refl
 
-place-requires : tie.Need-place-requires Inv-loop μ-loop
-place-requires c κs = c .before .before .before .before .before .pre .few
-
-sub-s : tie.Need-sub-s Inv-loop μ-loop
-sub-s c = omega arith
-
 sub-s-2 : tie.Need-sub-s-2 Inv-loop μ-loop
 sub-s-2 c =
     let long : length (c .before .before .before .before .before .before .args .live) ≡ max-factors = search needs in
     let long' : length (c .before .before .before .before .before .before .args .order) ≡ max-variables = search needs in
-    let args = c .before .before .before .before .before .before .args in
-    let pre = c .before .before .before .before .before .before .pre in
+    let entry = c .before .before .before .before .before .before in
+    let args = entry .args in
+    let pre = entry .pre in
     omega (
       arith,
       c .place .ensures,
@@ -61,8 +56,9 @@ gather-requires : tie.Need-gather-requires Inv-loop μ-loop
 gather-requires c κs =
     let long : length (c .before .before .before .before .before .before .args .live) ≡ max-factors = search needs in
     let long' : length (c .before .before .before .before .before .before .args .order) ≡ max-variables = search needs in
-    let args = c .before .before .before .before .before .before .args in
-    let pre = c .before .before .before .before .before .before .pre in
+    let entry = c .before .before .before .before .before .before in
+    let args = entry .args in
+    let pre = entry .pre in
     let fw = c .before .before .before .before .before .full-pass in
     let back = c .before .before .before .before .reversed in
     let bw = c .before .before .before .full-pass2 in
@@ -83,14 +79,8 @@ gather-requires c κs =
 mul-at : tie.Need-mul-at Inv-loop μ-loop
 mul-at c = record { fits = omega (arith, c .before .before .before .before .before .before .before .pre .few) }
 
-array-set-from-at : tie.Need-array-set-from-at Inv-loop μ-loop
-array-set-from-at c = omega (arith, c .before .before .before .before .before .before .before .pre .few)
-
 add-k : tie.Need-add-k Inv-loop μ-loop
 add-k c = record { fits = omega (arith, c .before .before .before .before .before .before .before .pre .few) }
-
-loop-less : tie.Need-loop-less Inv-loop μ-loop
-loop-less c = omega arith
 
 loop-again : tie.Need-loop-again Inv-loop μ-loop
 loop-again c =
@@ -99,20 +89,22 @@ loop-again c =
     let bw = c .before .before .before .before .full-pass2 in
     let loop = c .before .before .before .loop in
     let found = c .before .place in
-    λ both. more (args .keys) (args .live) (args .order) (args .count) (args .n) (fw .result) (bw .result) both (loop .at) (loop .k) (found .result) (args .n - 1 - found .result)
+    λ both. more (args .keys) (args .live) (args .order) (args .count) (args .n) (fw .result) (bw .result) both (loop .at) (loop .k) (found .result)
+    (args .n - 1 - found .result)
     (c .gather .result) (loop .inv both) (c .before .before .loop-test .taken) (found .ensures) refl (c .gather .ensures .0) (c .gather .ensures .1)
 
 returns : tie.Need-returns Inv-loop μ-loop
 returns c =
     let long : length (c .before .before .before .before .before .args .live) ≡ max-factors = search needs in
     let long' : length (c .before .before .before .before .before .args .order) ≡ max-variables = search needs in
-    let args = c .before .before .before .before .before .args in
+    let entry = c .before .before .before .before .before in
+    let args = entry .args in
     let fw = c .before .before .before .before .full-pass in
     let back = c .before .before .before .reversed in
     let bw = c .before .before .full-pass2 in
     let loop = c .before .loop in
     let both : Both (args .keys) (args .live) (args .order) (args .count) (args .n) (fw .result) (bw .result) = record {
-      sound = c .before .before .before .before .before .pre;
+      sound = entry .pre;
       long = long;
       long' = long';
       ready = fw .ensures .0;
@@ -120,27 +112,21 @@ returns c =
       forward = fw .ensures .1;
       backward = subst (λ (o : List ℕ). Passes (args .keys) (take (args .count) (args .live)) o (args .n) (bw .result)) (back .ensures) (bw .ensures .1);
     } in (
-      done (args .keys) (args .live) (args .order) (args .count) (args .n) (fw .result) (bw .result) both (loop .at) (loop .k) (loop .inv both) (c .loop-test .left),
-      bounded (args .keys) (args .live) (args .order) (args .count) (args .n) (fw .result) (bw .result) both (loop .at) (loop .k) (loop .inv both) (c .loop-test .left),
+      done (args .keys) (args .live) (args .order) (args .count) (args .n) (fw .result) (bw .result) both (loop .at) (loop .k) (loop .inv both)
+          (c .loop-test .left),
+      bounded (args .keys) (args .live) (args .order) (args .count) (args .n) (fw .result) (bw .result) both (loop .at) (loop .k) (loop .inv both)
+          (c .loop-test .left),
     )
 
 pub make-plan-spec : {M : Type 1} → statement M
 make-plan-spec =
-    tie.close
-    (tie.spec
-    Inv-loop
-    μ-loop
-    full-pass-requires
-    reversed-requires
-    full-pass-requires-2
-    loop-holds
-    place-requires
-    sub-s
-    sub-s-2
-    gather-requires
-    mul-at
-    array-set-from-at
+    tie.close (tie.spec Inv-loop μ-loop full-pass-requires
+    (λ c κs. c .before .pre .few)  -- reversed-requires
+    full-pass-requires-2 loop-holds
+    (λ c κs. c .before .before .before .before .before .pre .few)  -- place-requires
+    (λ c. omega arith)  -- sub-s
+    sub-s-2 gather-requires mul-at
+    (λ c. omega (arith, c .before .before .before .before .before .before .before .pre .few))  -- array-set-from-at
     add-k
-    loop-less
-    loop-again
-    returns)
+    (λ c. omega arith)  -- loop-less
+    loop-again returns)

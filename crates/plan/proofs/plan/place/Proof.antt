@@ -17,26 +17,11 @@ Inv-loop n k order i₀ i = (i ≤ n) × (length order ≡ max-variables) × Sou
 abbrev μ-loop : tie.MeasureT-loop
 μ-loop n k order i₀ i = n - i
 
-loop-holds : tie.Need-loop-holds Inv-loop μ-loop
-loop-holds c = (omega arith, search needs, zero-add _)
-
-array-read-x : tie.Need-array-read-x Inv-loop μ-loop
-array-read-x c = search needs
-
-cast-x : tie.Need-cast-x Inv-loop μ-loop
-cast-x c = search needs
-
 returns : tie.Need-returns Inv-loop μ-loop
 returns c =
     let args = c .before .before .before .args in
     let loop = c .before .before .loop in
     sought-here (args .k) (args .t1) (args .n) (loop .i) (omega arith) (c .before .loop-test .taken) (loop .inv .2) (c .if1 .taken)
-
-add-i : tie.Need-add-i Inv-loop μ-loop
-add-i c = record { fits = omega arith }
-
-loop-less : tie.Need-loop-less Inv-loop μ-loop
-loop-less c = omega arith
 
 loop-again : tie.Need-loop-again Inv-loop μ-loop
 loop-again c =
@@ -52,15 +37,11 @@ returns-2 c =
 
 pub place-spec : {M : Type 1} → statement M
 place-spec =
-    tie.close
-    (tie.spec
-    Inv-loop
-    μ-loop
-    loop-holds
-    array-read-x
-    cast-x
+    tie.close (tie.spec Inv-loop μ-loop
+    (λ c. (omega arith, search needs, zero-add _))  -- loop-holds
+    (λ c. search needs)  -- array-read-x
+    (λ c. search needs)  -- cast-x
     returns
-    add-i
-    loop-less
-    loop-again
-    returns-2)
+    (λ c. record { fits = omega arith })  -- add-i
+    (λ c. omega arith)  -- loop-less
+    loop-again returns-2)

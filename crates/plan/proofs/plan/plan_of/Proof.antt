@@ -5,9 +5,6 @@ use Rattle.plan.proofs.Rising.{sound}
 use Rattle.plan.proofs.plan.plan_of.Statement.{statement}
 use Rattle.plan.proofs.plan.plan_of.Tie as tie
 
-masks-of-requires : tie.Need-masks-of-requires
-masks-of-requires c κs = (c .pre .0 .some, c .pre .0 .fits)
-
 make-plan-requires : tie.Need-make-plan-requires
 make-plan-requires c κs =
     let args = c .before .args in
@@ -20,4 +17,6 @@ returns c =
     (c .make-plan .ensures .0 (keysAt (args .factors) (args .count)) (c .before .masks-of .ensures), c .make-plan .ensures .1)
 
 pub plan-of-spec : {M : Type 1} → statement M
-plan-of-spec = tie.close (tie.spec masks-of-requires make-plan-requires returns)
+plan-of-spec = tie.close (tie.spec
+    (λ c κs. (c .pre .0 .some, c .pre .0 .fits))  -- masks-of-requires
+    make-plan-requires returns)

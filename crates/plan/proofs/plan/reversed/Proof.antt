@@ -19,24 +19,6 @@ abbrev μ-loop : tie.MeasureT-loop
 loop-holds : tie.Need-loop-holds Inv-loop μ-loop
 loop-holds c = (omega arith, refl, search needs, back-none (c .args .t1) (replicate max-variables 0) (c .args .n))
 
-sub-r : tie.Need-sub-r Inv-loop μ-loop
-sub-r c = omega arith
-
-sub-r-2 : tie.Need-sub-r-2 Inv-loop μ-loop
-sub-r-2 c = omega arith
-
-array-read-r : tie.Need-array-read-r Inv-loop μ-loop
-array-read-r c = omega arith
-
-array-write-r : tie.Need-array-write-r Inv-loop μ-loop
-array-write-r c = omega arith
-
-add-i : tie.Need-add-i Inv-loop μ-loop
-add-i c = record { fits = omega arith }
-
-loop-less : tie.Need-loop-less Inv-loop μ-loop
-loop-less c = omega arith
-
 loop-again : tie.Need-loop-again Inv-loop μ-loop
 loop-again c =
     let loop = c .before .loop in
@@ -56,16 +38,11 @@ returns c =
 
 pub reversed-spec : {M : Type 1} → statement M
 reversed-spec =
-    tie.close
-    (tie.spec
-    Inv-loop
-    μ-loop
-    loop-holds
-    sub-r
-    sub-r-2
-    array-read-r
-    array-write-r
-    add-i
-    loop-less
-    loop-again
-    returns)
+    tie.close (tie.spec Inv-loop μ-loop loop-holds
+    (λ c. omega arith)  -- sub-r
+    (λ c. omega arith)  -- sub-r-2
+    (λ c. omega arith)  -- array-read-r
+    (λ c. omega arith)  -- array-write-r
+    (λ c. record { fits = omega arith })  -- add-i
+    (λ c. omega arith)  -- loop-less
+    loop-again returns)

@@ -15,41 +15,24 @@ Inv-loop list₀ n i₀ list i = (n ≡ length list₀) × Filled (length list�
 abbrev μ-loop : tie.MeasureT-loop
 μ-loop list₀ n i₀ list i = n - i
 
-loop-holds : tie.Need-loop-holds Inv-loop μ-loop
-loop-holds c = (refl, filled-none _ _ refl)
-
-cast-list : tie.Need-cast-list Inv-loop μ-loop
-cast-list c = record { fits = omega arith }
-
-slice-write-list : tie.Need-slice-write-list Inv-loop μ-loop
-slice-write-list c = search needs
-
-add-i : tie.Need-add-i Inv-loop μ-loop
-add-i c = record { fits = omega arith }
-
-loop-less : tie.Need-loop-less Inv-loop μ-loop
-loop-less c = omega arith
-
 loop-again : tie.Need-loop-again Inv-loop μ-loop
-loop-again c = (search needs, filled-more _ (c .before .loop .list) (c .before .loop .i) (omega arith) (c .before .loop .inv .1))
-
-same-length : tie.Need-same-length Inv-loop μ-loop
-same-length c = search needs
+loop-again c =
+    let loop = c .before .loop in
+    (search needs, filled-more _ (loop .list) (loop .i) (omega arith) (loop .inv .1))
 
 returns : tie.Need-returns Inv-loop μ-loop
-returns c = filled-done _ (c .before .loop .list) (c .before .loop .i) (c .before .loop .inv .1) (omega arith)
+returns c =
+    let loop = c .before .loop in
+    filled-done _ (loop .list) (loop .i) (loop .inv .1) (omega arith)
 
 pub rise-spec : {M : Type 1} → statement M
 rise-spec =
-    tie.close
-    (tie.spec
-    Inv-loop
-    μ-loop
-    loop-holds
-    cast-list
-    slice-write-list
-    add-i
-    loop-less
+    tie.close (tie.spec Inv-loop μ-loop
+    (λ c. (refl, filled-none _ _ refl))  -- loop-holds
+    (λ c. record { fits = omega arith })  -- cast-list
+    (λ c. search needs)  -- slice-write-list
+    (λ c. record { fits = omega arith })  -- add-i
+    (λ c. omega arith)  -- loop-less
     loop-again
-    same-length
+    (λ c. search needs)  -- same-length
     returns)

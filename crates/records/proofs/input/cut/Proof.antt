@@ -17,11 +17,7 @@ moved len at n l = go (ltb len (at + n)) refl
     go true e = let h : len < at + n = ltb-true _ _ e in lt-ltb (len - at) n (omega arith)
     go false e = let h : at + n ≤ len = ltb-false _ _ e in le-ltb (len - at) n (omega arith)
 
-sub-result : tie.Need-sub-result
-sub-result c = search needs
-
-returns : tie.Need-returns
-returns c = moved _ (c .args .at) (c .args .n) (c .pre)
-
 pub cut-spec : {M : Type 1} → statement M
-cut-spec = tie.close (tie.spec sub-result returns)
+cut-spec = tie.close (tie.spec
+    (λ c. search needs)  -- sub-result
+    (λ c. moved _ (c .args .at) (c .args .n) (c .pre)))  -- returns

@@ -31,7 +31,8 @@ unit-is i j = go (ℕ-discrete i j)
 identity-listed : (n : ℕ) → listed (λ k. unitAt n k) (n * n) ≡ identityOf n
 identity-listed n =
     ext-getD nan (listed (λ k. unitAt n k) (n * n)) (identityOf n) (listed-length (λ k. unitAt n k) (n * n) ∙ sym (identity-length n))
-    (λ k l. let h : k < n * n = omega (arith, listed-length (λ k. unitAt n k) (n * n)) in listed-at (λ k. unitAt n k) (n * n) k nan h ∙ sym (identity-at n k h ∙ unit-is (k % n) (k / n)))
+    (λ k l. let h : k < n * n = omega (arith, listed-length (λ k. unitAt n k) (n * n)) in listed-at (λ k. unitAt n k) (n * n) k nan h
+    ∙ sym (identity-at n k h ∙ unit-is (k % n) (k / n)))
 
 abbrev Inv-loop : tie.InvT-loop
 Inv-loop out₀ n i₀ i-end out i = (i-end ≡ n * n) × (i ≤ i-end) × (length out ≡ length out₀) × (out ≡ listed (λ k. unitAt n k) i ++ drop i out₀)
@@ -39,57 +40,36 @@ Inv-loop out₀ n i₀ i-end out i = (i-end ≡ n * n) × (i ≤ i-end) × (leng
 abbrev μ-loop : tie.MeasureT-loop
 μ-loop out₀ n i₀ i-end out i = i-end - i
 
-mul-i-end : tie.Need-mul-i-end Inv-loop μ-loop
-mul-i-end c = omega (arith, mul-le-mul (c .before .pre .1) (c .before .pre .1))
-
 loop-holds : tie.Need-loop-holds Inv-loop μ-loop
 loop-holds c = (refl, omega arith, refl, fill-none (λ k. unitAt (c .before .args .n) k) (c .before .args .out .now))
 
-unit-requires : tie.Need-unit-requires Inv-loop μ-loop
-unit-requires c κs = search needs
-
-mul-out : tie.Need-mul-out Inv-loop μ-loop
-mul-out c = search needs
-
-slice-write-out : tie.Need-slice-write-out Inv-loop μ-loop
-slice-write-out c = search needs
-
-add-i : tie.Need-add-i Inv-loop μ-loop
-add-i c = search needs
-
-loop-less : tie.Need-loop-less Inv-loop μ-loop
-loop-less c = search needs
-
 loop-again : tie.Need-loop-again Inv-loop μ-loop
 loop-again c =
+    let args = c .before .before .before .before .args in
     let loop = c .before .before .loop in (
       loop .inv .0,
       omega arith,
       simp length-set (loop .inv .2),
-      fill-more (λ k. unitAt (c .before .before .before .before .args .n) k) (c .before .before .before .before .args .out .now) (loop .out) (loop .i) _ (omega arith) (loop .inv .3) (c .unit .ensures),
+      fill-more (λ k. unitAt (args .n) k) (args .out .now) (loop .out) (loop .i) _ (omega arith) (loop .inv .3) (c .unit .ensures),
     )
-
-same-length : tie.Need-same-length Inv-loop μ-loop
-same-length c = c .before .loop .inv .2
 
 returns : tie.Need-returns Inv-loop μ-loop
 returns c =
+    let loop = c .before .loop in
     let args = c .before .before .before .args in
-    rw (← identity-listed (args .n)) (fill-done (λ k. unitAt (args .n) k) (args .out .now) (c .before .loop .out) (c .before .loop .i) (args .n * args .n) (omega arith) (c .before .loop .inv .3))
+    rw (← identity-listed (args .n)) (fill-done (λ k. unitAt (args .n) k) (args .out .now) (loop .out) (loop .i) (args .n * args .n) (omega arith)
+    (loop .inv .3))
 
 pub identity-spec : {M : Type 1} → statement M
 identity-spec =
-    tie.close
-    (tie.spec
-    Inv-loop
-    μ-loop
-    mul-i-end
+    tie.close (tie.spec Inv-loop μ-loop
+    (λ c. omega (arith, mul-le-mul (c .before .pre .1) (c .before .pre .1)))  -- mul-i-end
     loop-holds
-    unit-requires
-    mul-out
-    slice-write-out
-    add-i
-    loop-less
+    (λ c κs. search needs)  -- unit-requires
+    (λ c. search needs)  -- mul-out
+    (λ c. search needs)  -- slice-write-out
+    (λ c. search needs)  -- add-i
+    (λ c. search needs)  -- loop-less
     loop-again
-    same-length
+    (λ c. c .before .loop .inv .2)  -- same-length
     returns)

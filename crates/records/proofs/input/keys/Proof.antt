@@ -17,29 +17,12 @@ abbrev μ-loop : tie.MeasureT-loop
 μ-loop bytes at out₀ n i₀ out i = n - i
 
 loop-holds : tie.Need-loop-holds Inv-loop μ-loop
-loop-holds c = (
-  omega arith,
-  refl,
-  fill-none (λ k. byteAt (c .before .before .args .bytes .now) (c .before .before .args .at + k)) (c .before .before .args .out .now),
-)
-
-add-byte : tie.Need-add-byte Inv-loop μ-loop
-add-byte c = search needs
-
-byte-requires : tie.Need-byte-requires Inv-loop μ-loop
-byte-requires c κs = search needs
-
-mul-out : tie.Need-mul-out Inv-loop μ-loop
-mul-out c = search needs
-
-slice-write-out : tie.Need-slice-write-out Inv-loop μ-loop
-slice-write-out c = search needs
-
-add-i : tie.Need-add-i Inv-loop μ-loop
-add-i c = search needs
-
-loop-less : tie.Need-loop-less Inv-loop μ-loop
-loop-less c = search needs
+loop-holds c =
+    let args = c .before .before .args in (
+      omega arith,
+      refl,
+      fill-none (λ k. byteAt (args .bytes .now) (args .at + k)) (args .out .now),
+    )
 
 loop-again : tie.Need-loop-again Inv-loop μ-loop
 loop-again c =
@@ -50,27 +33,21 @@ loop-again c =
       fill-more (λ k. byteAt (args .bytes .now) (args .at + k)) (args .out .now) (loop .out) (loop .i) _ (omega arith) (loop .inv .2) (c .byte .ensures .0),
     )
 
-same-length : tie.Need-same-length Inv-loop μ-loop
-same-length c = c .before .loop .inv .1
-
 returns : tie.Need-returns Inv-loop μ-loop
 returns c =
+    let loop = c .before .loop in
     let args = c .before .before .before .before .args in
-    fill-done (λ k. byteAt (args .bytes .now) (args .at + k)) (args .out .now) (c .before .loop .out) (c .before .loop .i) (args .n) (omega arith) (c .before .loop .inv .2)
+    fill-done (λ k. byteAt (args .bytes .now) (args .at + k)) (args .out .now) (loop .out) (loop .i) (args .n) (omega arith) (loop .inv .2)
 
 pub keys-spec : {M : Type 1} → statement M
 keys-spec =
-    tie.close
-    (tie.spec
-    Inv-loop
-    μ-loop
-    loop-holds
-    add-byte
-    byte-requires
-    mul-out
-    slice-write-out
-    add-i
-    loop-less
+    tie.close (tie.spec Inv-loop μ-loop loop-holds
+    (λ c. search needs)  -- add-byte
+    (λ c κs. search needs)  -- byte-requires
+    (λ c. search needs)  -- mul-out
+    (λ c. search needs)  -- slice-write-out
+    (λ c. search needs)  -- add-i
+    (λ c. search needs)  -- loop-less
     loop-again
-    same-length
+    (λ c. c .before .loop .inv .1)  -- same-length
     returns)

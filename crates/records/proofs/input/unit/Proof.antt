@@ -8,12 +8,6 @@ use borrow.Author.Needs.{needs}
 use Rattle.records.proofs.input.unit.Statement.{statement}
 use Rattle.records.proofs.input.unit.Tie as tie
 
-rem-if1 : tie.Need-rem-if1
-rem-if1 c = search needs
-
-div-if1 : tie.Need-div-if1
-div-if1 c = search needs
-
 returns : tie.Need-returns
 unfolding ofBits
 returns c = ap (λ (b : Bool). cond b one plus-zero) (sym (eq-eqb _ _ (c .if1 .taken)))
@@ -23,4 +17,7 @@ unfolding ofBits
 returns-2 c = ap (λ (b : Bool). cond b one plus-zero) (sym (ne-eqb _ _ (c .if1 .left)))
 
 pub unit-spec : {M : Type 1} → statement M
-unit-spec = tie.close (tie.spec rem-if1 div-if1 returns returns-2)
+unit-spec = tie.close (tie.spec
+    (λ c. search needs)  -- rem-if1
+    (λ c. search needs)  -- div-if1
+    returns returns-2)

@@ -8,30 +8,25 @@ use borrow.Author.Needs.{needs}
 use Rattle.records.proofs.kinds.given.Statement.{statement}
 use Rattle.records.proofs.kinds.given.Tie as tie
 
-enum-told : tie.Need-enum-told
-enum-told c = search needs
-
-enum-told-2 : tie.Need-enum-told-2
-enum-told-2 c = search needs
-
 mul-result : tie.Need-mul-result
-mul-result c = omega (arith, mul-le-mul (c .before .before .pre) (c .before .before .pre))
-
-enum-told-3 : tie.Need-enum-told-3
-enum-told-3 c = search needs
-
-returns : tie.Need-returns
-returns c = search needs
+mul-result c =
+    let pre = c .before .before .pre in
+    omega (arith, mul-le-mul (pre) (pre))
 
 returns-2 : tie.Need-returns-2
-returns-2 c = (
-  ap (λ (f : Flag). given f (c .before .before .args .rows)) (sym (c .enum-told2 .given .1)),
-  mul-le-mul (c .before .before .pre) (c .before .before .pre),
-)
-
-returns-3 : tie.Need-returns-3
-returns-3 c = search needs
+returns-2 c =
+    let pre = c .before .before .pre in (
+      ap (λ (f : Flag). given f (c .before .before .args .rows)) (sym (c .enum-told2 .given .1)),
+      mul-le-mul (pre) (pre),
+    )
 
 pub given-spec : {M : Type 1} → statement M
 given-spec =
-    tie.close (tie.spec enum-told enum-told-2 mul-result enum-told-3 returns returns-2 returns-3)
+    tie.close (tie.spec
+    (λ c. search needs)  -- enum-told
+    (λ c. search needs)  -- enum-told-2
+    mul-result
+    (λ c. search needs)  -- enum-told-3
+    (λ c. search needs)  -- returns
+    returns-2
+    (λ c. search needs))  -- returns-3

@@ -5,32 +5,36 @@ use borrow.Author.Needs.{needs}
 use Rattle.records.proofs.kinds.mark_of.Statement.{statement}
 use Rattle.records.proofs.kinds.mark_of.Tie as tie
 
-both-requires : tie.Need-both-requires
-both-requires c κs = search needs
-
 returns : tie.Need-returns
 unfolding markOf
 returns c = rw (tells (c .before .both .ensures) (c .if1 .taken))
-
-both-requires-2 : tie.Need-both-requires-2
-both-requires-2 c κs = search needs
 
 returns-2 : tie.Need-returns-2
 unfolding markOf
 returns-2 c = rw (tells (c .before .before .before .both .ensures) (c .before .before .if1 .left), tells (c .before .both2 .ensures) (c .if2 .taken))
 
-both-requires-3 : tie.Need-both-requires-3
-both-requires-3 c κs = search needs
-
 returns-3 : tie.Need-returns-3
 unfolding markOf
-returns-3 c = rw (tells (c .before .before .before .before .before .both .ensures) (c .before .before .before .before .if1 .left), tells (c .before .before .before .both2 .ensures) (c .before .before .if2 .left), tells (c .before .both3 .ensures) (c .if3 .taken))
+returns-3 c = rw (
+  tells (c .before .before .before .before .before .both .ensures) (c .before .before .before .before .if1 .left),
+  tells (c .before .before .before .both2 .ensures) (c .before .before .if2 .left),
+  tells (c .before .both3 .ensures) (c .if3 .taken),
+)
 
 returns-4 : tie.Need-returns-4
 unfolding markOf
-returns-4 c = rw (tells (c .before .before .before .before .before .both .ensures) (c .before .before .before .before .if1 .left), tells (c .before .before .before .both2 .ensures) (c .before .before .if2 .left), tells (c .before .both3 .ensures) (c .if3 .left))
+returns-4 c = rw (
+  tells (c .before .before .before .before .before .both .ensures) (c .before .before .before .before .if1 .left),
+  tells (c .before .before .before .both2 .ensures) (c .before .before .if2 .left),
+  tells (c .before .both3 .ensures) (c .if3 .left),
+)
 
 pub mark-of-spec : {M : Type 1} → statement M
 mark-of-spec =
-    tie.close
-    (tie.spec both-requires returns both-requires-2 returns-2 both-requires-3 returns-3 returns-4)
+    tie.close (tie.spec
+    (λ c κs. search needs)  -- both-requires
+    returns
+    (λ c κs. search needs)  -- both-requires-2
+    returns-2
+    (λ c κs. search needs)  -- both-requires-3
+    returns-3 returns-4)

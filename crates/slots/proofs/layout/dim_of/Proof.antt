@@ -16,56 +16,53 @@ Inv-loop list sizes sum₀ i₀ i-end sum i = (i ≤ i-end) × (i-end ≡ length
 abbrev μ-loop : tie.MeasureT-loop
 μ-loop list sizes sum₀ i₀ i-end sum i = i-end - i
 
-loop-holds : tie.Need-loop-holds Inv-loop μ-loop
-loop-holds c = (omega arith, refl, omega arith)
-
-mul-key : tie.Need-mul-key Inv-loop μ-loop
-mul-key c = omega arith
-
-shared-slice-read-key : tie.Need-shared-slice-read-key Inv-loop μ-loop
-shared-slice-read-key c = omega arith
-
 array-read-wide : tie.Need-array-read-wide Inv-loop μ-loop
-array-read-wide c = c .before .before .before .before .pre .known (c .before .before .loop .i) (omega (arith, c .before .loop-test .taken, c .before .before .loop .inv .1))
-
-wide-requires : tie.Need-wide-requires Inv-loop μ-loop
-wide-requires c κs = search needs
+array-read-wide c =
+    let loop = c .before .before .loop in
+    c .before .before .before .before .pre .known (loop .i) (omega (arith, c .before .loop-test .taken, loop .inv .1))
 
 add-sum : tie.Need-add-sum Inv-loop μ-loop
 add-sum c =
+    let entry = c .before .before .before .before .before in
+    let args = entry .args in
     let loop = c .before .before .before .loop in
-    omega (arith, dim-next (c .before .before .before .before .before .args .list .now) (loop .i) (omega (arith, c .before .before .loop-test .taken, loop .inv .1)) (c .before .before .before .before .before .args .t2), loop .inv .2, c .before .before .before .before .before .pre .total, c .wide .ensures)
-
-add-i : tie.Need-add-i Inv-loop μ-loop
-add-i c = omega arith
-
-loop-less : tie.Need-loop-less Inv-loop μ-loop
-loop-less c = omega arith
+    omega (
+      arith,
+      dim-next (args .list .now) (loop .i) (omega (arith, c .before .before .loop-test .taken, loop .inv .1)) (args .t2),
+      loop .inv .2,
+      entry .pre .total,
+      c .wide .ensures,
+    )
 
 loop-again : tie.Need-loop-again Inv-loop μ-loop
 loop-again c =
+    let args = c .before .before .before .before .before .args in
     let loop = c .before .before .before .loop in (
       omega arith,
       omega arith,
-      omega (arith, dim-next (c .before .before .before .before .before .args .list .now) (loop .i) (omega (arith, c .before .before .loop-test .taken, loop .inv .1)) (c .before .before .before .before .before .args .t2), loop .inv .2, c .wide .ensures),
+      omega (
+        arith,
+        dim-next (args .list .now) (loop .i) (omega (arith, c .before .before .loop-test .taken, loop .inv .1)) (args .t2),
+        loop .inv .2,
+        c .wide .ensures,
+      ),
     )
 
 returns : tie.Need-returns Inv-loop μ-loop
-returns c = omega (arith, ap (λ (l : List ℕ). dimOf (c .before .before .before .args .t2) l) (at-end (c .before .before .before .args .list .now) (c .before .loop .i) (omega (arith, c .before .loop .inv .1))), c .before .loop .inv .2)
+returns c =
+    let args = c .before .before .before .args in
+    let loop = c .before .loop in
+    omega (arith, ap (λ (l : List ℕ). dimOf (args .t2) l) (at-end (args .list .now) (loop .i) (omega (arith, loop .inv .1))), loop .inv .2)
 
 pub dim-of-spec : {M : Type 1} → statement M
 dim-of-spec =
-    tie.close
-    (tie.spec
-    Inv-loop
-    μ-loop
-    loop-holds
-    mul-key
-    shared-slice-read-key
+    tie.close (tie.spec Inv-loop μ-loop
+    (λ c. (omega arith, refl, omega arith))  -- loop-holds
+    (λ c. omega arith)  -- mul-key
+    (λ c. omega arith)  -- shared-slice-read-key
     array-read-wide
-    wide-requires
+    (λ c κs. search needs)  -- wide-requires
     add-sum
-    add-i
-    loop-less
-    loop-again
-    returns)
+    (λ c. omega arith)  -- add-i
+    (λ c. omega arith)  -- loop-less
+    loop-again returns)

@@ -16,52 +16,37 @@ Inv-loop list r₀ i₀ r i =
 abbrev μ-loop : tie.MeasureT-loop
 μ-loop list r₀ i₀ r i = i
 
-loop-holds : tie.Need-loop-holds Inv-loop μ-loop
-loop-holds c = (omega arith, refl, marks-none (c .args .list .now))
-
-sub-i : tie.Need-sub-i Inv-loop μ-loop
-sub-i c = omega (arith, c .loop-test .taken)
-
-mul-key : tie.Need-mul-key Inv-loop μ-loop
-mul-key c = omega arith
-
-shared-slice-read-key : tie.Need-shared-slice-read-key Inv-loop μ-loop
-shared-slice-read-key c = omega (arith, c .before .loop-test .taken, c .before .before .loop .inv .0)
-
 array-write-r : tie.Need-array-write-r Inv-loop μ-loop
-array-write-r c = omega (arith, c .before .before .loop .inv .1, c .before .before .before .pre (c .before .before .loop .i - 1) (omega (arith, c .before .loop-test .taken, c .before .before .loop .inv .0)))
-
-loop-less : tie.Need-loop-less Inv-loop μ-loop
-loop-less c = omega (arith, c .before .loop-test .taken)
+array-write-r c =
+    let loop = c .before .before .loop in
+    omega (arith, loop .inv .1, c .before .before .before .pre (loop .i - 1) (omega (arith, c .before .loop-test .taken, loop .inv .0)))
 
 loop-again : tie.Need-loop-again Inv-loop μ-loop
 loop-again c =
+    let loop = c .before .before .loop in
     let l = c .before .before .before .args .list .now in
-    let i = c .before .before .loop .i in
-    let h : i - 1 < length l = omega (arith, c .before .loop-test .taken, c .before .before .loop .inv .0) in (
-      omega (arith, c .before .before .loop .inv .0),
-      simp length-set (omega (arith, c .before .before .loop .inv .1)),
-      marks-back l (c .before .before .loop .r) (i - 1) i (omega (arith, c .before .loop-test .taken)) h (c .before .before .loop .inv .1) (c .before .before .before .pre (i - 1) h) (c .before .before .loop .inv .2),
+    let i = loop .i in
+    let h : i - 1 < length l = omega (arith, c .before .loop-test .taken, loop .inv .0) in (
+      omega (arith, loop .inv .0),
+      simp length-set (omega (arith, loop .inv .1)),
+      marks-back l (loop .r) (i - 1) i (omega (arith, c .before .loop-test .taken)) h (loop .inv .1) (c .before .before .before .pre (i - 1) h) (loop .inv .2),
     )
 
 returns : tie.Need-returns Inv-loop μ-loop
 returns c =
-    let e : c .before .loop .i ≡ 0 = omega (arith, c .loop-test .left) in (
-      c .before .loop .inv .1,
-      subst (λ (n : ℕ). (key : ℕ) → key < 32 → getD (c .before .loop .r) key false ≡ member key (drop n (c .before .before .args .list .now))) e (c .before .loop .inv .2),
+    let loop = c .before .loop in
+    let e : loop .i ≡ 0 = omega (arith, c .loop-test .left) in (
+      loop .inv .1,
+      subst (λ (n : ℕ). (key : ℕ) → key < 32 → getD (loop .r) key false ≡ member key (drop n (c .before .before .args .list .now))) e (loop .inv .2),
     )
 
 pub marks-spec : {M : Type 1} → statement M
 marks-spec =
-    tie.close
-    (tie.spec
-    Inv-loop
-    μ-loop
-    loop-holds
-    sub-i
-    mul-key
-    shared-slice-read-key
+    tie.close (tie.spec Inv-loop μ-loop
+    (λ c. (omega arith, refl, marks-none (c .args .list .now)))  -- loop-holds
+    (λ c. omega (arith, c .loop-test .taken))  -- sub-i
+    (λ c. omega arith)  -- mul-key
+    (λ c. omega (arith, c .before .loop-test .taken, c .before .before .loop .inv .0))  -- shared-slice-read-key
     array-write-r
-    loop-less
-    loop-again
-    returns)
+    (λ c. omega (arith, c .before .loop-test .taken))  -- loop-less
+    loop-again returns)

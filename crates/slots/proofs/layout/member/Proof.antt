@@ -15,48 +15,35 @@ Inv-loop list key i₀ i-end i = (i ≤ i-end) × (i-end ≡ length list) × (me
 abbrev μ-loop : tie.MeasureT-loop
 μ-loop list key i₀ i-end i = i-end - i
 
-loop-holds : tie.Need-loop-holds Inv-loop μ-loop
-loop-holds c = (omega arith, refl, refl)
-
-mul-if1 : tie.Need-mul-if1 Inv-loop μ-loop
-mul-if1 c = omega arith
-
-shared-slice-read-if1 : tie.Need-shared-slice-read-if1 Inv-loop μ-loop
-shared-slice-read-if1 c = omega arith
-
 returns : tie.Need-returns Inv-loop μ-loop
 returns c =
+    let args = c .before .before .before .before .args in
     let loop = c .before .before .before .loop in
-    sym (member-here (c .before .before .before .before .args .list .now) (loop .i) (omega (arith, c .before .before .loop-test .taken, loop .inv .1)) (c .before .before .before .before .args .key) (c .if1 .taken)) ∙ loop .inv .2
-
-add-i : tie.Need-add-i Inv-loop μ-loop
-add-i c = omega arith
-
-loop-less : tie.Need-loop-less Inv-loop μ-loop
-loop-less c = omega arith
+    sym (member-here (args .list .now) (loop .i) (omega (arith, c .before .before .loop-test .taken, loop .inv .1)) (args .key) (c .if1 .taken)) ∙ loop .inv .2
 
 loop-again : tie.Need-loop-again Inv-loop μ-loop
 loop-again c =
+    let args = c .before .before .before .before .args in
     let loop = c .before .before .before .loop in (
       omega arith,
       omega arith,
-      sym (member-next (c .before .before .before .before .args .list .now) (loop .i) (omega (arith, c .before .before .loop-test .taken, loop .inv .1)) (c .before .before .before .before .args .key) (c .if1 .left)) ∙ loop .inv .2,
+      sym (member-next (args .list .now) (loop .i) (omega (arith, c .before .before .loop-test .taken, loop .inv .1)) (args .key) (c .if1 .left))
+          ∙ loop .inv .2,
     )
 
 returns-2 : tie.Need-returns-2 Inv-loop μ-loop
-returns-2 c = ap (λ (l : List ℕ). member (c .before .before .args .key) l) (sym (at-end (c .before .before .args .list .now) (c .before .loop .i) (omega (arith, c .before .loop .inv .1)))) ∙ c .before .loop .inv .2
+returns-2 c =
+    let args = c .before .before .args in
+    let loop = c .before .loop in
+    ap (λ (l : List ℕ). member (args .key) l) (sym (at-end (args .list .now) (loop .i) (omega (arith, loop .inv .1)))) ∙ loop .inv .2
 
 pub member-spec : {M : Type 1} → statement M
 member-spec =
-    tie.close
-    (tie.spec
-    Inv-loop
-    μ-loop
-    loop-holds
-    mul-if1
-    shared-slice-read-if1
+    tie.close (tie.spec Inv-loop μ-loop
+    (λ c. (omega arith, refl, refl))  -- loop-holds
+    (λ c. omega arith)  -- mul-if1
+    (λ c. omega arith)  -- shared-slice-read-if1
     returns
-    add-i
-    loop-less
-    loop-again
-    returns-2)
+    (λ c. omega arith)  -- add-i
+    (λ c. omega arith)  -- loop-less
+    loop-again returns-2)

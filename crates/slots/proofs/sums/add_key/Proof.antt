@@ -14,37 +14,36 @@ add-own-requires c κs =
 
 gemm-requires : tie.Need-gemm-requires
 gemm-requires c κs =
-    let args = c .before .before .before .before .before .before .before .before .before .before .before .before .args in
-    let pre = c .before .before .before .before .before .before .before .before .before .before .before .before .pre in (
+    let entry = c .before .before .before .before .before .before .before .before .before .before .before .before in
+    let args = entry .args in
+    let pre = entry .pre in (
       λ i j hi hj. dense _ _ _ (pre .1 .0 .2) i j hi hj,
       (dense-flip (args .y) (args .k .size) _ (pre .1 .1 .0 .0), λ i j hi hj. dense _ _ _ (pre .1 .1 .0 .2) i j hi hj),
     )
 
 add-products-requires : tie.Need-add-products-requires
 add-products-requires c κs =
-    let pre = c .before .before .before .before .before .before .before .before .before .before .before .before .before .before .before .before .before .pre in (
-      relaid (c .before .before .before .before .before .before .before .before .before .before .before .before .before .before .before .before .before .args .f) (c .before .before .before .before .before .before .before .before .add-own .kept .0) (pre .0),
-      (((pre .1 .0 .0) .square, (pre .1 .0 .1), omega (arith, c .before .before .before .before .gemm .kept .0, (pre .1 .0 .2))), ((pre .1 .1 .1 .0), (pre .1 .1 .1 .1))),
+    let entry = c .before .before .before .before .before .before .before .before .before .before .before .before .before .before .before .before .before in
+    let pre = entry .pre in (
+      relaid (entry .args .f) (c .before .before .before .before .before .before .before .before .add-own .kept .0) (pre .0),
+      (
+        ((pre .1 .0 .0) .square, (pre .1 .0 .1), omega (arith, c .before .before .before .before .gemm .kept .0, (pre .1 .0 .2))),
+        ((pre .1 .1 .1 .0), (pre .1 .1 .1 .1)),
+      ),
     )
-
-same-length : tie.Need-same-length
-same-length c = search needs
-
-same-length-2 : tie.Need-same-length-2
-same-length-2 c = search needs
 
 returns : tie.Need-returns
 returns c =
-    let args = c .before .before .before .before .before .before .before .before .before .before .before .before .before .before .before .before .before .before .before .before .args in
-    key-is (args .z) (args .f) (args .layout) (args .row) (args .keys .now) (args .y) (args .a .now) (args .xi .now) (args .w .now) (args .k) (args .b .now) (args .t .now) _ _ _ _ (c .before .before .before .before .before .before .before .before .before .before .before .before .before .before .before .before .before .before .before .before .pre .1 .0 .2) (c .before .before .before .before .before .before .before .before .before .before .before .add-own .ensures) (c .before .before .before .before .before .before .before .gemm .ensures) (c .before .before .add-products .ensures)
+    let entry = c .before .before .before .before .before .before .before .before .before .before .before .before .before .before .before .before
+    .before .before .before .before in
+    let args = entry .args in
+    key-is (args .z) (args .f) (args .layout) (args .row) (args .keys .now) (args .y) (args .a .now) (args .xi .now) (args .w .now) (args .k)
+    (args .b .now) (args .t .now) _ _ _ _ (entry .pre .1 .0 .2) (c .before .before .before .before .before .before .before .before .before .before
+    .before .add-own .ensures) (c .before .before .before .before .before .before .before .gemm .ensures) (c .before .before .add-products .ensures)
 
 pub add-key-spec : {M : Type 1} → statement M
 add-key-spec =
-    tie.close
-    (tie.spec
-    add-own-requires
-    gemm-requires
-    add-products-requires
-    same-length
-    same-length-2
+    tie.close (tie.spec add-own-requires gemm-requires add-products-requires
+    (λ c. search needs)  -- same-length
+    (λ c. search needs)  -- same-length-2
     returns)

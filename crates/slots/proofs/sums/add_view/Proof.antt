@@ -8,22 +8,29 @@ use Rattle.slots.proofs.sums.add_view.Statement.{statement}
 use Rattle.slots.proofs.sums.add_view.Tie as tie
 
 mul-p : tie.Need-mul-p
-mul-p c = let b = offsets (c .before .before .before .before .pre .1) in omega (arith, c .before .before .before .before .pre .1 .rows)
+mul-p c =
+    let pre = c .before .before .before .before .pre in
+    let b = offsets (pre .1) in omega (arith, pre .1 .rows)
 
 add-q : tie.Need-add-q
-add-q c = let b = offsets (c .before .before .before .before .pre .1) in omega (arith, c .before .before .before .before .pre .1 .rows)
+add-q c =
+    let pre = c .before .before .before .before .pre in
+    let b = offsets (pre .1) in omega (arith, pre .1 .rows)
 
 mul-e : tie.Need-mul-e
-mul-e c = let b = offsets (c .before .before .before .before .pre .1) in omega (arith, c .before .before .before .before .pre .1 .rows)
+mul-e c =
+    let pre = c .before .before .before .before .pre in
+    let b = offsets (pre .1) in omega (arith, pre .1 .rows)
 
 add-e : tie.Need-add-e
-add-e c = let b = offsets (c .before .before .before .before .pre .1) in omega (arith, c .before .before .before .before .pre .1 .rows)
-
-shared-slice-read-find : tie.Need-shared-slice-read-find
-shared-slice-read-find c = c .before .before .before .before .before .before .pre .1 .some (c .before .if1 .taken)
+add-e c =
+    let pre = c .before .before .before .before .pre in
+    let b = offsets (pre .1) in omega (arith, pre .1 .rows)
 
 find-requires : tie.Need-find-requires
-find-requires c κs = c .before .before .before .before .before .before .pre .1 .known 0 (c .before .before .before .before .before .before .pre .1 .some (c .before .if1 .taken)) .listed
+find-requires c κs =
+    let pre = c .before .before .before .before .before .before .pre in
+    pre .1 .known 0 (pre .1 .some (c .before .if1 .taken)) .listed
 
 mul-add-prior : tie.Need-mul-add-prior
 mul-add-prior c =
@@ -31,93 +38,44 @@ mul-add-prior c =
     let b = offsets (pre .1) in
     omega (arith, pre .1 .rows)
 
-sub-add-prior : tie.Need-sub-add-prior
-sub-add-prior c = omega arith
-
-part-add-prior-start : tie.Need-part-add-prior-start
-part-add-prior-start c = search needs
-
-part-add-prior-end : tie.Need-part-add-prior-end
-part-add-prior-end c = search needs
-
 mul-add-prior-2 : tie.Need-mul-add-prior-2
 mul-add-prior-2 c =
     let pre = c .before .before .before .before .before .before .before .before .before .pre in
     let b = offsets (pre .1) in
     omega (arith, pre .1 .rows)
 
-sub-add-prior-2 : tie.Need-sub-add-prior-2
-sub-add-prior-2 c = omega arith
-
-part-add-prior-start-2 : tie.Need-part-add-prior-start-2
-part-add-prior-start-2 c = search needs
-
-part-add-prior-end-2 : tie.Need-part-add-prior-end-2
-part-add-prior-end-2 c = search needs
-
 add-prior-requires : tie.Need-add-prior-requires
 add-prior-requires c κs =
-    let pre = c .before .before .before .before .before .before .before .before .before .before .pre in
+    let entry = c .before .before .before .before .before .before .before .before .before .before in
+    let pre = entry .pre in
     let if1 = c .before .before .before .before .before .if1 in
     let find = c .before .before .before .find in
     let l = (pre .0) in
-    let q = prior-sizes (pre .1) (c .before .before .before .before .before .before .before .before .before .before .args .nums .now) _ refl (if1 .taken) (find .ensures) in (
+    let q = prior-sizes (pre .1) (entry .args .nums .now) _ refl (if1 .taken) (find .ensures) in (
       l,
       ((rw (find .ensures) (branch-prior (pre .1) (if1 .taken)), rw (find .ensures) (pre .1 .known 0 (pre .1 .some (if1 .taken)) .sits)), (q .0, q .1)),
     )
 
-same-length : tie.Need-same-length
-same-length c = search needs
-
 returns : tie.Need-returns
 returns c =
     let args = c .before .before .before .before .before .before .before .before .before .before .before .before .before .args in
-    view-prior (args .z) (args .f) (args .layout) (args .row) (args .prior) (args .keys .now) (args .y) (args .d) (args .nums .now) _ _ _ (c .before .before .before .before .before .before .before .before .if1 .taken) (c .before .before .before .before .before .before .find .ensures) (c .before .before .add-prior .ensures)
-
-mul-copy-rows : tie.Need-mul-copy-rows
-mul-copy-rows c = omega arith
-
-sub-copy-rows : tie.Need-sub-copy-rows
-sub-copy-rows c = omega arith
-
-part-copy-rows-start : tie.Need-part-copy-rows-start
-part-copy-rows-start c = search needs
-
-part-copy-rows-end : tie.Need-part-copy-rows-end
-part-copy-rows-end c = search needs
-
-mul-copy-rows-2 : tie.Need-mul-copy-rows-2
-mul-copy-rows-2 c = omega arith
-
-sub-copy-rows-2 : tie.Need-sub-copy-rows-2
-sub-copy-rows-2 c = omega arith
-
-part-copy-rows-start-2 : tie.Need-part-copy-rows-start-2
-part-copy-rows-start-2 c = search needs
-
-part-copy-rows-end-2 : tie.Need-part-copy-rows-end-2
-part-copy-rows-end-2 c = search needs
+    view-prior (args .z) (args .f) (args .layout) (args .row) (args .prior) (args .keys .now) (args .y) (args .d) (args .nums .now) _ _ _
+    (c .before .before .before .before .before .before .before .before .if1 .taken)
+    (c .before .before .before .before .before .before .find .ensures) (c .before .before .add-prior .ensures)
 
 copy-rows-requires : tie.Need-copy-rows-requires
 copy-rows-requires c κs =
-    let args = c .before .before .before .before .before .before .before .before .args in
-    let pre = c .before .before .before .before .before .before .before .before .pre in
+    let entry = c .before .before .before .before .before .before .before .before in
+    let args = entry .args in
+    let pre = entry .pre in
     let l = (pre .0) in (
       l,
-      (branch-other (pre .1) (c .before .before .before .if1 .left), part-sizes (pre .1) (args .nums .now) refl .0, part-sizes (pre .1) (args .nums .now) refl .1),
+      (
+        branch-other (pre .1) (c .before .before .before .if1 .left),
+        part-sizes (pre .1) (args .nums .now) refl .0,
+        part-sizes (pre .1) (args .nums .now) refl .1,
+      ),
     )
-
-mul-add-keys : tie.Need-mul-add-keys
-mul-add-keys c = omega arith
-
-sub-add-keys : tie.Need-sub-add-keys
-sub-add-keys c = omega arith
-
-part-add-keys-start : tie.Need-part-add-keys-start
-part-add-keys-start c = search needs
-
-part-add-keys-end : tie.Need-part-add-keys-end
-part-add-keys-end c = search needs
 
 mul-add-keys-2 : tie.Need-mul-add-keys-2
 mul-add-keys-2 c =
@@ -125,94 +83,81 @@ mul-add-keys-2 c =
     let b = offsets (pre .1) in
     omega (arith, pre .1 .rows)
 
-sub-add-keys-2 : tie.Need-sub-add-keys-2
-sub-add-keys-2 c = omega arith
-
-part-add-keys-start-2 : tie.Need-part-add-keys-start-2
-part-add-keys-start-2 c = search needs
-
-part-add-keys-end-2 : tie.Need-part-add-keys-end-2
-part-add-keys-end-2 c = search needs
-
 mul-add-keys-3 : tie.Need-mul-add-keys-3
 mul-add-keys-3 c =
     let pre = c .before .before .before .before .before .before .before .before .before .before .before .before .before .before .before .pre in
     let b = offsets (pre .1) in
     omega (arith, pre .1 .rows)
 
-sub-add-keys-3 : tie.Need-sub-add-keys-3
-sub-add-keys-3 c = omega arith
-
-part-add-keys-start-3 : tie.Need-part-add-keys-start-3
-part-add-keys-start-3 c = search needs
-
-part-add-keys-end-3 : tie.Need-part-add-keys-end-3
-part-add-keys-end-3 c = search needs
-
 add-keys-requires : tie.Need-add-keys-requires
 add-keys-requires c κs =
-    let args = c .before .before .before .before .before .before .before .before .before .before .before .before .before .before .before .before .args in
-    let pre = c .before .before .before .before .before .before .before .before .before .before .before .before .before .before .before .before .pre in
+    let entry = c .before .before .before .before .before .before .before .before .before .before .before .before .before .before .before .before in
+    let args = entry .args in
+    let pre = entry .pre in
     let if1 = c .before .before .before .before .before .before .before .before .before .before .before .if1 in
     let l = (pre .0) in (
       relaid (args .f) (c .before .before .before .before .before .before .before .copy-rows .kept .0) l,
-      ((branch-other (pre .1) (if1 .left), pre .1 .scratch), ((part-sizes (pre .1) (args .nums .now) refl .0, part-sizes (pre .1) (args .nums .now) refl .1), (pre .1 .known, wide-other (pre .1) _ (if1 .left) (part-sizes (pre .1) (args .nums .now) refl .2)))),
+      (
+        (branch-other (pre .1) (if1 .left), pre .1 .scratch),
+        (
+          (
+            part-sizes (pre .1) (args .nums .now) refl .0,
+            part-sizes (pre .1) (args .nums .now) refl .1,
+          ),
+          (pre .1 .known, wide-other (pre .1) _ (if1 .left) (part-sizes (pre .1) (args .nums .now) refl .2)),
+        ),
+      ),
     )
 
 same-length-2 : tie.Need-same-length-2
-same-length-2 c = c .before .before .before .before .add-keys .kept .0 ∙ c .before .before .before .before .before .before .before .before .before .before .before .before .copy-rows .kept .0
-
-same-length-3 : tie.Need-same-length-3
-same-length-3 c = search needs
+same-length-2 c = c .before .before .before .before .add-keys .kept .0
+    ∙ c .before .before .before .before .before .before .before .before .before .before .before .before .copy-rows .kept .0
 
 returns-2 : tie.Need-returns-2
 returns-2 c =
-    let args = c .before .before .before .before .before .before .before .before .before .before .before .before .before .before .before .before .before .before .before .before .before .args in
-    view-other (args .z) (args .f) (args .layout) (args .row) (args .prior) (args .keys .now) (args .y) (args .d) (args .nums .now) _ _ _ (c .before .before .before .before .before .before .before .before .before .before .before .before .before .before .before .before .if1 .left) (c .before .before .before .before .before .before .before .before .before .before .before .before .copy-rows .ensures) (c .before .before .before .before .add-keys .ensures)
+    let args = c .before .before .before .before .before .before .before .before .before .before .before .before .before .before .before .before
+    .before .before .before .before .before .args in
+    view-other (args .z) (args .f) (args .layout) (args .row) (args .prior) (args .keys .now) (args .y) (args .d) (args .nums .now) _ _ _
+    (c .before .before .before .before .before .before .before .before .before .before .before .before .before .before .before .before .if1 .left)
+    (c .before .before .before .before .before .before .before .before .before .before .before .before .copy-rows .ensures)
+    (c .before .before .before .before .add-keys .ensures)
 
 pub add-view-spec : {M : Type 1} → statement M
 add-view-spec =
-    tie.close
-    (tie.spec
-    mul-p
-    add-q
-    mul-e
-    add-e
-    shared-slice-read-find
-    find-requires
-    mul-add-prior
-    sub-add-prior
-    part-add-prior-start
-    part-add-prior-end
+    tie.close (tie.spec mul-p add-q mul-e add-e
+    (λ c. c .before .before .before .before .before .before .pre .1 .some (c .before .if1 .taken))  -- shared-slice-read-find
+    find-requires mul-add-prior
+    (λ c. omega arith)  -- sub-add-prior
+    (λ c. search needs)  -- part-add-prior-start
+    (λ c. search needs)  -- part-add-prior-end
     mul-add-prior-2
-    sub-add-prior-2
-    part-add-prior-start-2
-    part-add-prior-end-2
+    (λ c. omega arith)  -- sub-add-prior-2
+    (λ c. search needs)  -- part-add-prior-start-2
+    (λ c. search needs)  -- part-add-prior-end-2
     add-prior-requires
-    same-length
+    (λ c. search needs)  -- same-length
     returns
-    mul-copy-rows
-    sub-copy-rows
-    part-copy-rows-start
-    part-copy-rows-end
-    mul-copy-rows-2
-    sub-copy-rows-2
-    part-copy-rows-start-2
-    part-copy-rows-end-2
+    (λ c. omega arith)  -- mul-copy-rows
+    (λ c. omega arith)  -- sub-copy-rows
+    (λ c. search needs)  -- part-copy-rows-start
+    (λ c. search needs)  -- part-copy-rows-end
+    (λ c. omega arith)  -- mul-copy-rows-2
+    (λ c. omega arith)  -- sub-copy-rows-2
+    (λ c. search needs)  -- part-copy-rows-start-2
+    (λ c. search needs)  -- part-copy-rows-end-2
     copy-rows-requires
-    mul-add-keys
-    sub-add-keys
-    part-add-keys-start
-    part-add-keys-end
+    (λ c. omega arith)  -- mul-add-keys
+    (λ c. omega arith)  -- sub-add-keys
+    (λ c. search needs)  -- part-add-keys-start
+    (λ c. search needs)  -- part-add-keys-end
     mul-add-keys-2
-    sub-add-keys-2
-    part-add-keys-start-2
-    part-add-keys-end-2
+    (λ c. omega arith)  -- sub-add-keys-2
+    (λ c. search needs)  -- part-add-keys-start-2
+    (λ c. search needs)  -- part-add-keys-end-2
     mul-add-keys-3
-    sub-add-keys-3
-    part-add-keys-start-3
-    part-add-keys-end-3
-    add-keys-requires
-    same-length-2
-    same-length-3
+    (λ c. omega arith)  -- sub-add-keys-3
+    (λ c. search needs)  -- part-add-keys-start-3
+    (λ c. search needs)  -- part-add-keys-end-3
+    add-keys-requires same-length-2
+    (λ c. search needs)  -- same-length-3
     returns-2)

@@ -7,20 +7,13 @@ use Rattle.slots.proofs.sums.times_at.Tie as tie
 
 gemm-at-requires : tie.Need-gemm-at-requires
 gemm-at-requires c κs =
-    let args = c .before .before .before .before .args in
-    let pre = c .before .before .before .before .pre in
+    let entry = c .before .before .before .before in
+    let args = entry .args in
+    let pre = entry .pre in
     (pre .0, (pre .1 .0, (dense-flip (args .y) (args .s) _ (pre .1 .1 .0), dense (args .y) (args .w) _ (pre .1 .1 .1))))
-
-same-length : tie.Need-same-length
-same-length c = search needs
-
-returns : tie.Need-returns
-returns c = c .before .before .gemm-at .ensures
 
 pub times-at-spec : {M : Type 1} → statement M
 times-at-spec =
-    tie.close
-    (tie.spec
-    gemm-at-requires
-    same-length
-    returns)
+    tie.close (tie.spec gemm-at-requires
+    (λ c. search needs)  -- same-length
+    (λ c. c .before .before .gemm-at .ensures))  -- returns

@@ -1,7 +1,8 @@
 -- `solver::run::carry_out` meets its contract: a refused message ends it, else it goes on to the next pass and then to stage 3. Assumes nothing.
 use lib.ListN.{length}
 use Rattle.plan.specs.Plan.{planOf}
-use Rattle.solver.proofs.Stages.{forwards, backwards, stop-low, step-fits, first-asks, second-asks, forward-ends, forward-stays, gatherable, third-asks, first-refused, second-refused, third-told, enough-later}
+use Rattle.solver.proofs.Stages.{forwards, backwards, stop-low, step-fits, first-asks, second-asks, forward-ends, forward-stays, gatherable}
+use Rattle.solver.proofs.Stages.{third-asks, first-refused, second-refused, third-told, enough-later}
 use native.Mathlib.Omega.{arith}
 use borrow.Author.Needs.{needs}
 use Rattle.solver.proofs.run.carry_out.Statement.{statement}
@@ -9,156 +10,160 @@ use Rattle.solver.proofs.run.carry_out.Tie as tie
 
 carry-pass-requires : tie.Need-carry-pass-requires
 carry-pass-requires c κs =
-    let args = c .before .before .before .before .before .before .before .before .before .before .before .args in
-    let pre = c .before .before .before .before .before .before .before .before .before .before .before .pre in
-    first-asks (args .g) (args .p) (pre .0 .0) (args .places) (args .keys .now) (args .heads .now) (pre .0 .1) (length (args .factors .now)) (length (args .messages .now)) (length (args .work .now)) (length (args .marginals .now)) (pre .1)
-
-enum-told : tie.Need-enum-told
-enum-told c = search needs
-
-enum-known-j : tie.Need-enum-known-j
-enum-known-j c = search needs
+    let entry = c .before .before .before .before .before .before .before .before .before .before .before in
+    let args = entry .args in
+    let pre = entry .pre in
+    first-asks (args .g) (args .p) (pre .0 .0) (args .places) (args .keys .now) (args .heads .now) (pre .0 .1) (length (args .factors .now))
+    (length (args .messages .now)) (length (args .work .now)) (length (args .marginals .now)) (pre .1)
 
 step-of-requires : tie.Need-step-of-requires
 step-of-requires c κs =
-    let args = c .before .before .before .before .before .before .before .before .before .before .before .before .before .before .before .before .before .before .before .args in
-    (forwards (args .g) (args .p) (c .before .before .before .before .before .before .before .before .before .before .before .before .before .before .before .before .before .before .before .pre .0 .0) .0, stop-low (args .g) (args .factors .now) _ _ _ _ (c .before .before .before .before .before .before .before .carry-pass .ensures .0) (c .before .j .given .1))
-
-refused-requires : tie.Need-refused-requires
-refused-requires c κs = search needs
-
-same-length : tie.Need-same-length
-same-length c = search needs
-
-same-length-2 : tie.Need-same-length-2
-same-length-2 c = search needs
+    let entry = c .before .before .before .before .before .before .before .before .before .before .before .before .before .before .before .before
+    .before .before .before in
+    let args = entry .args in (
+      forwards (args .g) (args .p) (entry .pre .0 .0) .0,
+      stop-low (args .g) (args .factors .now) _ _ _ _
+          (c .before .before .before .before .before .before .before .carry-pass .ensures .0) (c .before .j .given .1),
+    )
 
 returns : tie.Need-returns
 unfolding planOf
 returns c =
-    let args = c .before .before .before .before .before .before .before .before .before .before .before .before .before .before .before .before .before .before .before .before .before .args in
+    let args = c .before .before .before .before .before .before .before .before .before .before .before .before .before .before .before .before
+    .before .before .before .before .before .args in
     let carried = c .before .before .before .before .before .before .before .before .before .carry-pass in
     rw (c .refused .ensures)
-    (first-refused (args .g) (planOf (args .g .variables) (args .p)) (args .places .figure) (args .factors .now) (args .messages .now) (args .marginals .now) _ _ _ _ _ (carried .ensures .0) (c .before .before .before .j .given .1) (carried .ensures .1 .0) (c .before .step-of .ensures))
+    (first-refused (args .g) (planOf (args .g .variables) (args .p)) (args .places .figure) (args .factors .now) (args .messages .now)
+    (args .marginals .now) _ _ _ _ _ (carried .ensures .0) (c .before .before .before .j .given .1) (carried .ensures .1 .0) (c .before .step-of .ensures))
 
 carry-pass-requires-2 : tie.Need-carry-pass-requires-2
 carry-pass-requires-2 c κs =
-    let args = c .before .before .before .before .before .before .before .before .before .before .before .before .before .before .before .before .before .before .before .before .args in
-    let pre = c .before .before .before .before .before .before .before .before .before .before .before .before .before .before .before .before .before .before .before .before .pre in
+    let entry = c .before .before .before .before .before .before .before .before .before .before .before .before .before .before .before .before
+    .before .before .before .before in
+    let args = entry .args in
+    let pre = entry .pre in
     let kept = c .before .before .before .before .before .before .before .before .carry-pass .kept .1 .1 .1 .1 .1 in
-    second-asks (args .g) (args .p) (pre .0 .0) (args .places) (args .keys .now) (args .heads .now) (pre .0 .1) (length (args .factors .now)) _ _ (length (args .marginals .now)) (enough-later (pre .1) (kept .0) (kept .1 .0))
-
-enum-told-2 : tie.Need-enum-told-2
-enum-told-2 c = search needs
-
-enum-known-j-2 : tie.Need-enum-known-j-2
-enum-known-j-2 c = search needs
+    second-asks (args .g) (args .p) (pre .0 .0) (args .places) (args .keys .now) (args .heads .now) (pre .0 .1) (length (args .factors .now)) _ _
+    (length (args .marginals .now)) (enough-later (pre .1) (kept .0) (kept .1 .0))
 
 sub-refused : tie.Need-sub-refused
 sub-refused c =
-    let args = c .before .before .before .before .before .before .before .before .before .before .before .before .before .before .before .before .before .before .before .before .before .before .before .before .before .before .before .before .args in
-    omega (arith, step-fits (args .g) (args .p) (c .before .before .before .before .before .before .before .before .before .before .before .before .before .before .before .before .before .before .before .before .before .before .before .before .before .before .before .before .pre .0 .0) (args .factors .now) _ _ _ (c .before .before .before .before .before .before .before .carry-pass2 .ensures .0) (c .before .j2 .given .1))
+    let entry = c .before .before .before .before .before .before .before .before .before .before .before .before .before .before .before .before
+    .before .before .before .before .before .before .before .before .before .before .before .before in
+    let args = entry .args in
+    omega (
+      arith,
+      step-fits (args .g) (args .p) (entry .pre .0 .0) (args .factors .now) _ _ _
+          (c .before .before .before .before .before .before .before .carry-pass2 .ensures .0) (c .before .j2 .given .1),
+    )
 
 step-of-requires-2 : tie.Need-step-of-requires-2
 step-of-requires-2 c κs =
-    let args = c .before .before .before .before .before .before .before .before .before .before .before .before .before .before .before .before .before .before .before .before .before .before .before .before .before .before .before .before .args in
-    (backwards (args .g) (args .p) (c .before .before .before .before .before .before .before .before .before .before .before .before .before .before .before .before .before .before .before .before .before .before .before .before .before .before .before .before .pre .0 .0) .0, stop-low (args .g) (args .factors .now) _ _ _ _ (c .before .before .before .before .before .before .before .carry-pass2 .ensures .0) (c .before .j2 .given .1))
+    let entry = c .before .before .before .before .before .before .before .before .before .before .before .before .before .before .before .before
+    .before .before .before .before .before .before .before .before .before .before .before .before in
+    let args = entry .args in (
+      backwards (args .g) (args .p) (entry .pre .0 .0) .0,
+      stop-low (args .g) (args .factors .now) _ _ _ _
+          (c .before .before .before .before .before .before .before .carry-pass2 .ensures .0) (c .before .j2 .given .1),
+    )
 
 sub-refused-2 : tie.Need-sub-refused-2
 sub-refused-2 c =
-    let args = c .before .before .before .before .before .before .before .before .before .before .before .before .before .before .before .before .before .before .before .before .before .before .before .before .before .before .before .before .before .args in
-    omega (arith, step-fits (args .g) (args .p) (c .before .before .before .before .before .before .before .before .before .before .before .before .before .before .before .before .before .before .before .before .before .before .before .before .before .before .before .before .before .pre .0 .0) (args .factors .now) _ _ _ (c .before .before .before .before .before .before .before .before .carry-pass2 .ensures .0) (c .before .before .j2 .given .1), c .step-of2 .ensures)
-
-refused-requires-2 : tie.Need-refused-requires-2
-refused-requires-2 c κs = search needs
-
-same-length-3 : tie.Need-same-length-3
-same-length-3 c = search needs
-
-same-length-4 : tie.Need-same-length-4
-same-length-4 c = search needs
+    let entry = c .before .before .before .before .before .before .before .before .before .before .before .before .before .before .before .before
+    .before .before .before .before .before .before .before .before .before .before .before .before .before in
+    let args = entry .args in
+    omega (
+      arith,
+      step-fits (args .g) (args .p) (entry .pre .0 .0) (args .factors .now) _ _ _
+          (c .before .before .before .before .before .before .before .before .carry-pass2 .ensures .0) (c .before .before .j2 .given .1),
+      c .step-of2 .ensures,
+    )
 
 returns-2 : tie.Need-returns-2
 unfolding planOf
 returns-2 c =
-    let args = c .before .before .before .before .before .before .before .before .before .before .before .before .before .before .before .before .before .before .before .before .before .before .before .before .before .before .before .before .before .before .args in
-    let pre = c .before .before .before .before .before .before .before .before .before .before .before .before .before .before .before .before .before .before .before .before .before .before .before .before .before .before .before .before .before .before .pre in
-    let carried = c .before .before .before .before .before .before .before .before .before .before .before .before .before .before .before .before .before .before .carry-pass in
+    let entry = c .before .before .before .before .before .before .before .before .before .before .before .before .before .before .before .before
+    .before .before .before .before .before .before .before .before .before .before .before .before .before .before in
+    let args = entry .args in
+    let pre = entry .pre in
+    let carried = c .before .before .before .before .before .before .before .before .before .before .before .before .before .before .before .before
+    .before .before .carry-pass in
     let carried2 = c .before .before .before .before .before .before .before .before .before .carry-pass2 in
     let through = c .before .before .before .before .before .before .before .before .before .before .before .before .enum-told .given .1 in
-    let ends = forward-ends (args .g) (args .p) (pre .0 .0) (args .places) (args .keys .now) (args .heads .now) (pre .0 .1) (args .factors .now) (args .messages .now) _ _ (pre .1) _ (carried .ensures .1 .1 .0 through) in
+    let ends = forward-ends (args .g) (args .p) (pre .0 .0) (args .places) (args .keys .now) (args .heads .now) (pre .0 .1) (args .factors .now)
+    (args .messages .now) _ _ (pre .1) _ (carried .ensures .1 .1 .0 through) in
     rw (c .refused2 .ensures)
-    (second-refused (args .g) (planOf (args .g .variables) (args .p)) (args .places .figure) (args .factors .now) (args .messages .now) (args .marginals .now) (args .places .half) _ _ _ _ (carried .ensures .0) (carried2 .ensures .0) through
+    (second-refused (args .g) (planOf (args .g .variables) (args .p)) (args .places .figure) (args .factors .now) (args .messages .now)
+    (args .marginals .now) (args .places .half) _ _ _ _ (carried .ensures .0) (carried2 .ensures .0) through
     (carried .ensures .1 .0) (carried2 .ensures .1 .0) ends _ _ _ (c .before .before .before .j2 .given .1) (c .before .step-of2 .ensures))
 
 third-stage-requires : tie.Need-third-stage-requires
 third-stage-requires c κs =
-    let args = c .before .before .before .before .before .before .before .before .before .before .before .before .before .before .before .before .before .before .before .before .before .before .before .before .before .before .before .before .before .before .args in
-    let pre = c .before .before .before .before .before .before .before .before .before .before .before .before .before .before .before .before .before .before .before .before .before .before .before .before .before .before .before .before .before .before .pre in
-    let carried = c .before .before .before .before .before .before .before .before .before .before .before .before .before .before .before .before .before .before .carry-pass in
+    let entry = c .before .before .before .before .before .before .before .before .before .before .before .before .before .before .before .before
+    .before .before .before .before .before .before .before .before .before .before .before .before .before .before in
+    let args = entry .args in
+    let pre = entry .pre in
+    let carried = c .before .before .before .before .before .before .before .before .before .before .before .before .before .before .before .before
+    .before .before .carry-pass in
     let carried2 = c .before .before .before .before .before .before .before .before .before .carry-pass2 in
     let kept = carried .kept .1 .1 .1 .1 .1 in
     let kept2 = carried2 .kept .1 .1 .1 .1 .1 in
     let enough = enough-later (pre .1) (kept .0) (kept .1 .0) in
-    let fw = carried .ensures .1 .1 .0 (c .before .before .before .before .before .before .before .before .before .before .before .before .enum-told .given .1) in
+    let fw = carried .ensures .1 .1 .0 (c .before .before .before .before .before .before .before .before .before .before .before .before .enum-told
+    .given .1) in
     let bw = carried2 .ensures .1 .1 .0 (c .before .before .before .enum-told2 .given .1) in
-    third-asks (args .g) (args .p) (pre .0 .0) (args .places) (args .keys .now) (args .heads .now) (pre .0 .1) (args .factors .now) _ _ (length (args .marginals .now)) (enough-later enough (kept2 .0) (kept2 .1 .0))
-    (forward-stays (args .g) (args .p) (pre .0 .0) (args .places) (args .keys .now) (args .heads .now) (pre .0 .1) (args .factors .now) _ _ (length (args .marginals .now)) enough _ (carried2 .ensures .1 .0) fw bw) bw
-
-same-length-5 : tie.Need-same-length-5
-same-length-5 c = search needs
-
-same-length-6 : tie.Need-same-length-6
-same-length-6 c = search needs
-
-same-length-7 : tie.Need-same-length-7
-same-length-7 c = search needs
+    third-asks (args .g) (args .p) (pre .0 .0) (args .places) (args .keys .now) (args .heads .now) (pre .0 .1) (args .factors .now) _ _
+    (length (args .marginals .now)) (enough-later enough (kept2 .0) (kept2 .1 .0))
+    (forward-stays (args .g) (args .p) (pre .0 .0) (args .places) (args .keys .now) (args .heads .now) (pre .0 .1) (args .factors .now) _ _
+    (length (args .marginals .now)) enough _ (carried2 .ensures .1 .0) fw bw) bw
 
 returns-3 : tie.Need-returns-3
 unfolding planOf
 returns-3 c =
-    let args = c .before .before .before .before .before .before .before .before .before .before .before .before .before .before .before .before .before .before .before .before .before .before .before .before .before .before .before .before .before .before .before .before .before .before .before .args in
-    let pre = c .before .before .before .before .before .before .before .before .before .before .before .before .before .before .before .before .before .before .before .before .before .before .before .before .before .before .before .before .before .before .before .before .before .before .before .pre in
-    let carried = c .before .before .before .before .before .before .before .before .before .before .before .before .before .before .before .before .before .before .before .before .before .before .before .carry-pass in
+    let entry = c .before .before .before .before .before .before .before .before .before .before .before .before .before .before .before .before
+    .before .before .before .before .before .before .before .before .before .before .before .before .before .before .before .before .before .before .before in
+    let args = entry .args in
+    let pre = entry .pre in
+    let carried = c .before .before .before .before .before .before .before .before .before .before .before .before .before .before .before .before
+    .before .before .before .before .before .before .before .carry-pass in
     let carried2 = c .before .before .before .before .before .before .before .before .before .before .before .before .before .before .carry-pass2 in
     let kept = carried .kept .1 .1 .1 .1 .1 in
     let kept2 = carried2 .kept .1 .1 .1 .1 .1 in
     let enough = enough-later (pre .1) (kept .0) (kept .1 .0) in
-    let through = c .before .before .before .before .before .before .before .before .before .before .before .before .before .before .before .before .before .enum-told .given .1 in
+    let through = c .before .before .before .before .before .before .before .before .before .before .before .before .before .before .before .before
+    .before .enum-told .given .1 in
     let through2 = c .before .before .before .before .before .before .before .before .enum-told2 .given .1 in
     let fw = carried .ensures .1 .1 .0 through in
     let bw = carried2 .ensures .1 .1 .0 through2 in
-    let ends = forward-ends (args .g) (args .p) (pre .0 .0) (args .places) (args .keys .now) (args .heads .now) (pre .0 .1) (args .factors .now) (args .messages .now) _ _ (pre .1) _ fw in
-    third-told (args .g) (planOf (args .g .variables) (args .p)) (args .places .figure) (args .factors .now) (args .messages .now) (args .marginals .now) (args .places .half) _ _ _ _ (carried .ensures .0) (carried2 .ensures .0) through
+    let ends = forward-ends (args .g) (args .p) (pre .0 .0) (args .places) (args .keys .now) (args .heads .now) (pre .0 .1) (args .factors .now)
+    (args .messages .now) _ _ (pre .1) _ fw in
+    third-told (args .g) (planOf (args .g .variables) (args .p)) (args .places .figure) (args .factors .now) (args .messages .now)
+    (args .marginals .now) (args .places .half) _ _ _ _ (carried .ensures .0) (carried2 .ensures .0) through
     (carried .ensures .1 .0) (carried2 .ensures .1 .0) ends _ _ through2
     (c .before .before .before .before .third-stage .ensures _
-    (gatherable (args .g) (args .p) (pre .0 .0) (args .places) (args .keys .now) (args .heads .now) (pre .0 .1) (args .factors .now) _ _ (length (args .marginals .now)) (enough-later enough (kept2 .0) (kept2 .1 .0))
-    (forward-stays (args .g) (args .p) (pre .0 .0) (args .places) (args .keys .now) (args .heads .now) (pre .0 .1) (args .factors .now) _ _ (length (args .marginals .now)) enough _ (carried2 .ensures .1 .0) fw bw) bw))
+    (gatherable (args .g) (args .p) (pre .0 .0) (args .places) (args .keys .now) (args .heads .now) (pre .0 .1) (args .factors .now) _ _
+    (length (args .marginals .now)) (enough-later enough (kept2 .0) (kept2 .1 .0))
+    (forward-stays (args .g) (args .p) (pre .0 .0) (args .places) (args .keys .now) (args .heads .now) (pre .0 .1) (args .factors .now) _ _
+    (length (args .marginals .now)) enough _ (carried2 .ensures .1 .0) fw bw) bw))
 
 pub carry-out-spec : {M : Type 1} → statement M
 carry-out-spec =
-    tie.close
-    (tie.spec
-    carry-pass-requires
-    enum-told
-    enum-known-j
+    tie.close (tie.spec carry-pass-requires
+    (λ c. search needs)  -- enum-told
+    (λ c. search needs)  -- enum-known-j
     step-of-requires
-    refused-requires
-    same-length
-    same-length-2
-    returns
-    carry-pass-requires-2
-    enum-told-2
-    enum-known-j-2
-    sub-refused
-    step-of-requires-2
-    sub-refused-2
-    refused-requires-2
-    same-length-3
-    same-length-4
-    returns-2
-    third-stage-requires
-    same-length-5
-    same-length-6
-    same-length-7
+    (λ c κs. search needs)  -- refused-requires
+    (λ c. search needs)  -- same-length
+    (λ c. search needs)  -- same-length-2
+    returns carry-pass-requires-2
+    (λ c. search needs)  -- enum-told-2
+    (λ c. search needs)  -- enum-known-j-2
+    sub-refused step-of-requires-2 sub-refused-2
+    (λ c κs. search needs)  -- refused-requires-2
+    (λ c. search needs)  -- same-length-3
+    (λ c. search needs)  -- same-length-4
+    returns-2 third-stage-requires
+    (λ c. search needs)  -- same-length-5
+    (λ c. search needs)  -- same-length-6
+    (λ c. search needs)  -- same-length-7
     returns-3)

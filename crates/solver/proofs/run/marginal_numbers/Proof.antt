@@ -15,28 +15,18 @@ Inv-loop sizes sum₀ key₀ sum key = (key ≤ max-variables) × (sum ≡ start
 abbrev μ-loop : tie.MeasureT-loop
 μ-loop sizes sum₀ key₀ sum key = max-variables - key
 
-loop-holds : tie.Need-loop-holds Inv-loop μ-loop
-loop-holds c = (omega arith, no-place _, omega arith)
-
-size-of-requires : tie.Need-size-of-requires Inv-loop μ-loop
-size-of-requires c κs = search needs
-
 mul-sum : tie.Need-mul-sum Inv-loop μ-loop
-mul-sum c = let m = square (c .size-of .result) (c .size-of .ensures .1) in record { fits = omega arith }
+mul-sum c =
+    let m = square (c .size-of .result) (c .size-of .ensures .1) in record { fits = omega arith }
 
 add-sum : tie.Need-add-sum Inv-loop μ-loop
-add-sum c = let m = square (c .size-of .result) (c .size-of .ensures .1) in record { fits = omega (arith, c .size-of .ensures .1) }
+add-sum c =
+    let m = square (c .size-of .result) (c .size-of .ensures .1) in record { fits = omega (arith, c .size-of .ensures .1) }
 
 add-sum-2 : tie.Need-add-sum-2 Inv-loop μ-loop
 add-sum-2 c =
     let m = square (c .size-of .result) (c .size-of .ensures .1) in
     record { fits = omega (arith, c .size-of .ensures .1, c .before .before .loop .inv .2) }
-
-add-key : tie.Need-add-key Inv-loop μ-loop
-add-key c = search needs
-
-loop-less : tie.Need-loop-less Inv-loop μ-loop
-loop-less c = search needs
 
 loop-again : tie.Need-loop-again Inv-loop μ-loop
 loop-again c =
@@ -47,20 +37,15 @@ loop-again c =
 returns : tie.Need-returns Inv-loop μ-loop
 returns c =
     let e : c .before .loop .key ≡ max-variables = omega arith in
-    numbers-told (c .before .before .before .args .g) (c .before .before .before .pre) (c .before .loop .sum) (c .before .loop .key) (c .before .loop .inv .1) e
+    let loop = c .before .loop in
+    numbers-told (c .before .before .before .args .g) (c .before .before .before .pre) (loop .sum) (loop .key) (loop .inv .1) e
 
 pub marginal-numbers-spec : {M : Type 1} → statement M
 marginal-numbers-spec =
-    tie.close
-    (tie.spec
-    Inv-loop
-    μ-loop
-    loop-holds
-    size-of-requires
-    mul-sum
-    add-sum
-    add-sum-2
-    add-key
-    loop-less
-    loop-again
-    returns)
+    tie.close (tie.spec Inv-loop μ-loop
+    (λ c. (omega arith, no-place _, omega arith))  -- loop-holds
+    (λ c κs. search needs)  -- size-of-requires
+    mul-sum add-sum add-sum-2
+    (λ c. search needs)  -- add-key
+    (λ c. search needs)  -- loop-less
+    loop-again returns)

@@ -9,30 +9,13 @@ use borrow.Author.Needs.{needs}
 use Rattle.solver.proofs.run.run.Statement.{statement}
 use Rattle.solver.proofs.run.run.Tie as tie
 
-arrange-requires : tie.Need-arrange-requires
-arrange-requires c κs = search needs
-
-enum-known-outcome : tie.Need-enum-known-outcome
-enum-known-outcome c = search needs
-
-refused-requires : tie.Need-refused-requires
-refused-requires c κs = search needs
-
 returns : tie.Need-returns
 returns c =
     let args = c .before .before .before .before .before .before .before .before .before .args in
     run-tells _ _ _ _
     (rw (c .refused .ensures)
-    (run-refused (args .g) (args .factors .now) (args .messages .now) (args .marginals .now) (length (args .work .now)) _ (refused-why _ (args .g) _ (c .before .before .before .before .arrange .ensures .0) (c .before .before .outcome .given .1))))
-
-enum-told : tie.Need-enum-told
-enum-told c = search needs
-
-slice-aggregate-place-plan : tie.Need-slice-aggregate-place-plan
-slice-aggregate-place-plan c = search needs
-
-slice-aggregate-place-plan-2 : tie.Need-slice-aggregate-place-plan-2
-slice-aggregate-place-plan-2 c = search needs
+    (run-refused (args .g) (args .factors .now) (args .messages .now) (args .marginals .now) (length (args .work .now)) _
+    (refused-why _ (args .g) _ (c .before .before .before .before .arrange .ensures .0) (c .before .before .outcome .given .1))))
 
 place-plan-requires : tie.Need-place-plan-requires
 place-plan-requires c κs =
@@ -44,82 +27,76 @@ check-stores-requires : tie.Need-check-stores-requires
 check-stores-requires c κs =
     let g = c .before .before .before .before .before .before .before .before .before .before .before .before .before .args .g in
     let made = c .before .before .before .before .before .before .before .before .arrange in
-    made-planned (made .result) g (made .ensures .0) (made .ensures .1 .1) (c .before .before .before .before .before .before .enum-told .given .1) .runnable .forward .sound
-
-enum-told-2 : tie.Need-enum-told-2
-enum-told-2 c = search needs
-
-enum-known-why : tie.Need-enum-known-why
-enum-known-why c = search needs
-
-refused-requires-2 : tie.Need-refused-requires-2
-refused-requires-2 c κs = search needs
+    made-planned (made .result) g (made .ensures .0) (made .ensures .1 .1)
+    (c .before .before .before .before .before .before .enum-told .given .1) .runnable .forward .sound
 
 returns-2 : tie.Need-returns-2
 returns-2 c =
-    let args = c .before .before .before .before .before .before .before .before .before .before .before .before .before .before .before .before .before .before .args in
+    let args = c .before .before .before .before .before .before .before .before .before .before .before .before .before .before .before .before
+    .before .before .args in
     let made = c .before .before .before .before .before .before .before .before .before .before .before .before .before .arrange in
-    let pl = made-planned (made .result) (args .g) (made .ensures .0) (made .ensures .1 .1) (c .before .before .before .before .before .before .before .before .before .before .before .enum-told .given .1) in
+    let pl = made-planned (made .result) (args .g) (made .ensures .0) (made .ensures .1 .1)
+    (c .before .before .before .before .before .before .before .before .before .before .before .enum-told .given .1) in
     run-tells _ _ _ _
     (rw (c .refused2 .ensures)
-    (run-made (args .g) (made .result .plan) _ _ _ (args .factors .now) (args .messages .now) (args .marginals .now) (length (args .work .now)) pl (c .before .before .before .before .before .before .before .place-plan .ensures) _
-    (short-checked (args .g) (planOf (args .g .variables) (made .result .plan)) _ (args .factors .now) (args .messages .now) (args .marginals .now) (length (args .work .now)) _ (sym (c .before .before .before .before .check-stores .ensures) ∙ c .before .before .why .given .1))))
-
-slice-aggregate-carry-out : tie.Need-slice-aggregate-carry-out
-slice-aggregate-carry-out c = search needs
-
-slice-aggregate-carry-out-2 : tie.Need-slice-aggregate-carry-out-2
-slice-aggregate-carry-out-2 c = search needs
+    (run-made (args .g) (made .result .plan) _ _ _ (args .factors .now) (args .messages .now) (args .marginals .now) (length (args .work .now)) pl
+    (c .before .before .before .before .before .before .before .place-plan .ensures) _
+    (short-checked (args .g) (planOf (args .g .variables) (made .result .plan)) _ (args .factors .now) (args .messages .now) (args .marginals .now)
+    (length (args .work .now)) _ (sym (c .before .before .before .before .check-stores .ensures) ∙ c .before .before .why .given .1))))
 
 carry-out-requires : tie.Need-carry-out-requires
 carry-out-requires c κs =
-    let args = c .before .before .before .before .before .before .before .before .before .before .before .before .before .before .before .before .before .before .before .before .before .args in
+    let args = c .before .before .before .before .before .before .before .before .before .before .before .before .before .before .before .before
+    .before .before .before .before .before .args in
     let made = c .before .before .before .before .before .before .before .before .before .before .before .before .before .before .before .before .arrange in (
-      (as-held (args .g) _ _ (made-planned (made .result) (args .g) (made .ensures .0) (made .ensures .1 .1) (c .before .before .before .before .before .before .before .before .before .before .before .before .before .before .enum-told .given .1)), c .before .before .before .before .before .before .before .before .before .before .place-plan .ensures),
-      enough-told (args .g) _ _ _ _ _ (sym (c .before .before .before .before .before .before .before .check-stores .ensures) ∙ c .before .before .before .before .before .enum-told2 .given .1),
+      (
+        as-held (args .g) _ _ (made-planned (made .result) (args .g) (made .ensures .0) (made .ensures .1 .1)
+            (c .before .before .before .before .before .before .before .before .before .before .before .before .before .before .enum-told .given .1)),
+        c .before .before .before .before .before .before .before .before .before .before .place-plan .ensures,
+      ),
+      enough-told (args .g) _ _ _ _ _ (sym (c .before .before .before .before .before .before .before .check-stores .ensures)
+          ∙ c .before .before .before .before .before .enum-told2 .given .1),
     )
-
-same-length : tie.Need-same-length
-same-length c = search needs
-
-same-length-2 : tie.Need-same-length-2
-same-length-2 c = search needs
-
-same-length-3 : tie.Need-same-length-3
-same-length-3 c = search needs
 
 returns-3 : tie.Need-returns-3
 returns-3 c =
-    let args = c .before .before .before .before .before .before .before .before .before .before .before .before .before .before .before .before .before .before .before .before .before .before .before .before .before .before .before .before .args in
-    let made = c .before .before .before .before .before .before .before .before .before .before .before .before .before .before .before .before .before .before .before .before .before .before .before .arrange in
-    let pl = made-planned (made .result) (args .g) (made .ensures .0) (made .ensures .1 .1) (c .before .before .before .before .before .before .before .before .before .before .before .before .before .before .before .before .before .before .before .before .before .enum-told .given .1) in
+    let args = c .before .before .before .before .before .before .before .before .before .before .before .before .before .before .before .before
+    .before .before .before .before .before .before .before .before .before .before .before .before .args in
+    let made = c .before .before .before .before .before .before .before .before .before .before .before .before .before .before .before .before
+    .before .before .before .before .before .before .before .arrange in
+    let pl = made-planned (made .result) (args .g) (made .ensures .0) (made .ensures .1 .1)
+    (c .before .before .before .before .before .before .before .before .before .before .before .before .before .before .before .before .before
+    .before .before .before .before .enum-told .given .1) in
     run-tells _ _ _ _
-    (run-made (args .g) (made .result .plan) _ _ _ (args .factors .now) (args .messages .now) (args .marginals .now) (length (args .work .now)) pl (c .before .before .before .before .before .before .before .before .before .before .before .before .before .before .before .before .before .place-plan .ensures) _
+    (run-made (args .g) (made .result .plan) _ _ _ (args .factors .now) (args .messages .now) (args .marginals .now) (length (args .work .now)) pl
+    (c .before .before .before .before .before .before .before .before .before .before .before .before .before .before .before .before .before
+    .place-plan .ensures) _
     (c .before .before .before .before .before .before .carry-out .ensures
-    ∙ enough-checked (args .g) (planOf (args .g .variables) (made .result .plan)) _ (args .factors .now) (args .messages .now) (args .marginals .now) (length (args .work .now))
-    (enough-told (args .g) _ _ _ _ _ (sym (c .before .before .before .before .before .before .before .before .before .before .before .before .before .before .check-stores .ensures) ∙ c .before .before .before .before .before .before .before .before .before .before .before .before .enum-told2 .given .1))))
+    ∙ enough-checked (args .g) (planOf (args .g .variables) (made .result .plan)) _ (args .factors .now) (args .messages .now) (args .marginals .now)
+    (length (args .work .now))
+    (enough-told (args .g) _ _ _ _ _ (sym (c .before .before .before .before .before .before .before .before .before .before .before .before .before
+    .before .check-stores .ensures) ∙ c .before .before .before .before .before .before .before .before .before .before .before .before .enum-told2
+    .given .1))))
 
 pub run-spec : {M : Type 1} → statement M
 run-spec =
-    tie.close
-    (tie.spec
-    arrange-requires
-    enum-known-outcome
-    refused-requires
+    tie.close (tie.spec
+    (λ c κs. search needs)  -- arrange-requires
+    (λ c. search needs)  -- enum-known-outcome
+    (λ c κs. search needs)  -- refused-requires
     returns
-    enum-told
-    slice-aggregate-place-plan
-    slice-aggregate-place-plan-2
-    place-plan-requires
-    check-stores-requires
-    enum-told-2
-    enum-known-why
-    refused-requires-2
+    (λ c. search needs)  -- enum-told
+    (λ c. search needs)  -- slice-aggregate-place-plan
+    (λ c. search needs)  -- slice-aggregate-place-plan-2
+    place-plan-requires check-stores-requires
+    (λ c. search needs)  -- enum-told-2
+    (λ c. search needs)  -- enum-known-why
+    (λ c κs. search needs)  -- refused-requires-2
     returns-2
-    slice-aggregate-carry-out
-    slice-aggregate-carry-out-2
+    (λ c. search needs)  -- slice-aggregate-carry-out
+    (λ c. search needs)  -- slice-aggregate-carry-out-2
     carry-out-requires
-    same-length
-    same-length-2
-    same-length-3
+    (λ c. search needs)  -- same-length
+    (λ c. search needs)  -- same-length-2
+    (λ c. search needs)  -- same-length-3
     returns-3)

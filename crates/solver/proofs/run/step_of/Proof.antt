@@ -4,14 +4,8 @@ use borrow.Author.Needs.{needs}
 use Rattle.solver.proofs.run.step_of.Statement.{statement}
 use Rattle.solver.proofs.run.step_of.Tie as tie
 
-element-copy-out-result : tie.Need-element-copy-out-result
-element-copy-out-result c = search needs
-
-cast-result : tie.Need-cast-result
-cast-result c = search needs
-
-returns : tie.Need-returns
-returns c = step-told (c .before .args .t1) (c .before .args .j) (c .before .pre .1)
-
 pub step-of-spec : {M : Type 1} → statement M
-step-of-spec = tie.close (tie.spec element-copy-out-result cast-result returns)
+step-of-spec = tie.close (tie.spec
+    (λ c. search needs)  -- element-copy-out-result
+    (λ c. search needs)  -- cast-result
+    (λ c. step-told (c .before .args .t1) (c .before .args .j) (c .before .pre .1)))  -- returns

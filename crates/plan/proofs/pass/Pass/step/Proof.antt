@@ -8,24 +8,17 @@ use native.Mathlib.Omega.{arith}
 use Rattle.plan.proofs.pass.Pass.step.Statement.{statement}
 use Rattle.plan.proofs.pass.Pass.step.Tie as tie
 
-single-requires : tie.Need-single-requires
-single-requires c κs = search needs
-
-coupled-requires : tie.Need-coupled-requires
-coupled-requires c κs = search needs
-
 returns : tie.Need-returns
 returns c =
-    let args = c .before .before .before .before .before .before .before .before .args in
+    let entry = c .before .before .before .before .before .before .before .before in
+    let args = entry .args in
     let single = c .before .before .before .before .before .before .before .single in
     let coupled = c .before .coupled in
-    let pre = c .before .before .before .before .before .before .before .before .pre in (
-      ready-later (args .t) (args .t + 1) (args .t1) (left (args .t1) (args .k) (args .t) (single .result) (coupled .result) (single .ensures)) (omega arith) (pre .0),
+    let pre = entry .pre in (
+      ready-later (args .t) (args .t + 1) (args .t1) (left (args .t1) (args .k) (args .t) (single .result) (coupled .result) (single .ensures))
+          (omega arith) (pre .0),
       λ n K st kn m. silent (args .t1) (args .k) (args .t) (single .result) (coupled .result) (single .ensures) (coupled .ensures) n K st kn m (c .if1 .taken),
     )
-
-send-requires : tie.Need-send-requires
-send-requires c κs = search needs
 
 returns-2 : tie.Need-returns-2
 returns-2 c =
@@ -39,4 +32,9 @@ returns-2 c =
     )
 
 pub step-spec : {M : Type 1} → statement M
-step-spec = tie.close (tie.spec single-requires coupled-requires returns send-requires returns-2)
+step-spec = tie.close (tie.spec
+    (λ c κs. search needs)  -- single-requires
+    (λ c κs. search needs)  -- coupled-requires
+    returns
+    (λ c κs. search needs)  -- send-requires
+    returns-2)
