@@ -157,7 +157,7 @@ pub fn forged(label: &[u8], g: Graph) {
     observation(label, g, &[], 1, &[], &one, &one, 32);
 }
 
-// `forged` for a graph whose first factor is f, which no call would make.
+// `forged` for a graph whose first factor is replaced by f.
 pub fn with_factor(label: &[u8], g: Graph, f: Factor) {
     let mut bad = g;
     bad.factors[0] = f;
