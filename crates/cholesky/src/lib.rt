@@ -100,7 +100,7 @@ pub fn solve_lower(l: &[f64], lv: View, n: usize, x: &mut [f64], xv: View, c: us
     }
 }
 
-// The same where the factor stands in the slice of x, apart from column c.
+// `solve_lower` where L stands in the slice of x too, apart from column c.
 pub fn solve_lower_in(x: &mut [f64], lv: View, n: usize, xv: View, c: usize)
     requires { ⌜ Inside lv n n (length (now x)) ⌝ }
     requires { ⌜ ((i : ℕ) → i < n → place xv i c < length (now x)) ⌝ }

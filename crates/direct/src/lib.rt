@@ -178,7 +178,10 @@ fn message_numbers(
 ) -> usize
     requires { ⌜ Listed (now kept) sizes × Listed (now cleared) sizes ⌝ }
     requires { ⌜ Counted (now keys) (now heads) (now slots) ⌝ }
-    ensures { λ r. ⌜ r ≡ numbersOf (messageRows (rowsByAll (layoutOf (now (kept .entry)) (now (cleared .entry)) sizes) (now (keys .entry)) (now (heads .entry)) (now (slots .entry)) (length (now (slots .entry)))) (dimOf sizes (now (kept .entry)))) (dimOf sizes (now (kept .entry))) ⌝ }
+    ensures { λ r. ⌜ r ≡ numbersOf
+        (messageRows (rowsByAll (layoutOf (now (kept .entry)) (now (cleared .entry)) sizes) (now (keys .entry)) (now (heads .entry))
+        (now (slots .entry)) (length (now (slots .entry)))) (dimOf sizes (now (kept .entry))))
+        (dimOf sizes (now (kept .entry))) ⌝ }
 {
     let layout = layout_of(kept, cleared, sizes);
     let d = dim_of(kept, sizes);
@@ -201,8 +204,11 @@ fn eliminate_from(
 ) -> Direct
     requires { ⌜ Admitted g (now slots) (now kept) (now cleared) (now factors) ⌝ }
     requires { ⌜ Originals g (now keys) (now heads) ⌝ }
-    ensures { λ r. ⌜ r ≡ spec.answerOf (spec.verdict g (now (slots .entry)) (now (kept .entry)) (now (cleared .entry)) (now (factors .entry)) (length (now (messages .entry))) (length (now (work .entry)))) ⌝ }
-    ensures { λ _. ⌜ now (messages .exit) ≡ spec.storeOf (now (messages .entry)) (spec.verdict g (now (slots .entry)) (now (kept .entry)) (now (cleared .entry)) (now (factors .entry)) (length (now (messages .entry))) (length (now (work .entry)))) ⌝ }
+    ensures { λ r. ⌜ r ≡ spec.answerOf (spec.verdict g (now (slots .entry)) (now (kept .entry)) (now (cleared .entry)) (now (factors .entry))
+        (length (now (messages .entry))) (length (now (work .entry)))) ⌝ }
+    ensures { λ _. ⌜ now (messages .exit) ≡ spec.storeOf (now (messages .entry))
+        (spec.verdict g (now (slots .entry)) (now (kept .entry)) (now (cleared .entry)) (now (factors .entry))
+        (length (now (messages .entry))) (length (now (work .entry)))) ⌝ }
 {
     let sizes = g.sizes;
     if messages.len() < message_numbers(kept, cleared, sizes, keys, heads, slots) {
@@ -229,7 +235,9 @@ fn eliminate_from(
     }
 }
 
-// The cleared keys go out of the listed factors of a graph, in the order of the list, and a message over the kept keys stays at the start of the message store. The answer is its rows; refused, the message store is as it was. The work store has 2304 numbers or more, and may hold anything after.
+// Eliminates the cleared keys from the listed factors of a graph, taken in the order of the list. The message over the kept keys is written at
+// the start of the message store, and the answer is how many rows it has; a refused call leaves the message store as it was. The work
+// store needs `WORK` numbers or more, and may hold anything afterwards.
 pub fn eliminate(
     g: Graph,
     slots: &[usize],
@@ -239,9 +247,13 @@ pub fn eliminate(
     messages: &mut [f64],
     work: &mut [f64],
 ) -> Direct
-    ensures { λ r. ⌜ r ≡ spec.answerOf (spec.verdict g (now (slots .entry)) (now (kept .entry)) (now (cleared .entry)) (now (factors .entry)) (length (now (messages .entry))) (length (now (work .entry)))) ⌝ }
-    ensures { λ _. ⌜ now (messages .exit) ≡ spec.storeOf (now (messages .entry)) (spec.verdict g (now (slots .entry)) (now (kept .entry)) (now (cleared .entry)) (now (factors .entry)) (length (now (messages .entry))) (length (now (work .entry)))) ⌝ }
-    ensures { λ r. ⌜ directTold r ≡ verdictTold (spec.verdict g (now (slots .entry)) (now (kept .entry)) (now (cleared .entry)) (now (factors .entry)) (length (now (messages .entry))) (length (now (work .entry)))) ⌝ }
+    ensures { λ r. ⌜ r ≡ spec.answerOf (spec.verdict g (now (slots .entry)) (now (kept .entry)) (now (cleared .entry)) (now (factors .entry))
+        (length (now (messages .entry))) (length (now (work .entry)))) ⌝ }
+    ensures { λ _. ⌜ now (messages .exit) ≡ spec.storeOf (now (messages .entry))
+        (spec.verdict g (now (slots .entry)) (now (kept .entry)) (now (cleared .entry)) (now (factors .entry))
+        (length (now (messages .entry))) (length (now (work .entry)))) ⌝ }
+    ensures { λ r. ⌜ directTold r ≡ verdictTold (spec.verdict g (now (slots .entry)) (now (kept .entry)) (now (cleared .entry)) (now (factors .entry))
+        (length (now (messages .entry))) (length (now (work .entry)))) ⌝ }
 {
     match check(g, slots, kept, cleared, factors) {
         Checked::Passed => {}

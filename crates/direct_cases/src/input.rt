@@ -9,6 +9,7 @@ fn wide(x: u8) -> usize
     x as usize
 }
 
+// The next byte, as a number.
 pub fn byte() -> usize
     ensures { λ r. ⌜ r < 256 ⌝ }
 {
@@ -26,6 +27,7 @@ pub fn two() -> usize
     low + 256 * high
 }
 
+// x, or `most` where x is above it: what a case asks for is cut to the room that there is.
 pub fn at_most(x: usize, most: usize) -> usize
     ensures { λ r. ⌜ r ≤ most ⌝ }
 {

@@ -6,6 +6,7 @@ use solver::run::Ended;
 use solver::run::Ran;
 ghost use Prim.Native.Nat.{_≤_};
 
+// A line: the rows of the message, or the refusal's number.
 pub fn print_direct(answer: Direct) {
     match answer {
         Direct::Rows(rows) => {

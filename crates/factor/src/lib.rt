@@ -317,7 +317,7 @@ fn store_by(
     Exchanged::Done
 }
 
-// The same with working slices of its own.
+// `store_by` with working arrays of its own (docs/PROOFS.md, 'Adapters').
 pub fn store_factor(
     store: &mut [f64],
     at: usize,

@@ -8,7 +8,7 @@ ghost use Rattle.firmware.specs.Firmware as spec;
 // The answer where the buffer is too short. No text has that length.
 const SHORT: usize = 0xFFFFFFFFFFFFFFFF;
 
-// How many bytes of out hold the text of the job, or that out is too short, in which case it is left as it was.
+// Writes the text of a job's answer at the start of out and answers its length; where out is too short, answers SHORT and leaves out as it was.
 #[no_mangle]
 pub extern "C" fn strips_solve(bytes: &[u8], out: &mut [u8]) -> usize
     ensures { λ r. ⌜ r ≡ spec.answerOf (written (now (out .entry)) (jobText (now (bytes .entry)))) ⌝ }

@@ -17,12 +17,14 @@ pub fn scalar(letter: u32) -> bool
     0xE000 <= letter && letter < 0x110000
 }
 
+// The size of a variable is at least 1 and within its limit.
 pub fn size_fits(size: usize) -> bool
     ensures { λ r. ⌜ r ≡ spec.sizeFits size ⌝ }
 {
     1 <= size && size <= SIZE
 }
 
+// Two names with the same letter and the same index.
 pub fn same(a: Symbol, b: Symbol) -> bool
     ensures { λ r. ⌜ r ≡ spec.same a b ⌝ }
 {

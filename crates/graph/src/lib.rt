@@ -31,7 +31,8 @@ ghost use Rattle.graph.specs.Told.{outcomeTold, verdictTold};
 // The name of a variable: a letter and an index.
 pub struct Symbol(pub u32, pub u32);
 
-// The variables in order of registration, which is their key, and the factors. Unused places hold zeros, and nothing is kept that can be worked out: equal graphs are equal records.
+// The variables, each at its key, which is its place in the order of registration; and the factors. Unused places hold zeros, and
+// nothing is kept that can be worked out, so equal graphs are equal records.
 pub struct Graph {
     pub symbols: [Symbol; VARIABLES],
     pub sizes: [u8; VARIABLES],
@@ -77,7 +78,10 @@ fn variable_place(
     used: bool,
 ) -> bool
     requires { ⌜ n ≤ max-variables ⌝ }
-    ensures { λ r. ⌜ r ≡ cond used (every (spec.scalar (name .0) ∷ spec.sizeFits size ∷ all (λ j. not (spec.same (getD (now (letters .entry)) j 0, getD (now (indices .entry)) j 0) name)) n ∷ [])) (every (spec.same name spec.noName ∷ eqb size 0 ∷ [])) ⌝ }
+    ensures { λ r. ⌜ r ≡ cond used
+        (every (spec.scalar (name .0) ∷ spec.sizeFits size
+        ∷ all (λ j. not (spec.same (getD (now (letters .entry)) j 0, getD (now (indices .entry)) j 0) name)) n ∷ []))
+        (every (spec.same name spec.noName ∷ eqb size 0 ∷ [])) ⌝ }
 {
     if !used {
         return same(name, Symbol(0, 0)) && size == 0;
@@ -213,7 +217,7 @@ impl Graph {
         sum
     }
 
-    // The graph as it came, and why.
+    // Refuses: the graph unchanged, with the reason.
     fn refused(self, why: Refusal) -> Added
         ensures { λ r. ⌜ r ≡ calls.refused self why ⌝ }
     {
@@ -264,7 +268,7 @@ impl Graph {
         self.enter_variable(name, size)
     }
 
-    // A factor gets the next number, and its numbers follow the last one's. The checks from the lengths on are those of priors and observations alike.
+    // A factor gets the next number, and its numbers follow the last one's. Priors and observations share the checks from the lengths on.
     fn add_factor(
         mut self,
         f: Factor,
@@ -274,8 +278,10 @@ impl Graph {
         store: &mut [f64],
     ) -> Added
         requires { ⌜ (spec.valid self ≡ true) × (fits (self .sizes) (self .variables) f ≡ true) ⌝ }
-        ensures { λ r. ⌜ r ≡ calls.settle self f (calls.factorVerdict self f (now (a .entry)) (now (mean .entry)) (now (variance .entry)) (now (store .entry))) ⌝ }
-        ensures { λ _. ⌜ now (store .exit) ≡ calls.stored self (now (store .entry)) (calls.factorVerdict self f (now (a .entry)) (now (mean .entry)) (now (variance .entry)) (now (store .entry))) ⌝ }
+        ensures { λ r. ⌜ r ≡
+            calls.settle self f (calls.factorVerdict self f (now (a .entry)) (now (mean .entry)) (now (variance .entry)) (now (store .entry))) ⌝ }
+        ensures { λ _. ⌜ now (store .exit) ≡ calls.stored self (now (store .entry))
+            (calls.factorVerdict self f (now (a .entry)) (now (mean .entry)) (now (variance .entry)) (now (store .entry))) ⌝ }
     {
         let sizes = self.sizes;
         if !f.lengths_fit(sizes, a.len(), mean.len(), variance.len()) {
@@ -305,7 +311,7 @@ impl Graph {
         }
     }
 
-    // A prior on a key, in a record known to be valid.
+    // A prior on a key, in a record known to be valid: `add_prior` without its test.
     pub fn enter_prior(
         mut self,
         key: usize,
@@ -335,7 +341,8 @@ impl Graph {
     ) -> Added
         ensures { λ r. ⌜ r ≡ calls.addPrior self key (now (mean .entry)) (now (variance .entry)) (now (store .entry)) ⌝ }
         ensures { λ _. ⌜ now (store .exit) ≡ calls.priorStore self key (now (mean .entry)) (now (variance .entry)) (now (store .entry)) ⌝ }
-        ensures { λ r. ⌜ outcomeTold (r .outcome) ≡ verdictTold self (calls.priorVerdict self key (now (mean .entry)) (now (variance .entry)) (now (store .entry))) ⌝ }
+        ensures { λ r. ⌜ outcomeTold (r .outcome) ≡
+            verdictTold self (calls.priorVerdict self key (now (mean .entry)) (now (variance .entry)) (now (store .entry))) ⌝ }
     {
         if !self.valid() {
             return self.refused(Refusal::NoSuchGraph);
@@ -343,7 +350,7 @@ impl Graph {
         self.enter_prior(key, mean, variance, store)
     }
 
-    // An observation of keys, in a record known to be valid.
+    // An observation of keys, in a record known to be valid: `add_observation` without its test.
     pub fn enter_observation(
         mut self,
         keys: &[usize],
@@ -354,8 +361,10 @@ impl Graph {
         store: &mut [f64],
     ) -> Added
         requires { ⌜ spec.valid self ≡ true ⌝ }
-        ensures { λ r. ⌜ r ≡ calls.addObservation self (now (keys .entry)) rows (now (a .entry)) (now (mean .entry)) (now (variance .entry)) (now (store .entry)) ⌝ }
-        ensures { λ _. ⌜ now (store .exit) ≡ calls.observationStore self (now (keys .entry)) rows (now (a .entry)) (now (mean .entry)) (now (variance .entry)) (now (store .entry)) ⌝ }
+        ensures { λ r. ⌜ r ≡
+            calls.addObservation self (now (keys .entry)) rows (now (a .entry)) (now (mean .entry)) (now (variance .entry)) (now (store .entry)) ⌝ }
+        ensures { λ _. ⌜ now (store .exit) ≡
+            calls.observationStore self (now (keys .entry)) rows (now (a .entry)) (now (mean .entry)) (now (variance .entry)) (now (store .entry)) ⌝ }
     {
         if !counts_fit(keys.len(), rows) {
             return self.refused(Refusal::CountOutside);
@@ -380,9 +389,12 @@ impl Graph {
         variance: &[f64],
         store: &mut [f64],
     ) -> Added
-        ensures { λ r. ⌜ r ≡ calls.addObservation self (now (keys .entry)) rows (now (a .entry)) (now (mean .entry)) (now (variance .entry)) (now (store .entry)) ⌝ }
-        ensures { λ _. ⌜ now (store .exit) ≡ calls.observationStore self (now (keys .entry)) rows (now (a .entry)) (now (mean .entry)) (now (variance .entry)) (now (store .entry)) ⌝ }
-        ensures { λ r. ⌜ outcomeTold (r .outcome) ≡ verdictTold self (calls.observationVerdict self (now (keys .entry)) rows (now (a .entry)) (now (mean .entry)) (now (variance .entry)) (now (store .entry))) ⌝ }
+        ensures { λ r. ⌜ r ≡
+            calls.addObservation self (now (keys .entry)) rows (now (a .entry)) (now (mean .entry)) (now (variance .entry)) (now (store .entry)) ⌝ }
+        ensures { λ _. ⌜ now (store .exit) ≡
+            calls.observationStore self (now (keys .entry)) rows (now (a .entry)) (now (mean .entry)) (now (variance .entry)) (now (store .entry)) ⌝ }
+        ensures { λ r. ⌜ outcomeTold (r .outcome) ≡ verdictTold self
+            (calls.observationVerdict self (now (keys .entry)) rows (now (a .entry)) (now (mean .entry)) (now (variance .entry)) (now (store .entry))) ⌝ }
     {
         if !self.valid() {
             return self.refused(Refusal::NoSuchGraph);

@@ -106,13 +106,14 @@ fn line(label: &[u8], g: Graph, added: Added, store: bool) {
     print_state(same_graph(g, next), store);
 }
 
+// Registers a variable, prints a line of what came of it, and hands the graph on.
 pub fn variable(label: &[u8], g: Graph, letter: u32, index: u32, size: usize) -> Graph {
     let added = g.add_variable(Symbol(letter, index), size);
     line(label, g, added, true);
     added.graph
 }
 
-// The call is lent a store of so many numbers.
+// As `variable`, with a prior; the call is lent a store of `room` numbers.
 pub fn prior(
     label: &[u8],
     g: Graph,
@@ -129,6 +130,7 @@ pub fn prior(
     added.graph
 }
 
+// As `variable`, with an observation; the call is lent a store of `room` numbers.
 pub fn observation(
     label: &[u8],
     g: Graph,
@@ -155,6 +157,7 @@ pub fn forged(label: &[u8], g: Graph) {
     observation(label, g, &[], 1, &[], &one, &one, 32);
 }
 
+// `forged` for a graph whose first factor is replaced by f.
 pub fn with_factor(label: &[u8], g: Graph, f: Factor) {
     let mut bad = g;
     bad.factors[0] = f;

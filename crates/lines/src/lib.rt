@@ -113,7 +113,8 @@ fn lines_length(g: Graph) -> usize
 }
 
 fn put_lines(out: &mut [u8], g: Graph, values: &[f64])
-    requires { ⌜ (valid g ≡ true) × (startOf (g .sizes) (g .variables) ≤ length (now values)) × (spec.linesLength g (g .variables) ≤ length (now out)) ⌝ }
+    requires { ⌜ (valid g ≡ true) × (startOf (g .sizes) (g .variables) ≤ length (now values))
+        × (spec.linesLength g (g .variables) ≤ length (now out)) ⌝ }
     ensures { λ _. ⌜ now (out .exit) ≡ lay (now (out .entry)) 0 (spec.linesText g (now (values .entry)) (g .variables)) ⌝ }
 {
     let mut next = 0;

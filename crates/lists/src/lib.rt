@@ -53,7 +53,8 @@ fn raised(s: u8, shift: usize) -> usize
     if n < FACTORS { n } else { n + shift }
 }
 
-// The slots from one place to another follow, with the messages raised by so much.
+// Appends slots[from..to] and answers the place after them. Numbers of messages are raised by `shift`: 0 for the forward pass, `BACKWARD`
+// for the backward one, so that the messages of the two passes have numbers of their own.
 fn put_slots(
     list: &mut [usize],
     at: usize,

@@ -84,6 +84,6 @@ pub record Finds (all : List Found) (numbers : ℕ) (r : Carried) (before after 
   pub count : r ≡ Through → length (marginalsIn all) ≡ numbers
   pub stand : r ≡ Through → after ≡ overlaid before (marginalsIn all)
 
--- so for every plan whose run the tables and the stores are
+-- `Finds` holds for every plan p whose messages stand in these tables and stores
 abbrev pub FindsPlanned : Graph → List arrays.Gathered → List Float → List Float → List ℕ → List ℕ → Carried → List Float → List Float → Type 0
 FindsPlanned g at factors messages keys heads r before after = (p : lists.Plan) → Gatherable g p at factors messages keys heads → Finds (planned g factors p) (marginalNumbers g) r before after

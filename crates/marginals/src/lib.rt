@@ -30,7 +30,8 @@ ghost use Rattle.messages.specs.Asked.{clearedOf, slotsOf, stopOf};
 ghost use Rattle.marginals.specs.Marginals.{twice, missingFrom, marginalsIn};
 ghost use Rattle.marginals.specs.Asked.{lastBy, foundAt, AskedAt, Findable, FindsPlanned};
 
-// Some original stands twice among the first `count`. From the last on, so that what is seen is what follows.
+// Whether an original stands twice among the first `count`. Backwards, because `twice` compares each entry with those after it: `seen` is
+// the set of those.
 fn counted_twice(items: &[u8; FACTORS], count: usize) -> bool
     requires { ⌜ Items count (now items) ⌝ }
     ensures { λ r. ⌜ r ≡ twice (take count (now (items .entry))) ⌝ }
@@ -63,7 +64,7 @@ fn put_marginal(results: &mut [f64], at: usize, m: Marginal)
     copy_in(results, at + s, &covariance[..square]);
 }
 
-// The marginal of a key from the lists of its last elimination.
+// `marginalize` for a `Lists` (docs/PROOFS.md, 'Adapters').
 fn marginal_by<'a>(
     l: Lists,
     key: usize,
@@ -76,7 +77,9 @@ fn marginal_by<'a>(
 ) -> Answer
     requires { ⌜ (l .clears ≤ max-variables) × (l .count ≤ max-slots) × (getD sizes key 0 ≤ max-size) ⌝ }
     requires { ⌜ Asked (key ∷ []) (clearedOf l) sizes (now factors) (now messages) (length (now work)) (now keys) (now heads) (slotsOf l) ⌝ }
-    ensures { λ r. ⌜ r ≡ marginalFrom key (getD sizes key 0) (eliminate (viewsOf (now (factors .entry)) (now (messages .entry)) (now (keys .entry)) (now (heads .entry)) (slotsOf l)) (key ∷ []) (clearedOf l) sizes) ⌝ }
+    ensures { λ r. ⌜ r ≡ marginalFrom key (getD sizes key 0)
+        (eliminate (viewsOf (now (factors .entry)) (now (messages .entry)) (now (keys .entry)) (now (heads .entry)) (slotsOf l))
+        (key ∷ []) (clearedOf l) sizes) ⌝ }
 {
     let cleared = l.cleared;
     let slots = l.slots;
@@ -106,8 +109,10 @@ fn marginal_of<'a>(
     keys: &[usize],
     heads: &[usize],
 ) -> Answer
-    requires { ⌜ Held q × AskedAt sizes (now factors) (now messages) (length (now work)) (now keys) (now heads) key (gatheredOf q) × (getD sizes key 0 ≤ max-size) ⌝ }
-    ensures { λ r. ⌜ r ≡ marginalFrom key (getD sizes key 0) (lastBy sizes (now (factors .entry)) (now (messages .entry)) (now (keys .entry)) (now (heads .entry)) key (gatheredOf q)) ⌝ }
+    requires { ⌜ Held q × AskedAt sizes (now factors) (now messages) (length (now work)) (now keys) (now heads) key (gatheredOf q)
+        × (getD sizes key 0 ≤ max-size) ⌝ }
+    ensures { λ r. ⌜ r ≡ marginalFrom key (getD sizes key 0)
+        (lastBy sizes (now (factors .entry)) (now (messages .entry)) (now (keys .entry)) (now (heads .entry)) key (gatheredOf q)) ⌝ }
 {
     let l = gathered_lists(q, key);
     marginal_by(l, key, sizes, factors, messages, work, keys, heads)
@@ -126,10 +131,13 @@ fn find_marginal<'a>(
     results: &mut [f64],
     to: usize,
 ) -> Carried
-    requires { ⌜ Held q × AskedAt sizes (now factors) (now messages) (length (now work)) (now keys) (now heads) key (gatheredOf q) × (getD sizes key 0 ≤ max-size) ⌝ }
+    requires { ⌜ Held q × AskedAt sizes (now factors) (now messages) (length (now work)) (now keys) (now heads) key (gatheredOf q)
+        × (getD sizes key 0 ≤ max-size) ⌝ }
     requires { ⌜ to + (getD sizes key 0 + getD sizes key 0 * getD sizes key 0) ≤ length (now results) ⌝ }
-    ensures { λ r. ⌜ stopOf r ≡ missingFrom key (foundAt sizes (now (factors .entry)) (now (messages .entry)) (now (keys .entry)) (now (heads .entry)) key (gatheredOf q) ∷ []) ⌝ }
-    ensures { λ _. ⌜ now (results .exit) ≡ lay (now (results .entry)) to (marginalsIn (foundAt sizes (now (factors .entry)) (now (messages .entry)) (now (keys .entry)) (now (heads .entry)) key (gatheredOf q) ∷ [])) ⌝ }
+    ensures { λ r. ⌜ stopOf r ≡ missingFrom key
+        (foundAt sizes (now (factors .entry)) (now (messages .entry)) (now (keys .entry)) (now (heads .entry)) key (gatheredOf q) ∷ []) ⌝ }
+    ensures { λ _. ⌜ now (results .exit) ≡ lay (now (results .entry)) to
+        (marginalsIn (foundAt sizes (now (factors .entry)) (now (messages .entry)) (now (keys .entry)) (now (heads .entry)) key (gatheredOf q) ∷ [])) ⌝ }
 {
     let items = q.items;
     if counted_twice(&items, q.count) {
@@ -161,7 +169,8 @@ pub fn find_marginals<'a>(
     results: &mut [f64],
 ) -> Carried
     requires { ⌜ Findable g at (now factors) (now messages) (length (now work)) (now keys) (now heads) (length (now results)) ⌝ }
-    ensures { λ r. ⌜ FindsPlanned g at (now (factors .entry)) (now (messages .entry)) (now (keys .entry)) (now (heads .entry)) r (now (results .entry)) (now (results .exit)) ⌝ }
+    ensures { λ r. ⌜ FindsPlanned g at (now (factors .entry)) (now (messages .entry)) (now (keys .entry)) (now (heads .entry)) r
+        (now (results .entry)) (now (results .exit)) ⌝ }
 {
     let sizes = g.sizes;
     let n = g.variables;

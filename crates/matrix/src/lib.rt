@@ -35,7 +35,7 @@ pub fn put(s: &mut [f64], v: View, i: usize, j: usize, x: f64)
     s[p] = x;
 }
 
-// The same matrix transposed.
+// The view of the transposed matrix.
 pub fn flip(v: View) -> View
     ensures { λ r. ⌜ r ≡ flip v ⌝ }
 {
@@ -90,6 +90,7 @@ pub enum Update {
     Store,
 }
 
+// What the entry `old` becomes: with the finished sum x added, with it subtracted, or x itself.
 pub fn updated(how: Update, old: f64, x: f64) -> f64
     ensures { λ r. ⌜ r ≡ updated how old x ⌝ }
 {
@@ -112,7 +113,10 @@ pub struct Four {
 fn dots(a: &[f64], av: View, i: usize, b: &[f64], bv: View, j: usize, n: usize) -> Four
     requires { ⌜ (i + 3 < 2 ^ 64) × Inside av (i + 4) n (length (now a)) ⌝ }
     requires { ⌜ ((k : ℕ) → k < n → place bv k j < length (now b)) ⌝ }
-    ensures { λ r. ⌜ (r .s0 ≡ dotOf (now (a .entry)) av i (now (b .entry)) bv j n) × (r .s1 ≡ dotOf (now (a .entry)) av (i + 1) (now (b .entry)) bv j n) × (r .s2 ≡ dotOf (now (a .entry)) av (i + 2) (now (b .entry)) bv j n) × (r .s3 ≡ dotOf (now (a .entry)) av (i + 3) (now (b .entry)) bv j n) ⌝ }
+    ensures { λ r. ⌜ (r .s0 ≡ dotOf (now (a .entry)) av i (now (b .entry)) bv j n)
+        × (r .s1 ≡ dotOf (now (a .entry)) av (i + 1) (now (b .entry)) bv j n)
+        × (r .s2 ≡ dotOf (now (a .entry)) av (i + 2) (now (b .entry)) bv j n)
+        × (r .s3 ≡ dotOf (now (a .entry)) av (i + 3) (now (b .entry)) bv j n) ⌝ }
 {
     let mut s0 = 0.0;
     let mut s1 = 0.0;
@@ -236,7 +240,7 @@ pub fn gemm(
     }
 }
 
-// The same with A(n × m) transposed.
+// `gemm` with A(n × m) transposed: C(m × w) with A'B added, subtracted or stored.
 pub fn gemm_tr(
     c: &mut [f64],
     cv: View,

@@ -32,7 +32,8 @@ fn repeat(
     marginals: &mut [f64],
 )
     requires { ⌜ length (now work) ≡ work-numbers ⌝ }
-    ensures { λ _. ⌜ spec.stores (now (messages .exit)) (now (marginals .exit)) ≡ spec.again g (now (factors .entry)) (spec.stores (now (messages .entry)) (now (marginals .entry))) times ⌝ }
+    ensures { λ _. ⌜ spec.stores (now (messages .exit)) (now (marginals .exit)) ≡
+        spec.again g (now (factors .entry)) (spec.stores (now (messages .entry)) (now (marginals .entry))) times ⌝ }
 {
     for _ in 0..times {
         run(g, factors, messages, work, marginals);
@@ -47,7 +48,8 @@ pub extern "C" fn strips_repeat(
     messages: &mut [f64],
     marginals: &mut [f64],
 )
-    ensures { λ _. ⌜ spec.stores (now (messages .exit)) (now (marginals .exit)) ≡ spec.repeated (spec.readJob (now (bytes .entry))) (spec.stores (now (messages .entry)) (now (marginals .entry))) times ⌝ }
+    ensures { λ _. ⌜ spec.stores (now (messages .exit)) (now (marginals .exit)) ≡
+        spec.repeated (spec.readJob (now (bytes .entry))) (spec.stores (now (messages .entry)) (now (marginals .entry))) times ⌝ }
 {
     let mut factors = [0.0; FACTOR_ROOM];
     let mut work = [0.0; WORK];
@@ -78,8 +80,12 @@ pub extern "C" fn strips_eliminate(
     cleared: &[usize],
     messages: &mut [f64],
 ) -> usize
-    ensures { λ r. ⌜ r ≡ spec.numberIn (answerOf (spec.eliminated (spec.readJob (now (bytes .entry))) (now (slots .entry)) (now (kept .entry)) (now (cleared .entry)) (length (now (messages .entry))))) ⌝ }
-    ensures { λ _. ⌜ now (messages .exit) ≡ storeOf (now (messages .entry)) (spec.eliminated (spec.readJob (now (bytes .entry))) (now (slots .entry)) (now (kept .entry)) (now (cleared .entry)) (length (now (messages .entry)))) ⌝ }
+    ensures { λ r. ⌜ r ≡ spec.numberIn (answerOf
+        (spec.eliminated (spec.readJob (now (bytes .entry))) (now (slots .entry)) (now (kept .entry)) (now (cleared .entry))
+        (length (now (messages .entry))))) ⌝ }
+    ensures { λ _. ⌜ now (messages .exit) ≡ storeOf (now (messages .entry))
+        (spec.eliminated (spec.readJob (now (bytes .entry))) (now (slots .entry)) (now (kept .entry)) (now (cleared .entry))
+        (length (now (messages .entry)))) ⌝ }
 {
     let mut factors = [0.0; FACTOR_ROOM];
     let mut work = [0.0; WORK];

@@ -17,7 +17,7 @@ use Rattle.messages.specs.declared.Carried.the-variants.{Through, Halted
 abbrev pub most-places : ℕ
 most-places = 1000000
 
--- the messages of one pass take less than the difference
+-- the largest place at which a pass may begin: its messages take fewer numbers than lie from there to `most-places`, so each place fits a word
 abbrev pub most-start : ℕ
 most-start = 100000
 

@@ -83,9 +83,13 @@ fn place_message(
     start: usize,
 ) -> usize
     requires { ⌜ Placeable (now kept) (now cleared) (now slots) sizes (now keys) (now heads) number start ⌝ }
-    ensures { λ r. ⌜ r ≡ start + numbersOf (rowsBy (now (kept .entry)) (now (cleared .entry)) (now (slots .entry)) sizes (now (keys .entry)) (now (heads .entry))) (dimOf sizes (now (kept .entry))) ⌝ }
+    ensures { λ r. ⌜ r ≡ start + numbersOf
+        (rowsBy (now (kept .entry)) (now (cleared .entry)) (now (slots .entry)) sizes (now (keys .entry)) (now (heads .entry)))
+        (dimOf sizes (now (kept .entry))) ⌝ }
     ensures { λ _. ⌜ now (keys .exit) ≡ lay (now (keys .entry)) (firstOf number) (now (kept .entry)) ⌝ }
-    ensures { λ _. ⌜ now (heads .exit) ≡ withHead (now (heads .entry)) number false start (rowsBy (now (kept .entry)) (now (cleared .entry)) (now (slots .entry)) sizes (now (keys .entry)) (now (heads .entry))) (dimOf sizes (now (kept .entry))) (firstOf number) (length (now (kept .entry))) ⌝ }
+    ensures { λ _. ⌜ now (heads .exit) ≡ withHead (now (heads .entry)) number false start
+        (rowsBy (now (kept .entry)) (now (cleared .entry)) (now (slots .entry)) sizes (now (keys .entry)) (now (heads .entry)))
+        (dimOf sizes (now (kept .entry))) (firstOf number) (length (now (kept .entry))) ⌝ }
 {
     let r = message_rows(kept, cleared, slots, sizes, &keys[..], &heads[..]);
     let d = dim_of(kept, sizes);
@@ -95,7 +99,7 @@ fn place_message(
     start + (r * d + r + r * r)
 }
 
-// The same for lists in the first places of their arrays.
+// `place_message` for a `Lists` (docs/PROOFS.md, 'Adapters').
 fn place_listed(
     l: Lists,
     sizes: [u8; VARIABLES],
@@ -106,9 +110,12 @@ fn place_listed(
 ) -> usize
     requires { ⌜ Within l ⌝ }
     requires { ⌜ Placeable (keptOf l) (clearedOf l) (slotsOf l) sizes (now keys) (now heads) number start ⌝ }
-    ensures { λ r. ⌜ r ≡ start + numbersOf (rowsBy (keptOf l) (clearedOf l) (slotsOf l) sizes (now (keys .entry)) (now (heads .entry))) (dimOf sizes (keptOf l)) ⌝ }
+    ensures { λ r. ⌜ r ≡ start + numbersOf
+        (rowsBy (keptOf l) (clearedOf l) (slotsOf l) sizes (now (keys .entry)) (now (heads .entry))) (dimOf sizes (keptOf l)) ⌝ }
     ensures { λ _. ⌜ now (keys .exit) ≡ lay (now (keys .entry)) (firstOf number) (keptOf l) ⌝ }
-    ensures { λ _. ⌜ now (heads .exit) ≡ withHead (now (heads .entry)) number false start (rowsBy (keptOf l) (clearedOf l) (slotsOf l) sizes (now (keys .entry)) (now (heads .entry))) (dimOf sizes (keptOf l)) (firstOf number) (length (keptOf l)) ⌝ }
+    ensures { λ _. ⌜ now (heads .exit) ≡ withHead (now (heads .entry)) number false start
+        (rowsBy (keptOf l) (clearedOf l) (slotsOf l) sizes (now (keys .entry)) (now (heads .entry)))
+        (dimOf sizes (keptOf l)) (firstOf number) (length (keptOf l)) ⌝ }
 {
     let kept = l.kept;
     let cleared = l.cleared;
@@ -141,7 +148,8 @@ pub fn place_pass(
     requires { ⌜ Tables g (now keys) (now heads) ⌝ }
     ensures { λ r. ⌜ r ≡ start + need g (messagesOf p) ⌝ }
     ensures { λ _. ⌜ Before shift (now (keys .entry)) (now (heads .entry)) (now (keys .exit)) (now (heads .exit)) ⌝ }
-    ensures { λ _. ⌜ Tables g (now (keys .exit)) (now (heads .exit)) × PlacedTo g (messagesOf p) shift start (now (keys .exit)) (now (heads .exit)) (length (messagesOf p)) ⌝ }
+    ensures { λ _. ⌜ Tables g (now (keys .exit)) (now (heads .exit))
+        × PlacedTo g (messagesOf p) shift start (now (keys .exit)) (now (heads .exit)) (length (messagesOf p)) ⌝ }
 {
     let n = p.count;
     let mut next = start;
@@ -153,7 +161,7 @@ pub fn place_pass(
     next
 }
 
-// The message of lists in the first places of their arrays is made, from a place of the message store on.
+// `eliminate_slots` for a `Lists` (docs/PROOFS.md, 'Adapters').
 fn eliminate_listed(
     l: Lists,
     sizes: [u8; VARIABLES],
@@ -167,8 +175,12 @@ fn eliminate_listed(
     requires { ⌜ Within l ⌝ }
     requires { ⌜ Asked (keptOf l) (clearedOf l) sizes (now factors) (now messages) (length (now work)) (now keys) (now heads) (slotsOf l) ⌝ }
     requires { ⌜ Roomy (keptOf l) (clearedOf l) sizes (now keys) (now heads) (slotsOf l) to (length (now messages)) ⌝ }
-    ensures { λ r. ⌜ r ≡ answer (eliminate (viewsOf (now (factors .entry)) (now (messages .entry)) (now (keys .entry)) (now (heads .entry)) (slotsOf l)) (keptOf l) (clearedOf l) sizes) ⌝ }
-    ensures { λ _. ⌜ now (messages .exit) ≡ stored (now (messages .entry)) to (eliminate (viewsOf (now (factors .entry)) (now (messages .entry)) (now (keys .entry)) (now (heads .entry)) (slotsOf l)) (keptOf l) (clearedOf l) sizes) ⌝ }
+    ensures { λ r. ⌜ r ≡ answer
+        (eliminate (viewsOf (now (factors .entry)) (now (messages .entry)) (now (keys .entry)) (now (heads .entry)) (slotsOf l))
+        (keptOf l) (clearedOf l) sizes) ⌝ }
+    ensures { λ _. ⌜ now (messages .exit) ≡ stored (now (messages .entry)) to
+        (eliminate (viewsOf (now (factors .entry)) (now (messages .entry)) (now (keys .entry)) (now (heads .entry)) (slotsOf l))
+        (keptOf l) (clearedOf l) sizes) ⌝ }
 {
     let kept = l.kept;
     let cleared = l.cleared;
@@ -204,7 +216,8 @@ pub fn carry_pass(
 ) -> Carried
     requires { ⌜ Ready max-variables p × Carriable g (messagesOf p) × (shift ≤ backward-shift) × (start ≤ most-start) ⌝ }
     requires { ⌜ Tables g (now keys) (now heads) × PlacedTo g (messagesOf p) shift start (now keys) (now heads) (length (messagesOf p)) ⌝ }
-    requires { ⌜ (offset g (g .count) ≤ length (now factors)) × (start + need g (messagesOf p) ≤ length (now messages)) × (work-numbers ≤ length (now work)) ⌝ }
+    requires { ⌜ (offset g (g .count) ≤ length (now factors)) × (start + need g (messagesOf p) ≤ length (now messages))
+        × (work-numbers ≤ length (now work)) ⌝ }
     ensures { λ r. ⌜ stopOf r ≡ stopFrom 0 (values g (now (factors .entry)) (messagesOf p)) ⌝ }
     ensures { λ _. ⌜ now (messages .exit) ≡ lay (now (messages .entry)) start (finished (values g (now (factors .entry)) (messagesOf p))) ⌝ }
     ensures { λ r. ⌜ (r ≡ Carried.Through → AllStored g (now (factors .entry)) (messagesOf p) start (now (messages .exit))) ⌝ }

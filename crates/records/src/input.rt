@@ -18,6 +18,7 @@ pub fn cut(bytes: &[u8], at: usize, n: usize) -> bool
     bytes.len() - at < n
 }
 
+// The byte at a place, as a number.
 pub fn byte(bytes: &[u8], at: usize) -> usize
     requires { ⌜ at < length (now bytes) ⌝ }
     ensures { λ r. ⌜ (r ≡ spec.byteAt (now (bytes .entry)) at) × (r < 256) ⌝ }

@@ -42,6 +42,7 @@ pub fn mark_of(a: usize, b: usize) -> Mark
     Mark::Unmarked
 }
 
+// What the flag of an observation says: 0 the identity as variance, 1 a variance that follows.
 pub fn meaning(flag: usize) -> Flag
     ensures { λ r. ⌜ r ≡ spec.meaning flag ⌝ }
 {
@@ -54,6 +55,7 @@ pub fn meaning(flag: usize) -> Flag
     Flag::Unknown
 }
 
+// The flag is one of the two that have a meaning; any other refuses the record.
 pub fn flag_known(flag: Flag) -> bool
     ensures { λ r. ⌜ r ≡ spec.flagKnown flag ⌝ }
 {

@@ -39,7 +39,7 @@ ghost use Rattle.records.specs.Bytes.{float-bytes};
 ghost use Rattle.records.specs.Records as spec;
 ghost use Rattle.records.specs.Told.{endedTold};
 
-// The graph as it came, and why.
+// Refuses: the graph unchanged, with the reason.
 fn stop(g: Graph, why: Refusal) -> Step
     ensures { λ r. ⌜ r ≡ spec.stopped g why ⌝ }
 {
@@ -94,7 +94,8 @@ fn read_prior_numbers(
 ) -> Step
     requires { ⌜ (at ≤ length (now bytes)) × (s ≤ max-size) × (valid g ≡ true) ⌝ }
     ensures { λ r. ⌜ r ≡ spec.stepOf g (spec.priorNumbers (now (store .entry)) (now (bytes .entry)) key s at) ⌝ }
-    ensures { λ _. ⌜ now (store .exit) ≡ spec.storeAfter g (now (store .entry)) (spec.priorNumbers (now (store .entry)) (now (bytes .entry)) key s at) ⌝ }
+    ensures { λ _. ⌜ now (store .exit) ≡
+        spec.storeAfter g (now (store .entry)) (spec.priorNumbers (now (store .entry)) (now (bytes .entry)) key s at) ⌝ }
 {
     let square = s * s;
     if cut(bytes, at, FLOAT_BYTES * (s + square)) {
@@ -154,7 +155,8 @@ fn read_observed_numbers(
     requires { ⌜ (at ≤ length (now bytes)) × (spec.flagKnown flag ≡ true) × (valid g ≡ true) ⌝ }
     requires { ⌜ (1 ≤ rows) × (rows ≤ max-rows) × (n ≤ max-rows * max-total) ⌝ }
     ensures { λ r. ⌜ r ≡ spec.stepOf g (spec.observedNumbers (now (store .entry)) (now (bytes .entry)) (now (keys .entry)) rows flag n at) ⌝ }
-    ensures { λ _. ⌜ now (store .exit) ≡ spec.storeAfter g (now (store .entry)) (spec.observedNumbers (now (store .entry)) (now (bytes .entry)) (now (keys .entry)) rows flag n at) ⌝ }
+    ensures { λ _. ⌜ now (store .exit) ≡
+        spec.storeAfter g (now (store .entry)) (spec.observedNumbers (now (store .entry)) (now (bytes .entry)) (now (keys .entry)) rows flag n at) ⌝ }
 {
     let square = rows * rows;
     let all = FLOAT_BYTES * (n + rows + kinds::given(flag, rows));
@@ -198,7 +200,8 @@ fn read_observed(
     requires { ⌜ (valid g ≡ true) × (at ≤ length (now bytes)) ⌝ }
     requires { ⌜ (countsFit (length (now keys)) rows ≡ true) × (spec.flagKnown flag ≡ true) ⌝ }
     ensures { λ r. ⌜ r ≡ spec.stepOf g (spec.observed g (now (store .entry)) (now (bytes .entry)) (now (keys .entry)) rows flag at) ⌝ }
-    ensures { λ _. ⌜ now (store .exit) ≡ spec.storeAfter g (now (store .entry)) (spec.observed g (now (store .entry)) (now (bytes .entry)) (now (keys .entry)) rows flag at) ⌝ }
+    ensures { λ _. ⌜ now (store .exit) ≡
+        spec.storeAfter g (now (store .entry)) (spec.observed g (now (store .entry)) (now (bytes .entry)) (now (keys .entry)) rows flag at) ⌝ }
 {
     if !factor::rising(keys) {
         return stop(g, Refusal::KeysNotRising);

@@ -25,7 +25,8 @@ pub enum Outcome {
     Refused(Refusal),
 }
 
-// The plan in the arrays in which it was made, as the run reads it: the outcome, how many keys it is for, and the arrays, which hold no message where it was refused.
+// The plan in the arrays in which it was made, as the run reads it: the outcome, how many keys it is for, and the arrays. A refused plan
+// has no messages in them.
 pub struct Arranged {
     pub outcome: Outcome,
     pub keys: usize,
@@ -50,7 +51,7 @@ fn touched_by(f: Factor) -> FactorKeys
     }
 }
 
-// The same of all places of the graph.
+// `touched_by` of every place of the graph's factors.
 fn table_of(g: Graph) -> [FactorKeys; FACTORS]
     ensures { λ r. ⌜ spec.Table g max-factors r ⌝ }
 {

@@ -153,7 +153,8 @@ fn third_stage<'a>(
     marginals: &mut [f64],
 ) -> Ran
     requires { ⌜ Findable g at (now factors) (now messages) (length (now work)) (now keys) (now heads) (length (now marginals)) ⌝ }
-    ensures { λ r. ⌜ stages.ThirdPlanned g at figure (now (factors .entry)) (now (messages .entry)) (now (keys .entry)) (now (heads .entry)) (now (marginals .entry)) r (now (marginals .exit)) ⌝ }
+    ensures { λ r. ⌜ stages.ThirdPlanned g at figure (now (factors .entry)) (now (messages .entry)) (now (keys .entry)) (now (heads .entry))
+        (now (marginals .entry)) r (now (marginals .exit)) ⌝ }
 {
     let mut results = [0.0; RESULTS];
     match find_marginals(g, at, factors, messages, work, keys, heads, &mut results) {
@@ -182,7 +183,8 @@ fn carry_out(
 ) -> Ran
     requires { ⌜ stages.Planned g p (planOf (g .variables) p) × stages.Ready g (planOf (g .variables) p) places (now keys) (now heads) ⌝ }
     requires { ⌜ stages.Enough g (places .figure) (length (now factors)) (length (now messages)) (length (now work)) (length (now marginals)) ⌝ }
-    ensures { λ r. ⌜ stages.verdict r (now (messages .exit)) (now (marginals .exit)) ≡ spec.carried g (planOf (g .variables) p) (places .figure) (now (factors .entry)) (now (messages .entry)) (now (marginals .entry)) ⌝ }
+    ensures { λ r. ⌜ stages.verdict r (now (messages .exit)) (now (marginals .exit)) ≡
+        spec.carried g (planOf (g .variables) p) (places .figure) (now (factors .entry)) (now (messages .entry)) (now (marginals .entry)) ⌝ }
 {
     let n = g.variables;
     let fw = p.forward;
@@ -211,7 +213,8 @@ fn carry_out(
     )
 }
 
-// The run of a graph: its plan is made and placed, which gives the figure; the stores are tested; then both passes and the marginals are carried out. Each refusal comes with the figure, the stage and the key.
+// The run of a graph: its plan is made and placed, which gives the figure; the stores are tested; then both passes and the marginals are
+// carried out. Each refusal comes with the figure, the stage and the key.
 pub fn run(
     g: Graph,
     factors: &[f64],
@@ -219,8 +222,10 @@ pub fn run(
     work: &mut [f64],
     marginals: &mut [f64],
 ) -> Ran
-    ensures { λ r. ⌜ stages.verdict r (now (messages .exit)) (now (marginals .exit)) ≡ spec.run g (now (factors .entry)) (now (messages .entry)) (length (now (work .entry))) (now (marginals .entry)) ⌝ }
-    ensures { λ r. ⌜ ranTold r ≡ ranTold (spec.run g (now (factors .entry)) (now (messages .entry)) (length (now (work .entry))) (now (marginals .entry)) .answer) ⌝ }
+    ensures { λ r. ⌜ stages.verdict r (now (messages .exit)) (now (marginals .exit)) ≡
+        spec.run g (now (factors .entry)) (now (messages .entry)) (length (now (work .entry))) (now (marginals .entry)) ⌝ }
+    ensures { λ r. ⌜ ranTold r ≡
+        ranTold (spec.run g (now (factors .entry)) (now (messages .entry)) (length (now (work .entry))) (now (marginals .entry)) .answer) ⌝ }
 {
     let made = crate::arrange(g);
     let outcome = made.outcome;

@@ -78,7 +78,8 @@ fn put_original(
     requires { ⌜ (number < max-factors) × (f .touched ≤ max-keys) ⌝ }
     requires { ⌜ (max-keys * max-factors ≤ length (now keys)) × (head-numbers * max-factors ≤ length (now heads)) ⌝ }
     ensures { λ _. ⌜ (now (keys .exit) ≡ lay (now (keys .entry)) (max-keys * number) (f .keys)) × (length (f .keys) ≡ max-keys) ⌝ }
-    ensures { λ _. ⌜ now (heads .exit) ≡ withHead (now (heads .entry)) number (f .prior) at (f .rows) (widthOf sizes f) (max-keys * number) (f .touched) ⌝ }
+    ensures { λ _. ⌜ now (heads .exit) ≡
+        withHead (now (heads .entry)) number (f .prior) at (f .rows) (widthOf sizes f) (max-keys * number) (f .touched) ⌝ }
 {
     let first = KEYS * number;
     put_keys(keys, first, f);

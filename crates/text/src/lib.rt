@@ -17,6 +17,7 @@ fn after(at: usize) -> usize
     if at < LAST_PLACE { at + 1 } else { at }
 }
 
+// One byte.
 pub fn put(out: &mut [u8], at: usize, byte: u8) -> usize
     ensures { λ r. ⌜ Puts (now (out .entry)) (now (out .exit)) at r (byte ∷ []) ⌝ }
 {
@@ -27,6 +28,7 @@ pub fn put(out: &mut [u8], at: usize, byte: u8) -> usize
     after(at)
 }
 
+// The bytes of a word, in order.
 pub fn put_word(out: &mut [u8], at: usize, word: &[u8]) -> usize
     ensures { λ r. ⌜ Puts (now (out .entry)) (now (out .exit)) at r (now (word .entry)) ⌝ }
 {
