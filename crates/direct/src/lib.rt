@@ -74,10 +74,10 @@ fn disjoint(kept: &[usize], cleared: &[usize]) -> bool
 fn lists_fit(kept: &[usize], cleared: &[usize]) -> bool
     ensures { λ r. ⌜ r ≡ spec.listsFit (now (kept .entry)) (now (cleared .entry)) ⌝ }
 {
-    if !factor::rising(kept) {
+    if !factor::lists::rising(kept) {
         return false;
     }
-    if !factor::rising(cleared) {
+    if !factor::lists::rising(cleared) {
         return false;
     }
     disjoint(kept, cleared)
@@ -86,13 +86,13 @@ fn lists_fit(kept: &[usize], cleared: &[usize]) -> bool
 fn all_known(g: Graph, slots: &[usize], kept: &[usize], cleared: &[usize]) -> bool
     ensures { λ r. ⌜ r ≡ spec.allKnown g (now (slots .entry)) (now (kept .entry)) (now (cleared .entry)) ⌝ }
 {
-    if !factor::known(g.variables, kept) {
+    if !factor::lists::known(g.variables, kept) {
         return false;
     }
-    if !factor::known(g.variables, cleared) {
+    if !factor::lists::known(g.variables, cleared) {
         return false;
     }
-    factor::known(g.count, slots)
+    factor::lists::known(g.count, slots)
 }
 
 // A key is cleared or kept.

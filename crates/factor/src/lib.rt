@@ -1,11 +1,10 @@
-// A factor of the graph: its record, the layout of its blocks, and the numbers that are stored for it.
+// A factor of the graph: its record and the layout of its blocks. `storing` has the numbers that are stored for it, `lists` what it needs of lists.
 pub mod limits;
+pub mod lists;
+pub mod storing;
 
-use cholesky::exchange::Exchanged;
-use cholesky::exchange::exchange;
 use limits::KEYS;
 use limits::ROWS;
-use limits::SQUARE;
 use limits::VARIABLES;
 ghost use mathlib.Core.Path.{_≡_};
 ghost use mathlib.Core.Bool.{true};
@@ -13,9 +12,6 @@ ghost use Prim.Native.Nat.{_+_, _*_, _<_, _≤_};
 ghost use lib.ListN.{length};
 ghost use Rattle.factor.specs.Limits.{max-keys, max-variables, most-numbers};
 ghost use Rattle.factor.specs.Factor as spec;
-ghost use Rattle.cholesky.specs.Forms.{Lent, exchanged, endOf};
-ghost use Rattle.factor.specs.Storing.{Room, laid};
-ghost use Rattle.factor.specs.Told.{weighedTold, weightTold};
 
 // A prior or an observation: its keys stand in the first places, rising, and unused places are 0. A prior has one key and that key's size as rows.
 pub struct Factor {
@@ -43,65 +39,6 @@ pub fn size_of(sizes: [u8; VARIABLES], key: usize) -> usize
     ensures { λ r. ⌜ (r ≡ spec.sizeOf sizes key) × (r < 256) ⌝ }
 {
     if key < VARIABLES { wide(sizes[key]) } else { 0 }
-}
-
-// All of src goes into dst from a place on.
-pub fn copy_in(dst: &mut [f64], at: usize, src: &[f64])
-    requires { ⌜ at + length (now src) ≤ length (now dst) ⌝ }
-    ensures { λ _. ⌜ now (dst .exit) ≡ spec.lay (now (dst .entry)) at (now (src .entry)) ⌝ }
-{
-    for j in 0..src.len() {
-        dst[at + j] = src[j];
-    }
-}
-
-// The key at a place is above the one before it.
-fn above(keys: &[usize], place: usize) -> bool
-    requires { ⌜ place < length (now keys) ⌝ }
-    ensures { λ r. ⌜ r ≡ spec.above (now (keys .entry)) place ⌝ }
-{
-    if place == 0 {
-        return true;
-    }
-    let last = place - 1;
-    keys[last] < keys[place]
-}
-
-// The keys are strictly rising.
-pub fn rising(keys: &[usize]) -> bool
-    ensures { λ r. ⌜ r ≡ spec.rising (now (keys .entry)) ⌝ }
-{
-    for place in 0..keys.len() {
-        if !above(keys, place) {
-            return false;
-        }
-    }
-    true
-}
-
-// Each key is one of so many variables.
-pub fn known(variables: usize, keys: &[usize]) -> bool
-    ensures { λ r. ⌜ r ≡ spec.known variables (now (keys .entry)) ⌝ }
-{
-    for place in 0..keys.len() {
-        if variables <= keys[place] {
-            return false;
-        }
-    }
-    true
-}
-
-// All numbers given for a factor are finite.
-pub fn given_finite(a: &[f64], mean: &[f64], variance: &[f64]) -> bool
-    ensures { λ r. ⌜ r ≡ spec.givenFinite (now (a .entry)) (now (mean .entry)) (now (variance .entry)) ⌝ }
-{
-    if !matrix::finite(a) {
-        return false;
-    }
-    if !matrix::finite(mean) {
-        return false;
-    }
-    matrix::finite(variance)
 }
 
 // The record of a prior on a key of that size.
@@ -283,67 +220,4 @@ impl Factor {
         let end = start + size * rows;
         &a[start..end]
     }
-}
-
-// Stores A, xi and W of a mean and a variance of n rows from a place on, by way of the working slices. The store is touched only when all numbers are there.
-fn store_by(
-    store: &mut [f64],
-    at: usize,
-    a: &[f64],
-    mean: &[f64],
-    variance: &[f64],
-    n: usize,
-    l: &mut [f64],
-    xi: &mut [f64],
-    w: &mut [f64],
-) -> Exchanged
-    requires { ⌜ Room n at (now a) (now mean) (now variance) (now store) ⌝ }
-    requires { ⌜ Lent n (now l) (now xi) (now w) ⌝ }
-    ensures { λ r. ⌜ r ≡ endOf (exchanged n (now (mean .entry)) (now (variance .entry))) ⌝ }
-    ensures { λ _. ⌜ now (store .exit) ≡ laid (exchanged n (now (mean .entry)) (now (variance .entry))) (now (a .entry)) (now (store .entry)) at ⌝ }
-{
-    copy_in(l, 0, variance);
-    copy_in(xi, 0, mean);
-    match exchange(l, n, xi, w) {
-        Exchanged::Done => {}
-        Exchanged::Pivot => return Exchanged::Pivot,
-        Exchanged::Unbounded => return Exchanged::Unbounded,
-    }
-    let second = at + a.len();
-    let third = second + n;
-    copy_in(store, at, a);
-    copy_in(store, second, &xi[..]);
-    copy_in(store, third, &w[..]);
-    Exchanged::Done
-}
-
-// `store_by` with working arrays of its own (docs/PROOFS.md, 'Adapters').
-pub fn store_factor(
-    store: &mut [f64],
-    at: usize,
-    a: &[f64],
-    mean: &[f64],
-    variance: &[f64],
-    n: usize,
-) -> Exchanged
-    requires { ⌜ Room n at (now a) (now mean) (now variance) (now store) ⌝ }
-    ensures { λ r. ⌜ r ≡ endOf (exchanged n (now (mean .entry)) (now (variance .entry))) ⌝ }
-    ensures { λ _. ⌜ now (store .exit) ≡ laid (exchanged n (now (mean .entry)) (now (variance .entry))) (now (a .entry)) (now (store .entry)) at ⌝ }
-    ensures { λ r. ⌜ weighedTold r ≡ weightTold (exchanged n (now (mean .entry)) (now (variance .entry))) ⌝ }
-{
-    let square = n * n;
-    let mut l = [0.0; SQUARE];
-    let mut xi = [0.0; ROWS];
-    let mut w = [0.0; SQUARE];
-    store_by(
-        store,
-        at,
-        a,
-        mean,
-        variance,
-        n,
-        &mut l[0..square],
-        &mut xi[0..n],
-        &mut w[0..square],
-    )
 }

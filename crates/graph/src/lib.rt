@@ -295,10 +295,10 @@ impl Graph {
         if store.len() < start + f.numbers(sizes) {
             return self.refused(Refusal::FactorStoreShort);
         }
-        if !factor::given_finite(a, mean, variance) {
+        if !factor::storing::given_finite(a, mean, variance) {
             return self.refused(Refusal::NotFinite);
         }
-        match factor::store_factor(store, start, a, mean, variance, mean.len()) {
+        match factor::storing::store_factor(store, start, a, mean, variance, mean.len()) {
             Exchanged::Done => {}
             Exchanged::Pivot => return self.refused(Refusal::VariancePivot),
             Exchanged::Unbounded => return self.refused(Refusal::NotFinite),
@@ -369,10 +369,10 @@ impl Graph {
         if !counts_fit(keys.len(), rows) {
             return self.refused(Refusal::CountOutside);
         }
-        if !factor::rising(keys) {
+        if !factor::lists::rising(keys) {
             return self.refused(Refusal::KeysNotRising);
         }
-        if !factor::known(self.variables, keys) {
+        if !factor::lists::known(self.variables, keys) {
             return self.refused(Refusal::NoSuchKey);
         }
         let f = factor::observation_of(keys, rows);

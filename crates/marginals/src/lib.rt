@@ -1,7 +1,7 @@
 // The marginals of a run: for each key, rising, the last elimination of what it gathers, and the mean and the covariance from its message.
-use factor::copy_in;
 use factor::limits::FACTORS;
 use factor::limits::VARIABLES;
+use factor::lists::copy_in;
 use factor::size_of;
 use gaussian::marginal::Answer;
 use gaussian::marginal::Ending;

@@ -203,10 +203,10 @@ fn read_observed(
     ensures { λ _. ⌜ now (store .exit) ≡
         spec.storeAfter g (now (store .entry)) (spec.observed g (now (store .entry)) (now (bytes .entry)) (now (keys .entry)) rows flag at) ⌝ }
 {
-    if !factor::rising(keys) {
+    if !factor::lists::rising(keys) {
         return stop(g, Refusal::KeysNotRising);
     }
-    if !factor::known(g.variables, keys) {
+    if !factor::lists::known(g.variables, keys) {
         return stop(g, Refusal::NoSuchKey);
     }
     let sizes = g.sizes;

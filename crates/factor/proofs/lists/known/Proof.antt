@@ -1,4 +1,4 @@
--- `factor::known` meets its contract. The loop's invariant: each key passed is below the number of variables. Assumes nothing.
+-- `factor::lists::known` meets its contract. The loop's invariant: each key passed is below the number of variables. Assumes nothing.
 use Prim.Native.Nat.{_-_, _≤_}
 use mathlib.Core.Bool.{true}
 use mathlib.Core.Path.{_≡_, refl, sym}
@@ -9,8 +9,8 @@ use lib.Dec.{ltb}
 use lib.ListN.{getD, length}
 use Rattle.factor.proofs.Counting.{all-fail, all-more, all-none}
 use Rattle.factor.specs.Counting.{all}
-use Rattle.factor.proofs.known.Statement.{statement}
-use Rattle.factor.proofs.known.Tie as tie
+use Rattle.factor.proofs.lists.known.Statement.{statement}
+use Rattle.factor.proofs.lists.known.Tie as tie
 
 abbrev Inv-loop : tie.InvT-loop
 Inv-loop variables keys place₀ place-end place = (place-end ≡ length keys) × (place ≤ place-end) × (all (λ j. ltb (getD keys j 0) variables) place ≡ true)

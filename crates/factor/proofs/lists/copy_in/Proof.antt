@@ -1,4 +1,4 @@
--- `factor::copy_in` meets its contract. The loop's invariant: the numbers passed are pasted. Assumes nothing.
+-- `factor::lists::copy_in` meets its contract. The loop's invariant: the numbers passed are pasted. Assumes nothing.
 use Prim.Native.Nat.{_+_, _-_, _≤_}
 use mathlib.Core.Path.{_≡_, refl}
 use native.Mathlib.Omega.{arith}
@@ -6,8 +6,8 @@ use borrow.Author.Needs.{needs, scaled-fits}
 use lib.ListN.{length, length-set}
 use lib.Seq.{paste, paste-zero}
 use Rattle.factor.proofs.Laying.{copy-done, copy-more}
-use Rattle.factor.proofs.copy_in.Statement.{statement}
-use Rattle.factor.proofs.copy_in.Tie as tie
+use Rattle.factor.proofs.lists.copy_in.Statement.{statement}
+use Rattle.factor.proofs.lists.copy_in.Tie as tie
 
 abbrev Inv-loop : tie.InvT-loop
 Inv-loop dst₀ at src j₀ j-end dst j = (j-end ≡ length src) × (j ≤ j-end) × (dst ≡ paste dst₀ at src j) × (length dst ≡ length dst₀)

@@ -1,9 +1,9 @@
--- `factor::above` meets its contract, by its two ways out. Assumes nothing.
+-- `factor::lists::above` meets its contract, by its two ways out. Assumes nothing.
 use borrow.Author.Needs.{needs}
 use borrow.Author.Tests.{eq-eqb, ne-eqb}
 use Rattle.factor.specs.Factor.{above}
-use Rattle.factor.proofs.above.Statement.{statement}
-use Rattle.factor.proofs.above.Tie as tie
+use Rattle.factor.proofs.lists.above.Statement.{statement}
+use Rattle.factor.proofs.lists.above.Tie as tie
 
 returns : tie.Need-returns
 unfolding above

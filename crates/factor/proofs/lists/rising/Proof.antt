@@ -1,4 +1,4 @@
--- `factor::rising` meets its contract. The loop's invariant: each place passed is above the one before it. Assumes nothing.
+-- `factor::lists::rising` meets its contract. The loop's invariant: each place passed is above the one before it. Assumes nothing.
 use Prim.Native.Nat.{_-_, _≤_}
 use mathlib.Core.Bool.{true}
 use mathlib.Core.Path.{_≡_, refl, sym}
@@ -9,8 +9,8 @@ use lib.ListN.{length}
 use Rattle.factor.proofs.Counting.{all-fail, all-more, all-none, tells}
 use Rattle.factor.specs.Counting.{all}
 use Rattle.factor.specs.Factor.{above}
-use Rattle.factor.proofs.rising.Statement.{statement}
-use Rattle.factor.proofs.rising.Tie as tie
+use Rattle.factor.proofs.lists.rising.Statement.{statement}
+use Rattle.factor.proofs.lists.rising.Tie as tie
 
 abbrev Inv-loop : tie.InvT-loop
 Inv-loop keys place₀ place-end place = (place-end ≡ length keys) × (place ≤ place-end) × (all (λ j. above keys j) place ≡ true)
