@@ -1,5 +1,5 @@
 #!/usr/bin/env python3
-"""Prints crates/schedule/specs/Random.antt: random graphs with the plans that the original's schedule gives them.
+"""Prints crates/schedule/proofs/Random.antt: random graphs with the plans that the original's schedule gives them.
 
 The functions below transcribe the schedule of the original's src/solver.rs line by line (`full_pass` without its
 arithmetic, `alive_messages`, `mark_leaves`, the gathering in `Smoother::run`), with lists in place of `Vec` and with the
@@ -7,7 +7,7 @@ order of the leaves, which the original only marks, as document 01 lays it down.
 the definitions that the file tests.
 
 Usage, at the top of the repository:
-    tools/random_graphs.py > crates/schedule/specs/Random.antt
+    tools/random_graphs.py > crates/schedule/proofs/Random.antt
 The seed is fixed, so the file comes out the same each time. Standard library only.
 """
 import random

@@ -17,7 +17,7 @@ use Rattle.schedule.specs.Pass.{original, closed, ClosedFactor}
 use Rattle.schedule.specs.Gather.{Gathered}
 use Rattle.schedule.specs.Plan as lists
 use Rattle.schedule.proofs.Counts.{count-cons, count-nil, hit-cases, mem-in, rising-in}
-use Rattle.schedule.proofs.Messages.{Settled}
+use Rattle.schedule.specs.Messages.{Settled}
 use Rattle.schedule.proofs.Runs.{from-lt}
 use Rattle.plan.specs.Mask.{has, keysIn}
 use Rattle.plan.specs.Gather.{Held, gatheredOf}

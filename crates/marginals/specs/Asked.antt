@@ -11,7 +11,7 @@ use Rattle.graph.specs.declared.refusal.Refusal.the-variants.{CountedTwice}
 use Rattle.schedule.specs.Count.{from}
 use Rattle.schedule.specs.Gather.{Gathered}
 use Rattle.schedule.specs.Plan as lists
-use Rattle.schedule.proofs.Messages.{Settled}
+use Rattle.schedule.specs.Messages.{Settled}
 use Rattle.plan.specs.Gather.{Held, gatheredOf}
 use Rattle.plan.specs.Plan.{noGathered}
 use Rattle.plan.specs.declared.gather.Gathered as arrays

@@ -19,7 +19,7 @@ use Rattle.graph.proofs.Validity.{size-most, valid-variables, valid-size, valid
 use Rattle.schedule.specs.Count.{count, In, from}
 use Rattle.schedule.specs.Pass as pass
 use Rattle.schedule.specs.Pass.{Slot, original, closed, ClosedFactor, at}
-use Rattle.schedule.proofs.Messages.{Tidy}
+use Rattle.schedule.specs.Messages.{Tidy}
 use Rattle.slots.specs.Layouts.{dimOf, Listed}
 use Rattle.slots.specs.Tables.{headOf, keysAt, numbersOf, storeOf}
 use Rattle.slots.specs.declared.Head.{Head}

@@ -12,8 +12,7 @@ use Rattle.graph.specs.Record.{factorAt, valid}
 use Rattle.graph.specs.declared.Graph.{Graph}
 use Rattle.schedule.specs.Count.{from}
 use Rattle.schedule.specs.Pass.{ClosedFactor, at}
-use Rattle.schedule.proofs.Trees.{Older}
-use Rattle.schedule.proofs.Messages.{Tidy}
+use Rattle.schedule.specs.Messages.{Older, Tidy}
 use Rattle.slots.specs.Limits.{head-numbers}
 use Rattle.slots.specs.Tables.{headOf, numbersOf}
 use Rattle.slots.specs.declared.Head.{Head}

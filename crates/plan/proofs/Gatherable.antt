@@ -17,7 +17,7 @@ use Rattle.schedule.specs.Gather.{uncovered, gathering, gatherAt, gather}
 use Rattle.schedule.specs.Plan.{place}
 use Rattle.schedule.proofs.Counts.{count-nil, count-reverse, rising-in}
 use Rattle.schedule.proofs.Sums.{sum-perm, length-sum}
-use Rattle.schedule.proofs.Trees.{Older}
+use Rattle.schedule.specs.Messages.{Older}
 use Rattle.schedule.proofs.Runs.{running, from-lt}
 use Rattle.schedule.proofs.Sides.{light}
 use Rattle.schedule.proofs.Demand3.{at-each, from-once}

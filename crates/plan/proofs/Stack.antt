@@ -12,7 +12,8 @@ use Rattle.schedule.specs.Pass.{Slot, ClosedFactor, at}
 use Rattle.schedule.specs.Gather.{originalsIn, messagesIn, under, leaves}
 use Rattle.schedule.proofs.Counts.{count-cons, count-nil, count-reverseAux, hit-eq}
 use Rattle.schedule.proofs.Sums.{joined-append}
-use Rattle.schedule.proofs.Trees.{Older, all, all-eq, heavy, heavy-step, heavy-length, stack-all}
+use Rattle.schedule.specs.Messages.{Older, collected, heavy}
+use Rattle.schedule.proofs.Trees.{all-eq, heavy-step, heavy-length, stack-all}
 use Rattle.schedule.proofs.Runs.{leafH}
 use Rattle.plan.specs.Pass.{msgAt, messagesOf, Ready}
 use Rattle.plan.specs.Gather.{part, itemsOf, stackOf, Space, Visitable, Visited, Forest, Openable, Opened}
@@ -32,7 +33,7 @@ joined-nil : (g : ℕ → List ℕ) → joined g [] ≡ []
 unfolding joined
 joined-nil g = refl
 
-leaves-all : (ms : List ClosedFactor) → Older ms → (j : ℕ) → heavy ms (j ∷ []) ≤ length ms → leaves ms j ≡ joined (all leafH ms) (j ∷ [])
+leaves-all : (ms : List ClosedFactor) → Older ms → (j : ℕ) → heavy ms (j ∷ []) ≤ length ms → leaves ms j ≡ joined (collected leafH ms) (j ∷ [])
 unfolding leaves under
 leaves-all ms old j h = stack-all leafH ms old (length ms) (j ∷ []) h
 
@@ -41,7 +42,7 @@ module _ (p : Pass) (ready : Ready max-variables p) (forest : Forest p) where
   ms = messagesOf p
 
   abbrev under-all : List ℕ → List ℕ
-  under-all = joined (all leafH ms)
+  under-all = joined (collected leafH ms)
 
   pub record Opening (l₀ l : Listing) : Type 0 where
     pub space : Space l
@@ -81,7 +82,7 @@ module _ (p : Pass) (ready : Ready max-variables p) (forest : Forest p) where
         let none : stackOf r ≡ [] = ap (λ (n : ℕ). reverse (take n (r .stack))) e in
         record {
           space = t .space;
-          items = sym (append-nil (itemsOf r)) ∙ ap (λ (x : List ℕ). itemsOf r ++ x) (sym (joined-nil (all leafH ms)))
+          items = sym (append-nil (itemsOf r)) ∙ ap (λ (x : List ℕ). itemsOf r ++ x) (sym (joined-nil (collected leafH ms)))
               ∙ ap (λ (x : List ℕ). itemsOf r ++ under-all x) (sym none)
               ∙ t .items ∙ ap (λ (x : List ℕ). itemsOf l ++ under-all x) one ∙ ap (λ (x : List ℕ). itemsOf l ++ x) (sym leaves-are);
         }
@@ -109,12 +110,12 @@ module _ (p : Pass) (ready : Ready max-variables p) (forest : Forest p) where
     unfolding msgAt
     content-is = ap (λ (x : ClosedFactor). x .content) (at-msg p m here)
 
-    all-is : all leafH ms m ≡ originalsIn c ++ under-all (reverse (messagesIn c))
+    all-is : collected leafH ms m ≡ originalsIn c ++ under-all (reverse (messagesIn c))
     all-is = all-eq leafH ms (forest .older) m ∙ ap (λ (x : List Slot). originalsIn x ++ under-all (reverse (messagesIn x))) content-is
 
     whole : under-all (stackOf l) ≡ originalsIn c ++ (under-all (reverse (messagesIn c)) ++ under-all (stackOf (popped l)))
     whole =
-        ap under-all stack-is ∙ joined-cons (all leafH ms) m (stackOf (popped l)) ∙ ap (λ (x : List ℕ). x ++ under-all (stackOf (popped l))) all-is
+        ap under-all stack-is ∙ joined-cons (collected leafH ms) m (stackOf (popped l)) ∙ ap (λ (x : List ℕ). x ++ under-all (stackOf (popped l))) all-is
         ∙ append-assoc (originalsIn c) (under-all (reverse (messagesIn c))) (under-all (stackOf (popped l)))
 
     weight : heavy ms (stackOf l) ≡ suc (heavy ms (reverseAux (messagesIn c) (stackOf (popped l))))
@@ -157,7 +158,7 @@ module _ (p : Pass) (ready : Ready max-variables p) (forest : Forest p) where
       items-are : itemsOf r ++ under-all (stackOf r) ≡ itemsOf l ++ under-all (stackOf l)
       items-are =
           ap₂ (λ (x y : List ℕ). x ++ under-all y) (v .items) (v .stack ∙ reverseAux-eq (messagesIn c) (stackOf (popped l)))
-          ∙ ap (λ (x : List ℕ). (itemsOf l ++ originalsIn c) ++ x) (joined-append (all leafH ms) (reverse (messagesIn c)) (stackOf (popped l)))
+          ∙ ap (λ (x : List ℕ). (itemsOf l ++ originalsIn c) ++ x) (joined-append (collected leafH ms) (reverse (messagesIn c)) (stackOf (popped l)))
           ∙ append-assoc (itemsOf l) (originalsIn c) (under-all (reverse (messagesIn c)) ++ under-all (stackOf (popped l)))
           ∙ ap (λ (x : List ℕ). itemsOf l ++ x) (sym whole)
 

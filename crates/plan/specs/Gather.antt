@@ -11,7 +11,7 @@ use Rattle.schedule.specs.Count.{mem, keep, joined}
 use Rattle.schedule.specs.Pass.{Slot, at}
 use Rattle.schedule.specs.Gather.{originalsIn, messagesIn, alive-messages, leaves, gatherAt}
 use Rattle.schedule.specs.Gather as lists
-use Rattle.schedule.proofs.Trees.{Older, heavy}
+use Rattle.schedule.specs.Messages.{Older, heavy}
 use Rattle.plan.specs.Mask.{has, keysIn, Set}
 use Rattle.plan.specs.Pass.{slotOf, Codes, messagesOf, Ready, Live, Agrees}
 use Rattle.plan.specs.declared.pass.Pass.{Pass}

@@ -5,7 +5,7 @@ use lib.ListN.{replicate}
 use Rattle.schedule.specs.Count.{from, sum}
 use Rattle.schedule.specs.Pass.{original, closed}
 use Rattle.schedule.specs.Plan.{plan}
-use Rattle.schedule.specs.Examples.{p4-keys}
+use Rattle.schedule.proofs.Examples.{p4-keys}
 use Rattle.plan_answer.specs.Answer.{padded, setOf, code, messageOf, noMessage, messageTable, keyPlanOf, noKeyPlan, keyTable, answerOf}
 use Rattle.plan_answer.specs.declared.Message.{Message}
 use Rattle.plan_answer.specs.declared.Plan.{Plan}

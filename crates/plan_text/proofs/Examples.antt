@@ -5,7 +5,7 @@ use mathlib.Core.List.{List, [], _∷_, _++_}
 use Rattle.schedule.specs.Count.{joined, from}
 use Rattle.schedule.specs.Pass.{original, closed}
 use Rattle.schedule.specs.Plan.{Plan, plan}
-use Rattle.schedule.specs.Examples.{p4-keys}
+use Rattle.schedule.proofs.Examples.{p4-keys}
 use Rattle.text.specs.Decimals.{decimalBy, decimal, fieldText}
 use Rattle.solver.specs.Plan.{noPlan}
 use Rattle.plan_text.specs.Text.{slotText, namedText, listText, contentText, messageText, keyText, numbered, planText}

@@ -1,4 +1,4 @@
--- Laws of the schedule, from counts up to demand 3.
+-- Laws of the schedule, from counts up to demand 3, and what the definitions give on examples.
 pub mod Counts
 pub mod Sums
 pub mod Walks
@@ -9,3 +9,5 @@ pub mod Runs
 pub mod Sides
 pub mod Demand3
 pub mod Messages
+pub mod Examples
+pub mod Random

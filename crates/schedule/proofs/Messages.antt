@@ -18,21 +18,11 @@ use Rattle.schedule.proofs.Counts.{and-l, and-i, count-cons, count-nil,
 use Rattle.schedule.proofs.Counts.{sum-member, rising-yes, rising-in, in-mem}
 use Rattle.schedule.proofs.Meanings.{uncovered-in, own-never, last-once, last-in}
 use Rattle.schedule.proofs.Walks.{walk-taken}
-use Rattle.schedule.proofs.Trees.{Older}
+use Rattle.schedule.specs.Messages.{Older, Tidy, Settled}
 use Rattle.schedule.proofs.Steps.{coupledBy}
 use Rattle.schedule.proofs.Steps as S
 use Rattle.schedule.proofs.Runs.{lvT, gone, Run, msgs-in, from-lt, running}
 use Rattle.schedule.proofs.Demand3.{from-once}
-
--- the cleared and the kept keys of a message m, and its slots, where ms are the messages of its pass
-pub record Tidy (n : ℕ) (K : ℕ → List ℕ) (N : List ℕ) (ms : List ClosedFactor) (m : ClosedFactor) : Type 0 where
-  -- no key stands twice in them
-  pub apart : (x : ℕ) → count x (m .cleared) + count x (m .kept) ≤ 1
-  -- they are registered
-  pub low : (x : ℕ) → 1 ≤ count x (m .cleared) + count x (m .kept) → x < n
-  -- every key of a slot is one of them
-  pub keyed : (s : Slot) → List·Memᴰ s (m .content) → (x : ℕ) → In x (keysOf K ms s) → 1 ≤ count x (m .cleared) + count x (m .kept)
-  pub originals : (i : ℕ) → List·Memᴰ (original i) (m .content) → In i N
 
 -- among more originals it holds too
 pub tidy-more : {n : ℕ} {K : ℕ → List ℕ} {N N′ : List ℕ} {ms : List ClosedFactor} {m : ClosedFactor} → ((i : ℕ) → In i N → In i N′) → Tidy n K N ms m
@@ -213,15 +203,6 @@ module _ (n : ℕ) (K : ℕ → List ℕ) (N order : List ℕ) (each : (j : ℕ)
   few-messages = omega (arith, messages-most n K N (reverse order), length-reverse order)
 
 -- ---- what a key gathers
-
-pub record Settled (n : ℕ) (K : ℕ → List ℕ) (N : List ℕ) (fw bw : List ClosedFactor) (k : ℕ) (g : Gathered) : Type 0 where
-  -- the keys cleared last and k itself: none stands twice, all are registered
-  pub apart : (x : ℕ) → count x (g .last) + count x (k ∷ []) ≤ 1
-  pub low : (x : ℕ) → In x (g .last) → x < n
-  -- the gathered messages have been made, and what is gathered has no other keys
-  pub forward : (j : ℕ) → In j (g .forward) → (j < length fw) × ((x : ℕ) → In x (at fw j .kept) → 1 ≤ count x (g .last) + count x (k ∷ []))
-  pub backward : (j : ℕ) → In j (g .backward) → (j < length bw) × ((x : ℕ) → In x (at bw j .kept) → 1 ≤ count x (g .last) + count x (k ∷ []))
-  pub originals : (i : ℕ) → In i (g .originals) → In i N × ((x : ℕ) → In x (K i) → 1 ≤ count x (g .last) + count x (k ∷ []))
 
 -- among more originals it holds too
 pub settled-more : {n : ℕ} {K : ℕ → List ℕ} {N N′ : List ℕ} {fw bw : List ClosedFactor} {k : ℕ} {g : Gathered} → ((i : ℕ) → In i N → In i N′)

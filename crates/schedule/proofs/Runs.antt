@@ -18,7 +18,8 @@ use Rattle.schedule.specs.Gather.{originalsIn, messagesIn}
 use Rattle.schedule.proofs.Counts.{count-cons, count-nil, count-append, mem-in, in-mem, sum-append, sum-member, sum-same}
 use Rattle.schedule.proofs.Sums.{sum-perm, sum-from-snoc, from-mem, joined-append}
 use Rattle.schedule.proofs.Walks.{walk-sum}
-use Rattle.schedule.proofs.Trees.{inner, Older, all, all-old, all-new}
+use Rattle.schedule.specs.Messages.{inner, Older, collected}
+use Rattle.schedule.proofs.Trees.{all-old, all-new}
 use Rattle.schedule.proofs.Steps.{isClosed, Good, Inv, coupledBy}
 use Rattle.schedule.proofs.Steps as S
 
@@ -34,7 +35,7 @@ clearH j m = m .cleared
 -- the leaves of a slot
 abbrev pub lvT : List ClosedFactor → Slot → List ℕ
 lvT ms (original i) = i ∷ []
-lvT ms (closed j) = all leafH ms j
+lvT ms (closed j) = collected leafH ms j
 
 abbrev pub gone : List ClosedFactor → List ℕ
 gone ms = joined (λ m. m .cleared) ms
@@ -45,14 +46,14 @@ pub record Run (K : ℕ → List ℕ) (N : List ℕ) (P : List ℕ) (st : State)
   -- each message is active, or in the content of one other
   pub place : (c : ℕ) → count c (messagesIn (st .active)) + sum (λ m. count c (messagesIn (m .content))) (st .messages)
       ≡ count c (from 0 (length (st .messages)))
-  -- under the active messages stand all messages, each once
-  pub whole : (h : ℕ → ClosedFactor → List ℕ) (x : ℕ) → sum (λ c. count x (all h (st .messages) c)) (messagesIn (st .active))
+  -- under the active messages stand collected messages, each once
+  pub whole : (h : ℕ → ClosedFactor → List ℕ) (x : ℕ) → sum (λ c. count x (collected h (st .messages) c)) (messagesIn (st .active))
       ≡ sum (λ j. count x (h j (at (st .messages) j))) (from 0 (length (st .messages)))
   -- an original that touches a cleared key is a leaf under the message that clears it
   pub covers : (j : ℕ) → j < length (st .messages) → (f : ℕ) → In f N → (x : ℕ) → In x (K f) → In x ((at (st .messages) j) .cleared)
-      → In f (all leafH (st .messages) j)
+      → In f (collected leafH (st .messages) j)
   -- under a message no message stands twice
-  pub small : (j : ℕ) → j < length (st .messages) → (x : ℕ) → count x (all oneH (st .messages) j) ≤ count x (from 0 (length (st .messages)))
+  pub small : (j : ℕ) → j < length (st .messages) → (x : ℕ) → count x (collected oneH (st .messages) j) ≤ count x (from 0 (length (st .messages)))
   pub steps : (j : ℕ) → j < length (st .messages) → (at (st .messages) j) .step < length P
 
 -- ---- slots
@@ -76,7 +77,7 @@ msgs-in {c} {l} m = omega (
   Rattle.schedule.proofs.Counts.hit-same c,
 )
 
-pub parts : (f : ℕ) (ms : List ClosedFactor) (l : List Slot) → count f (originalsIn l) + sum (λ c. count f (all leafH ms c)) (messagesIn l)
+pub parts : (f : ℕ) (ms : List ClosedFactor) (l : List Slot) → count f (originalsIn l) + sum (λ c. count f (collected leafH ms c)) (messagesIn l)
     ≡ sum (λ s. count f (lvT ms s)) l
 unfolding sum
 parts f ms [] = omega (arith, count-nil f)
@@ -167,13 +168,13 @@ module _ (n : ℕ) (K : ℕ → List ℕ) (N P : List ℕ) (st : State) (k : ℕ
   same (original i) i-in = (refl, refl)
   same (closed c) c-in = let l = bound c (msgs-in c-in) in (ap (λ (e : ClosedFactor). e .kept) (old-at c l), all-old leafH ms (m ∷ []) (run .older) c l)
 
-  ls-is : (f : ℕ) → count f (all leafH ms′ (length ms)) ≡ sum (λ s. count f (lvT ms s)) (w .taken)
+  ls-is : (f : ℕ) → count f (collected leafH ms′ (length ms)) ≡ sum (λ s. count f (lvT ms s)) (w .taken)
   ls-is f = all-new leafH ms m (run .older) older′ f ∙ parts f ms (w .taken)
 
   inv′ : Inv K N (keysOf K ms′) (lvT ms′) (k ∷ P) ak2 (gone ms ++ cl) (w .left ++ (closed (length ms) ∷ []))
   unfolding coupled coupledBy keysOf
   inv′ = S.sent n K N κ (lvT ms) (λ i. refl) (λ i. refl) P (st .active-keys) (gone ms) (st .active) k once below (run .inv) (length (st .active)) (omega arith)
-      (all leafH ms′ (length ms)) ls-is (keysOf K ms′) (lvT ms′) (length ms) same (ap (λ (e : ClosedFactor). e .kept) new-at) refl
+      (collected leafH ms′ (length ms)) ls-is (keysOf K ms′) (lvT ms′) (length ms) same (ap (λ (e : ClosedFactor). e .kept) new-at) refl
 
   gone′ : gone ms′ ≡ gone ms ++ cl
   unfolding joined
@@ -198,11 +199,11 @@ module _ (n : ℕ) (K : ℕ → List ℕ) (N P : List ℕ) (st : State) (k : ℕ
     );
     whole = λ h x. omega (
       arith,
-      ap (sum (λ c. count x (all h ms′ c))) (msgs-append (w .left) (closed (length ms) ∷ [])),
-      sum-append (λ c. count x (all h ms′ c)) (messagesIn (w .left)) (length ms ∷ []),
+      ap (sum (λ c. count x (collected h ms′ c))) (msgs-append (w .left) (closed (length ms) ∷ [])),
+      sum-append (λ c. count x (collected h ms′ c)) (messagesIn (w .left)) (length ms ∷ []),
       all-new h ms m (run .older) older′ x,
       run .whole h x,
-      sum-same (λ c. count x (all h ms′ c)) (λ c. count x (all h ms c)) (messagesIn (w .left))
+      sum-same (λ c. count x (collected h ms′ c)) (λ c. count x (collected h ms c)) (messagesIn (w .left))
           (λ c i. ap (count x) (all-old h ms (m ∷ []) (run .older) c (bound c (omega (arith, mem-in i, walked c))))),
       both h x,
       ap (λ (y : ℕ). sum (λ j. count x (h j (at ms′ j))) (from 0 y)) longer,
@@ -217,16 +218,16 @@ module _ (n : ℕ) (K : ℕ → List ℕ) (N P : List ℕ) (st : State) (k : ℕ
     steps = λ j l. stepping j (index j l);
   }
     where
-      both : (h : ℕ → ClosedFactor → List ℕ) (x : ℕ) → sum (λ c. count x (all h ms c)) (messagesIn (w .taken)) + sum (λ c. count x (all h ms c))
-          (messagesIn (w .left)) ≡ sum (λ c. count x (all h ms c)) (messagesIn (st .active))
+      both : (h : ℕ → ClosedFactor → List ℕ) (x : ℕ) → sum (λ c. count x (collected h ms c)) (messagesIn (w .taken)) + sum (λ c. count x (collected h ms c))
+          (messagesIn (w .left)) ≡ sum (λ c. count x (collected h ms c)) (messagesIn (st .active))
       both h x = omega (
         arith,
-        sum-append (λ c. count x (all h ms c)) (messagesIn (w .taken)) (messagesIn (w .left)),
-        sum-perm (λ c. count x (all h ms c)) (messagesIn (w .taken) ++ messagesIn (w .left)) (messagesIn (st .active))
+        sum-append (λ c. count x (collected h ms c)) (messagesIn (w .taken)) (messagesIn (w .left)),
+        sum-perm (λ c. count x (collected h ms c)) (messagesIn (w .taken) ++ messagesIn (w .left)) (messagesIn (st .active))
             (λ c. count-append c (messagesIn (w .taken)) (messagesIn (w .left)) ∙ walked c),
       )
 
-      little : (j x : ℕ) → (j < length ms) ⊎ (j ≡ length ms) → count x (all oneH ms′ j) ≤ count x (from 0 (length ms′))
+      little : (j x : ℕ) → (j < length ms) ⊎ (j ≡ length ms) → count x (collected oneH ms′ j) ≤ count x (from 0 (length ms′))
       little j x (inl l) =
           omega (
             arith,
@@ -238,7 +239,7 @@ module _ (n : ℕ) (K : ℕ → List ℕ) (N P : List ℕ) (st : State) (k : ℕ
       little j x (inr e) =
           omega (
             arith,
-            ap (λ (i : ℕ). count x (all oneH ms′ i)) e,
+            ap (λ (i : ℕ). count x (collected oneH ms′ i)) e,
             all-new oneH ms m (run .older) older′ x,
             both oneH x,
             run .whole oneH x,
@@ -249,12 +250,12 @@ module _ (n : ℕ) (K : ℕ → List ℕ) (N P : List ℕ) (st : State) (k : ℕ
             singles x (from 0 (length ms)),
           )
 
-      covering : (j f : ℕ) → In f N → (x : ℕ) → In x (K f) → In x ((at ms′ j) .cleared) → (j < length ms) ⊎ (j ≡ length ms) → In f (all leafH ms′ j)
+      covering : (j f : ℕ) → In f N → (x : ℕ) → In x (K f) → In x ((at ms′ j) .cleared) → (j < length ms) ⊎ (j ≡ length ms) → In f (collected leafH ms′ j)
       covering j f q x r t (inl l) = rw (all-old leafH ms (m ∷ []) (run .older) j l) (run .covers j l f q x r (rw (old-at j l) at t))
       covering j f q x r t (inr e) =
           rw e (S.covers n K N κ (lvT ms) (λ i. refl) (λ i. refl) P (st .active-keys) (gone ms) (st .active) k once below (run .inv)
           (length (st .active)) (omega arith)
-          (all leafH ms′ (length ms)) ls-is f q x r (rw (e, new-at) at t))
+          (collected leafH ms′ (length ms)) ls-is f q x r (rw (e, new-at) at t))
 
       stepping : (j : ℕ) → (j < length ms) ⊎ (j ≡ length ms) → (at ms′ j) .step < length (k ∷ P)
       stepping j (inl l) = rw (old-at j l) (omega (arith, run .steps j l))
@@ -306,7 +307,7 @@ start n K N = record {
   };
   older = λ j c h. absurd (omega arith);
   place = λ c. omega (arith, ap (count c) (start-msgs N));
-  whole = λ h x. ap (sum (λ c. count x (all h [] c))) (start-msgs N);
+  whole = λ h x. ap (sum (λ c. count x (collected h [] c))) (start-msgs N);
   covers = λ j l. absurd (omega arith);
   small = λ j l. absurd (omega arith);
   steps = λ j l. absurd (omega arith);

@@ -17,18 +17,19 @@ use Rattle.schedule.proofs.Counts.{sure, and-l, and-i, and-no-r, or-l, 
 use Rattle.schedule.proofs.Counts.{mem-in, in-mem, sum-some, sum-same, from-in, from-above, keep-yes, rising-yes, rising-no, rising-in}
 use Rattle.schedule.proofs.Sums.{sum-le, sum-perm, sum-table, joined-append, length-sum, length-from}
 use Rattle.schedule.proofs.Meanings.{under-popped}
-use Rattle.schedule.proofs.Trees.{Older, all, all-old, heavy, heavy-one, turns-suffice, stack-all}
+use Rattle.schedule.specs.Messages.{Older, collected, heavy}
+use Rattle.schedule.proofs.Trees.{all-old, heavy-one, turns-suffice, stack-all}
 use Rattle.schedule.proofs.Runs.{leafH, oneH, clearH, gone, Run, parts, singles, from-lt, running, stays-why, Later, later}
 
 -- ---- the stack gives what lies under
 module _ (full : List ClosedFactor) (older : Older full) (small : (j : ℕ) → j < length full → (x : ℕ)
-    → count x (all oneH full j) ≤ count x (from 0 (length full))) where
+    → count x (collected oneH full j) ≤ count x (from 0 (length full))) where
   pub light : (j : ℕ) → j < length full → heavy full (j ∷ []) ≤ length full
   light j l = omega (
     arith,
     heavy-one full j,
-    length-sum (all oneH full j),
-    sum-le (λ x. 1) (all oneH full j) (from 0 (length full)) (small j l),
+    length-sum (collected oneH full j),
+    sum-le (λ x. 1) (collected oneH full j) (from 0 (length full)) (small j l),
     length-sum (from 0 (length full)),
     length-from 0 (length full),
   )
@@ -36,19 +37,19 @@ module _ (full : List ClosedFactor) (older : Older full) (small : (j : ℕ) → 
   all-opened : (j more : ℕ) → j < length full → popped full (length full + more) (j ∷ []) ≡ under full j
   all-opened j more l = turns-suffice full older (length full) (length full + more) (j ∷ []) (light j l) (omega arith) ∙ sym (under-popped full j)
 
-  by-stack : (h : ℕ → ClosedFactor → List ℕ) (j : ℕ) → j < length full → joined (λ i. h i (at full i)) (under full j) ≡ all h full j
+  by-stack : (h : ℕ → ClosedFactor → List ℕ) (j : ℕ) → j < length full → joined (λ i. h i (at full i)) (under full j) ≡ collected h full j
   unfolding joined
   by-stack h j l = ap (joined (λ i. h i (at full i))) (under-popped full j) ∙ stack-all h full older (length full) (j ∷ []) (light j l)
-      ∙ append-nil (all h full j)
+      ∙ append-nil (collected h full j)
 
-  pub leaves-is : (j : ℕ) → j < length full → leaves full j ≡ all leafH full j
+  pub leaves-is : (j : ℕ) → j < length full → leaves full j ≡ collected leafH full j
   unfolding leaves
   leaves-is j l = by-stack leafH j l
 
-  pub cleared-is : (j : ℕ) → j < length full → joined (λ i. (at full i) .cleared) (under full j) ≡ all clearH full j
+  pub cleared-is : (j : ℕ) → j < length full → joined (λ i. (at full i) .cleared) (under full j) ≡ collected clearH full j
   cleared-is j l = by-stack clearH j l
 
-  pub under-is : (j x : ℕ) → j < length full → count x (under full j) ≡ count x (all oneH full j)
+  pub under-is : (j x : ℕ) → j < length full → count x (under full j) ≡ count x (collected oneH full j)
   under-is j x l = sym (singles x (under full j)) ∙ sym (count-joined x (λ i. i ∷ []) (under full j)) ∙ ap (count x) (by-stack oneH j l)
 
 -- ---- slots by kind
@@ -189,7 +190,7 @@ pub record Side (K : ℕ → List ℕ) (N P : List ℕ) (k : ℕ) (full : List C
   -- a key up to the step is active or cleared, once; the step's key is active
   pub keys : (j : ℕ) → count j ak + count j gone ≡ count j (k ∷ P)
   pub own : In k ak
-  -- no leaf twice; a leaf's keys are all up to the step, and one is cleared
+  -- no leaf twice; a leaf's keys are collected up to the step, and one is cleared
   pub part : (f : ℕ) → count f (gatheredLeaves full (length P)) ≤ count f N
   pub upto : (f : ℕ) → In f (gatheredLeaves full (length P)) → (j : ℕ) → In j (K f) → In j (k ∷ P)
   pub low : (f : ℕ) → In f (gatheredLeaves full (length P)) → (j : ℕ) × In j (K f) × In j gone
@@ -202,7 +203,7 @@ pub record Side (K : ℕ → List ℕ) (N P : List ℕ) (k : ℕ) (full : List C
   -- the keys cleared behind are the cleared ones
   pub cleared : (j : ℕ) → count j (clearedBy full (behind full (alive-messages (length P) full))) ≡ count j gone
   pub covers : Covers K N full (behind full (alive-messages (length P) full))
-  -- as many turns as there are messages open all that lies behind
+  -- as many turns as there are messages open collected that lies behind
   pub under : AllUnder full (behind full (alive-messages (length P) full))
 
 count-joined² : {A : Type 0} (x : ℕ) (g : ℕ → List ℕ) (h : A → List ℕ) (l : List A) → count x (joined g (joined h l)) ≡ sum (λ c. count x (joined g (h c))) l
@@ -219,9 +220,9 @@ module _ (K : ℕ → List ℕ) (N P : List ℕ) (k : ℕ) (st : State) (run : R
     (far : (e : ClosedFactor) → List·Memᴰ e more → suc (length P) ≤ e .step)
     (older : Older (st .messages ++ more))
     (small : (j : ℕ) → j < length (st .messages ++ more) → (x : ℕ)
-    → count x (all oneH (st .messages ++ more) j) ≤ count x (from 0 (length (st .messages ++ more))))
+    → count x (collected oneH (st .messages ++ more) j) ≤ count x (from 0 (length (st .messages ++ more))))
     (full-covers : (j : ℕ) → j < length (st .messages ++ more) → (f : ℕ) → In f N → (x : ℕ) → In x (K f)
-    → In x ((at (st .messages ++ more) j) .cleared) → In f (all leafH (st .messages ++ more) j))
+    → In x ((at (st .messages ++ more) j) .cleared) → In f (collected leafH (st .messages ++ more) j))
     (own-k : In k (st .active-keys))
     (why-k : (j : ℕ) → In j (st .active-keys) → j ≢ k → (f : ℕ) × In f N × In j (K f) × ((i : ℕ) × In i (K f) × (count i (k ∷ P) ≡ 0))) where
   abbrev mz : List ClosedFactor
@@ -247,14 +248,14 @@ module _ (K : ℕ → List ℕ) (N P : List ℕ) (k : ℕ) (st : State) (run : R
       ∙ sum-same (λ c. count x (g c)) (λ c. count x (h c)) (alive-messages (length P) full) (λ c m. ap (count x) (e c (alive-lt c (mem-in m))))
       ∙ sum-perm (λ c. count x (h c)) (alive-messages (length P) full) (messagesIn (st .active)) same-alive
 
-  leaves-sum : (f : ℕ) → count f (gatheredLeaves full (length P)) ≡ sum (λ c. count f (all leafH mz c)) (messagesIn (st .active))
-  leaves-sum f = over (leaves full) (all leafH mz) (λ c l. leaves-is full older small c (mz-full c l) ∙ all-old leafH mz more (run .older) c l) f
+  leaves-sum : (f : ℕ) → count f (gatheredLeaves full (length P)) ≡ sum (λ c. count f (collected leafH mz c)) (messagesIn (st .active))
+  leaves-sum f = over (leaves full) (collected leafH mz) (λ c l. leaves-is full older small c (mz-full c l) ∙ all-old leafH mz more (run .older) c l) f
 
   -- a gathered leaf, and the active message that it lies under
-  leaf-of : (f : ℕ) → In f (gatheredLeaves full (length P)) → (c : ℕ) × List·Memᴰ (closed c) (st .active) × In f (all leafH mz c)
-  leaf-of f h = go (sum-some (λ c. count f (all leafH mz c)) (messagesIn (st .active)) (omega (arith, leaves-sum f)))
+  leaf-of : (f : ℕ) → In f (gatheredLeaves full (length P)) → (c : ℕ) × List·Memᴰ (closed c) (st .active) × In f (collected leafH mz c)
+  leaf-of f h = go (sum-some (λ c. count f (collected leafH mz c)) (messagesIn (st .active)) (omega (arith, leaves-sum f)))
     where
-      go : (c : ℕ) × List·Memᴰ c (messagesIn (st .active)) × In f (all leafH mz c) → (c : ℕ) × List·Memᴰ (closed c) (st .active) × In f (all leafH mz c)
+      go : (c : ℕ) × List·Memᴰ c (messagesIn (st .active)) × In f (collected leafH mz c) → (c : ℕ) × List·Memᴰ (closed c) (st .active) × In f (collected leafH mz c)
       go (c, m, i) = (c, msgs-mem (st .active) m, i)
 
   whole-leaves : (f : ℕ) → count f (originalsIn (st .active)) + count f (gatheredLeaves full (length P)) ≡ count f N
@@ -263,9 +264,9 @@ module _ (K : ℕ → List ℕ) (N P : List ℕ) (k : ℕ) (st : State) (run : R
   cleared-sum : (j : ℕ) → count j (clearedBy full (behind full (alive-messages (length P) full))) ≡ count j (gone mz)
   cleared-sum j =
       count-joined² j (λ i. (at full i) .cleared) (under full) (alive-messages (length P) full)
-      ∙ sum-same (λ c. count j (joined (λ i. (at full i) .cleared) (under full c))) (λ c. count j (all clearH mz c)) (alive-messages (length P) full)
+      ∙ sum-same (λ c. count j (joined (λ i. (at full i) .cleared) (under full c))) (λ c. count j (collected clearH mz c)) (alive-messages (length P) full)
       (λ c m. let l = alive-lt c (mem-in m) in ap (count j) (cleared-is full older small c (mz-full c l) ∙ all-old clearH mz more (run .older) c l))
-      ∙ sum-perm (λ c. count j (all clearH mz c)) (alive-messages (length P) full) (messagesIn (st .active)) same-alive
+      ∙ sum-perm (λ c. count j (collected clearH mz c)) (alive-messages (length P) full) (messagesIn (st .active)) same-alive
       ∙ run .whole clearH j
       ∙ sum-table (λ e. count j (e .cleared)) mz noMessage
       ∙ sym (count-joined j (λ e. e .cleared) mz)
@@ -298,10 +299,10 @@ module _ (K : ℕ → List ℕ) (N P : List ℕ) (k : ℕ) (st : State) (run : R
     under = λ i h m. all-opened full older small i m (behind-lt i h);
   }
     where
-      go-full : (f j : ℕ) → In j (K f) → (c : ℕ) × List·Memᴰ (closed c) (st .active) × In f (all leafH mz c) → In j (k ∷ P)
+      go-full : (f j : ℕ) → In j (K f) → (c : ℕ) × List·Memᴰ (closed c) (st .active) × In f (collected leafH mz c) → In j (k ∷ P)
       go-full f j q (c, m, i) = (run .inv .node (closed c) m) .full tt f i j q
 
-      go-low : (f : ℕ) → (c : ℕ) × List·Memᴰ (closed c) (st .active) × In f (all leafH mz c) → (j : ℕ) × In j (K f) × In j (gone mz)
+      go-low : (f : ℕ) → (c : ℕ) × List·Memᴰ (closed c) (st .active) × In f (collected leafH mz c) → (j : ℕ) × In j (K f) × In j (gone mz)
       go-low f (c, m, i) = (run .inv .node (closed c) m) .low tt f i
 
       go-inner : (j : ℕ) → (c : ℕ) × List·Memᴰ c (messagesIn (st .active)) × (1 ≤ count j ((at mz c) .kept)) → In j (st .active-keys)

@@ -9,24 +9,9 @@ use lib.Seq.{getD-append-seam}
 use Rattle.schedule.specs.Count.{count, In, sum, joined}
 use Rattle.schedule.specs.Pass.{ClosedFactor, noMessage, at}
 use Rattle.schedule.specs.Gather.{messagesIn, popped}
+use Rattle.schedule.specs.Messages.{inner, Older, grow, collected, itself, heavy}
 use Rattle.schedule.proofs.Counts.{count-append, count-joined, count-reverse, mem-in, sum-same}
 use Rattle.schedule.proofs.Sums.{sum-reverse, sum-reverseAux, joined-same, joined-append, length-joined}
-
-abbrev pub inner : List ClosedFactor → ℕ → List ℕ
-inner ms j = messagesIn ((at ms j) .content)
-
--- a message contains older messages only
-abbrev pub Older : List ClosedFactor → Type 0
-Older ms = (j c : ℕ) → In c (inner ms j) → c < j
-
-grow : (ℕ → ClosedFactor → List ℕ) → List ClosedFactor → ℕ → ℕ → List ℕ
-grow h ms zero j = []
-grow h ms (suc d) j = h j (at ms j) ++ joined (grow h ms d) (reverse (inner ms j))
-
--- h of the message j and of all under it
-pub all : (ℕ → ClosedFactor → List ℕ) → List ClosedFactor → ℕ → List ℕ
-unfolding grow
-all h ms j = grow h ms (suc j) j
 
 rev-in : {c : ℕ} (l : List ℕ) → List·Memᴰ c (reverse l) → In c l
 rev-in {c} l m = omega (arith, count-reverse c l, mem-in m)
@@ -42,30 +27,30 @@ agree h ms ms′ top same old (suc d) (suc d′) j l l′ t =
     (λ c m. let o : c < j = old j c (rev-in (inner ms j) m) in agree h ms ms′ top same old d d′ c (omega arith) (omega arith) (omega arith))
     ∙ ap (λ (m : ClosedFactor). joined (grow h ms′ d′) (reverse (messagesIn (m .content)))) (same j t))
 
-pub all-eq : (h : ℕ → ClosedFactor → List ℕ) (ms : List ClosedFactor) → Older ms → (j : ℕ) → all h ms j
-    ≡ h j (at ms j) ++ joined (all h ms) (reverse (inner ms j))
-unfolding all
+pub all-eq : (h : ℕ → ClosedFactor → List ℕ) (ms : List ClosedFactor) → Older ms → (j : ℕ) → collected h ms j
+    ≡ h j (at ms j) ++ joined (collected h ms) (reverse (inner ms j))
+unfolding collected
 all-eq h ms old j =
     ap (λ (r : List ℕ). h j (at ms j) ++ r)
-    (joined-same (grow h ms j) (all h ms) (reverse (inner ms j))
+    (joined-same (grow h ms j) (collected h ms) (reverse (inner ms j))
     (λ c m. let o : c < j = old j c (rev-in (inner ms j) m) in agree h ms ms j (λ i l. refl) old j (suc c) c (omega arith) (omega arith) (omega arith)))
 
-pub all-old : (h : ℕ → ClosedFactor → List ℕ) (ms more : List ClosedFactor) → Older ms → (j : ℕ) → j < length ms → all h (ms ++ more) j ≡ all h ms j
-unfolding all
+pub all-old : (h : ℕ → ClosedFactor → List ℕ) (ms more : List ClosedFactor) → Older ms → (j : ℕ) → j < length ms → collected h (ms ++ more) j ≡ collected h ms j
+unfolding collected
 all-old h ms more old j l = sym (agree h ms (ms ++ more) (length ms) (λ i t. sym (List·getD-append ms more noMessage i t)) old (suc j) (suc j) j
     (omega arith) (omega arith) l)
 
 -- the message that is appended: itself, and what lies under the messages that it contains
 pub all-new : (h : ℕ → ClosedFactor → List ℕ) (ms : List ClosedFactor) (m : ClosedFactor) → Older ms → Older (ms ++ (m ∷ [])) → (x : ℕ)
-    → count x (all h (ms ++ (m ∷ [])) (length ms)) ≡ count x (h (length ms) m) + sum (λ c. count x (all h ms c)) (messagesIn (m .content))
+    → count x (collected h (ms ++ (m ∷ [])) (length ms)) ≡ count x (h (length ms) m) + sum (λ c. count x (collected h ms c)) (messagesIn (m .content))
 all-new h ms m old old′ x =
     ap (count x) (all-eq h ms′ old′ M)
-    ∙ count-append x (h M (at ms′ M)) (joined (all h ms′) (reverse (inner ms′ M)))
+    ∙ count-append x (h M (at ms′ M)) (joined (collected h ms′) (reverse (inner ms′ M)))
     ∙ ap₂ _+_ (ap (λ (e : ClosedFactor). count x (h M e)) new)
-    (count-joined x (all h ms′) (reverse (inner ms′ M))
-    ∙ sum-reverse (λ c. count x (all h ms′ c)) (inner ms′ M)
-    ∙ sum-same (λ c. count x (all h ms′ c)) (λ c. count x (all h ms c)) (inner ms′ M) (λ c k. ap (count x) (all-old h ms (m ∷ []) old c (old′ M c (mem-in k))))
-    ∙ ap (λ (e : ClosedFactor). sum (λ c. count x (all h ms c)) (messagesIn (e .content))) new)
+    (count-joined x (collected h ms′) (reverse (inner ms′ M))
+    ∙ sum-reverse (λ c. count x (collected h ms′ c)) (inner ms′ M)
+    ∙ sum-same (λ c. count x (collected h ms′ c)) (λ c. count x (collected h ms c)) (inner ms′ M) (λ c k. ap (count x) (all-old h ms (m ∷ []) old c (old′ M c (mem-in k))))
+    ∙ ap (λ (e : ClosedFactor). sum (λ c. count x (collected h ms c)) (messagesIn (e .content))) new)
   where
     M : ℕ
     M = length ms
@@ -77,13 +62,7 @@ all-new h ms m old old′ x =
     new = getD-append-seam ms m [] noMessage
 
 -- ---- the stack
-abbrev one : ℕ → ClosedFactor → List ℕ
-one j m = j ∷ []
-
-pub heavy : List ClosedFactor → List ℕ → ℕ
-heavy ms stack = sum (λ j. length (all one ms j)) stack
-
-pub heavy-one : (ms : List ClosedFactor) (j : ℕ) → heavy ms (j ∷ []) ≡ length (all (λ i m. i ∷ []) ms j)
+pub heavy-one : (ms : List ClosedFactor) (j : ℕ) → heavy ms (j ∷ []) ≡ length (collected (λ i m. i ∷ []) ms j)
 unfolding heavy sum
 heavy-one ms j = omega arith
 
@@ -92,17 +71,17 @@ unfolding heavy sum
 heavy-step ms old j stack =
     omega (
       arith,
-      ap length (all-eq one ms old j),
-      length-joined (all one ms) (reverse (inner ms j)),
-      sum-reverse (λ c. length (all one ms c)) (inner ms j),
-      sum-reverseAux (λ c. length (all one ms c)) (inner ms j) stack,
+      ap length (all-eq itself ms old j),
+      length-joined (collected itself ms) (reverse (inner ms j)),
+      sum-reverse (λ c. length (collected itself ms c)) (inner ms j),
+      sum-reverseAux (λ c. length (collected itself ms c)) (inner ms j) stack,
     )
 
 -- each message of the stack weighs something
 pub heavy-length : (ms : List ClosedFactor) → Older ms → (stack : List ℕ) → length stack ≤ heavy ms stack
 unfolding heavy sum
 heavy-length ms old [] = omega arith
-heavy-length ms old (j ∷ stack) = omega (arith, heavy-length ms old stack, ap length (all-eq one ms old j))
+heavy-length ms old (j ∷ stack) = omega (arith, heavy-length ms old stack, ap length (all-eq itself ms old j))
 
 -- more turns than the stack weighs change nothing
 pub turns-suffice : (ms : List ClosedFactor) → Older ms → (d e : ℕ) (stack : List ℕ) → heavy ms stack ≤ d → d ≤ e → popped ms e stack ≡ popped ms d stack
@@ -116,7 +95,7 @@ turns-suffice ms old (suc d) (suc e) (j ∷ stack) l m =
     ap (λ (r : List ℕ). j ∷ r) (turns-suffice ms old d e (reverseAux (inner ms j) stack) (omega (arith, heavy-step ms old j stack)) (omega arith))
 
 pub stack-all : (h : ℕ → ClosedFactor → List ℕ) (ms : List ClosedFactor) → Older ms → (d : ℕ) (stack : List ℕ) → heavy ms stack ≤ d
-    → joined (λ i. h i (at ms i)) (popped ms d stack) ≡ joined (all h ms) stack
+    → joined (λ i. h i (at ms i)) (popped ms d stack) ≡ joined (collected h ms) stack
 unfolding popped joined
 stack-all h ms old zero [] l = refl
 stack-all h ms old zero (j ∷ stack) l = absurd (omega (arith, heavy-step ms old j stack))
@@ -124,7 +103,7 @@ stack-all h ms old (suc d) [] l = refl
 stack-all h ms old (suc d) (j ∷ stack) l =
     ap (λ (r : List ℕ). h j (at ms j) ++ r)
     (stack-all h ms old d (reverseAux (inner ms j) stack) (omega (arith, heavy-step ms old j stack))
-    ∙ ap (joined (all h ms)) (reverseAux-eq (inner ms j) stack)
-    ∙ joined-append (all h ms) (reverse (inner ms j)) stack)
-    ∙ sym (append-assoc (h j (at ms j)) (joined (all h ms) (reverse (inner ms j))) (joined (all h ms) stack))
-    ∙ ap (λ (r : List ℕ). r ++ joined (all h ms) stack) (sym (all-eq h ms old j))
+    ∙ ap (joined (collected h ms)) (reverseAux-eq (inner ms j) stack)
+    ∙ joined-append (collected h ms) (reverse (inner ms j)) stack)
+    ∙ sym (append-assoc (h j (at ms j)) (joined (collected h ms) (reverse (inner ms j))) (joined (collected h ms) stack))
+    ∙ ap (λ (r : List ℕ). r ++ joined (collected h ms) stack) (sym (all-eq h ms old j))

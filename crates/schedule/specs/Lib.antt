@@ -1,8 +1,7 @@
--- The definitions of the schedule, and what they give on examples.
+-- The definitions of the schedule; `Messages` is inner.
 pub mod Count
 pub mod Pass
 pub mod Gather
 pub mod Plan
 pub mod Once
-pub mod Examples
-pub mod Random
+pub mod Messages

@@ -14,7 +14,7 @@ use Rattle.schedule.specs.Count.{count, from}
 use Rattle.schedule.specs.Pass.{at}
 use Rattle.schedule.specs.Gather.{Gathered}
 use Rattle.schedule.specs.Plan as lists
-use Rattle.schedule.proofs.Messages.{Settled}
+use Rattle.schedule.specs.Messages.{Settled}
 use Rattle.plan.specs.Plan.{planOf, Bounded}
 use Rattle.plan.specs.declared.gather.Gathered as arrays
 use Rattle.plan.specs.declared.plan.Plan.{Plan}

@@ -7,7 +7,7 @@ use borrow.Author.Needs.{needs}
 use Prim.Native.Nat.{_-_}
 use lib.ListN.{getD}
 use native.Mathlib.Omega.{arith}
-use Rattle.schedule.proofs.Trees.{heavy}
+use Rattle.schedule.specs.Messages.{heavy}
 use Rattle.plan.specs.Pass.{messagesOf, Ready}
 use Rattle.plan.specs.Gather.{Forest, stackOf}
 use Rattle.plan.proofs.gather.mark_leaves.Statement.{statement}
