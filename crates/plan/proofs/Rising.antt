@@ -17,9 +17,10 @@ use Rattle.schedule.specs.Count.{count, In, from}
 use Rattle.schedule.proofs.Counts.{count-nil}
 use Rattle.schedule.proofs.Demand3.{from-once}
 use Rattle.plan.specs.Mask.{has}
-use Rattle.plan.specs.Factors.{ifSo, keysOf, keysAt, noKeys, Masked}
+use Rattle.plan.specs.Factors.{keysOf, keysAt, Masked}
 use Rattle.plan.specs.Plan.{Ordered, Registered, Sound}
-use Rattle.plan.specs.declared.factors.FactorKeys.{FactorKeys}
+use Rattle.factor.specs.Factor.{past}
+use Rattle.factor.specs.declared.Factor.{Factor}
 use Rattle.plan.proofs.Membership.{from-snoc}
 
 -- the first numbers of a rising list
@@ -74,7 +75,7 @@ rising-ordered live order number n el eo some few =
     })
 
 -- ---- what the plan asks
-module _ (factors : List FactorKeys) (number n : ℕ) (reg : Registered factors number n) (keys : List ℕ) (masked : Masked factors number keys) where
+module _ (factors : List Factor) (number n : ℕ) (reg : Registered factors number n) (keys : List ℕ) (masked : Masked factors number keys) where
   -- a key of any set is registered
   low : (i j : ℕ) → T (has j (getD keys i 0)) → j < n
   low i j t = go (decLt i number)
@@ -82,8 +83,8 @@ module _ (factors : List FactorKeys) (number n : ℕ) (reg : Registered factors 
       listed : In j (keysAt factors number i)
       listed = ltb→lt 0 (count j (keysAt factors number i)) (subst T (masked i j) t)
 
-      put : (b : Bool) → ltb i number ≡ b → In j (ifSo b (keysOf (getD factors i noKeys)))
-      put b e = subst (λ (x : Bool). In j (ifSo x (keysOf (getD factors i noKeys)))) e listed
+      put : (b : Bool) → ltb i number ≡ b → In j (cond b (keysOf (getD factors i past)) [])
+      put b e = subst (λ (x : Bool). In j (cond x (keysOf (getD factors i past)) [])) e listed
 
       go : Dec (i < number) → j < n
       go (yes h) = reg .below i h j (put true (lt-ltb i number h))

@@ -11,10 +11,11 @@ use Rattle.schedule.specs.Plan as lists
 use Rattle.plan.specs.Mask.{has}
 use Rattle.plan.specs.Pass.{messagesOf, Ready, Live, Agrees}
 use Rattle.plan.specs.Gather.{Held, gatheredOf}
-use Rattle.plan.specs.Factors.{keysOf, noKeys, AllFit}
+use Rattle.plan.specs.Factors.{keysOf, AllFit}
 use Rattle.plan.specs.declared.gather.Gathered.{Gathered}
 use Rattle.plan.specs.declared.plan.Plan.{Plan}
-use Rattle.plan.specs.declared.factors.FactorKeys.{FactorKeys}
+use Rattle.factor.specs.Factor.{past}
+use Rattle.factor.specs.declared.Factor.{Factor}
 
 abbrev pub place : (k : ℕ) (order : List ℕ) → ℕ
 place k order = lists.place k order
@@ -53,8 +54,8 @@ pub record Bounded (n : ℕ) (p : Plan) : Type 0 where
   pub held : (k : ℕ) → k < n → Held (getD (p .at) k noGathered)
 
 -- What registration gives: the counts are within the limits, and each factor's keys are registered.
-pub record Registered (factors : List FactorKeys) (number n : ℕ) : Type 0 where
+pub record Registered (factors : List Factor) (number n : ℕ) : Type 0 where
   pub few : n ≤ max-variables
   pub some : number ≤ max-factors
   pub fits : AllFit factors number
-  pub below : (i : ℕ) → i < number → (j : ℕ) → In j (keysOf (getD factors i noKeys)) → j < n
+  pub below : (i : ℕ) → i < number → (j : ℕ) → In j (keysOf (getD factors i past)) → j < n

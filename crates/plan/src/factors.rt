@@ -1,21 +1,15 @@
-// From a table of the factors' keys to key sets.
+// From the factors of a graph to key sets.
 use crate::masks::single;
+use factor::Factor;
 use factor::limits::FACTORS;
-use factor::limits::KEYS;
 use factor::wide;
 ghost use Prim.Native.Nat.{_≤_};
 ghost use Rattle.factor.specs.Limits.{max-factors};
 ghost use Rattle.plan.specs.Mask.{Set};
 ghost use Rattle.plan.specs.Factors as spec;
 
-// The keys that a factor touches: the first `touched` of keys.
-pub struct FactorKeys {
-    pub touched: u8,
-    pub keys: [u8; KEYS],
-}
-
 // The keys of one factor as a set.
-pub fn mask_of(f: FactorKeys) -> u32
+pub fn mask_of(f: Factor) -> u32
     requires { ⌜ spec.Fits f ⌝ }
     ensures { λ r. ⌜ Set (spec.keysOf f) r ⌝ }
 {
@@ -31,7 +25,7 @@ pub fn mask_of(f: FactorKeys) -> u32
 }
 
 // The sets of all factors: of the first `count` their keys, of the others none.
-pub fn masks_of(factors: [FactorKeys; FACTORS], count: usize) -> [u32; FACTORS]
+pub fn masks_of(factors: [Factor; FACTORS], count: usize) -> [u32; FACTORS]
     requires { ⌜ count ≤ max-factors ⌝ }
     requires { ⌜ spec.AllFit factors count ⌝ }
     ensures { λ r. ⌜ spec.Masked factors count r ⌝ }

@@ -1,10 +1,10 @@
 // The plan of a graph: both passes along an order of the keys, and what each key gathers.
-use crate::factors::FactorKeys;
 use crate::factors::masks_of;
 use crate::gather::Gathered;
 use crate::gather::gather;
 use crate::pass::Pass;
 use crate::pass::full_pass;
+use factor::Factor;
 use factor::limits::FACTORS;
 use factor::limits::VARIABLES;
 ghost use mathlib.Core.Path.{_≡_};
@@ -96,7 +96,7 @@ fn make_plan(
 
 // The plan of the first `count` factors over n keys: over the first `lives` of the live originals, along an order of the keys.
 pub fn plan_of(
-    factors: [FactorKeys; FACTORS],
+    factors: [Factor; FACTORS],
     count: usize,
     live: [u8; FACTORS],
     lives: usize,

@@ -15,12 +15,11 @@ use Rattle.schedule.specs.Count.{from}
 use Rattle.schedule.specs.Plan as lists
 use Rattle.plan.specs.Factors.{keysAt}
 use Rattle.plan.specs.Plan.{planOf}
-use Rattle.plan.specs.declared.factors.FactorKeys.{FactorKeys}
 use Rattle.plan.specs.declared.plan.Plan.{Plan}
 use Rattle.plan.proofs.Rising.{take-from}
 use Rattle.plan_answer.specs.Answer.{answerOf}
 use Rattle.plan_answer.specs.declared.Plan as struct
-use Rattle.solver.specs.Plan.{graphPlan, noPlan, Answer, planned, answer, read, Table}
+use Rattle.solver.specs.Plan.{graphPlan, noPlan, Answer, planned, answer, read}
 use Rattle.solver.specs.declared.Arranged.{Arranged}
 use Rattle.solver.specs.declared.Planned.{Planned}
 use Rattle.solver.specs.declared.Outcome.the-variants.{Made, Refused}
@@ -28,16 +27,16 @@ use Rattle.solver.specs.Told.{outcomeTold, planTold}
 use Rattle.solver.proofs.Tables.{same-keys}
 
 -- all originals and all keys in their order, as the plan's code is given them: the plan is the graph's
-pub graph-plan : (g : Graph) (table : List FactorKeys) (live order : List ℕ) → valid g ≡ true → Table g max-factors table → live ≡ from 0 max-factors
+pub graph-plan : (g : Graph) (live order : List ℕ) → valid g ≡ true → live ≡ from 0 max-factors
     → order ≡ from 0 max-variables
-    → lists.plan (g .variables) (keysAt table (g .count)) (take (g .count) live) (take (g .variables) order) ≡ graphPlan g
+    → lists.plan (g .variables) (keysAt (g .factors) (g .count)) (take (g .count) live) (take (g .variables) order) ≡ graphPlan g
 unfolding graphPlan
-graph-plan g table live order v t el eo = rw (
+graph-plan g live order v el eo = rw (
   el,
   eo,
   take-from 0 max-factors (g .count) (valid-count g v),
   take-from 0 max-variables (g .variables) (valid-variables g v),
-  same-keys g table v t,
+  same-keys g,
 )
 
 pub made : (g : Graph) (p : Plan) → valid g ≡ true → planOf (g .variables) p ≡ graphPlan g

@@ -1,20 +1,14 @@
 -- The plan of a graph: the schedule's plan over the keys of its factors, all of them, with keys rising. Definitions only.
-use mathlib.Core.Path.{_≡_}
 use mathlib.Core.Bool.{cond}
-use mathlib.Core.List.{List, []}
-use Prim.Native.Nat.{ℕ, _<_}
-use lib.ListN.{length, getD}
-use Rattle.factor.specs.Limits.{max-factors, max-keys}
-use Rattle.factor.specs.declared.Factor.{Factor}
-use Rattle.graph.specs.Record.{factorAt, valid}
+use mathlib.Core.List.{[]}
+use Prim.Native.Nat.{ℕ}
+use Rattle.graph.specs.Record.{valid}
 use Rattle.graph.specs.declared.Graph.{Graph}
 use Rattle.graph.specs.declared.refusal.Refusal.the-variants.{NoSuchGraph}
 use Rattle.schedule.specs.Count.{from}
 use Rattle.schedule.specs.Plan as lists
 use Rattle.plan.specs.Plan.{planOf}
 use Rattle.plan_answer.specs.Answer.{answerOf}
-use Rattle.plan.specs.Factors.{noKeys}
-use Rattle.plan.specs.declared.factors.FactorKeys.{FactorKeys}
 use Rattle.messages.specs.Tables.{keysOf}
 use Rattle.solver.specs.declared.Arranged.{Arranged}
 use Rattle.solver.specs.declared.Planned.{Planned}
@@ -48,14 +42,3 @@ answer g = let a = planned g in record { outcome = a .outcome; keys = a .keys; p
 -- what the arrays of an answer hold
 unfoldable pub read : Arranged → Answer
 read r = record { outcome = r .outcome; keys = r .keys; plan = planOf (r .keys) (r .plan) }
-
--- ---- from the graph's record to the table that a plan is made from
-
-abbrev pub touchedBy : Factor → FactorKeys
-touchedBy f = record { touched = f .touched; keys = f .keys }
-
--- the table of the first n places
-pub record Table (g : Graph) (n : ℕ) (table : List FactorKeys) : Type 0 where
-  pub whole : length table ≡ max-factors
-  pub same : (i : ℕ) → i < n → getD table i noKeys ≡ touchedBy (factorAt g i)
-  pub long : (i : ℕ) → i < n → length (factorAt g i .keys) ≡ max-keys

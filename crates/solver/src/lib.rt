@@ -1,20 +1,16 @@
 // The plan of a graph, made before any arithmetic.
 pub mod run;
 
-use factor::Factor;
 use factor::limits::FACTORS;
-use factor::limits::KEYS;
 use factor::limits::VARIABLES;
 use graph::Graph;
 use graph::refusal::Refusal;
-use plan::factors::FactorKeys;
 use plan::plan::plan_of;
 use plan::plan::rise;
 use plan_answer::Plan;
 ghost use mathlib.Core.Path.{_≡_};
 ghost use Prim.Native.Nat.{_≤_};
-ghost use lib.ListN.{length};
-ghost use Rattle.factor.specs.Limits.{max-variables, max-factors, max-keys};
+ghost use Rattle.factor.specs.Limits.{max-variables};
 ghost use Rattle.plan.specs.Plan.{Bounded};
 ghost use Rattle.solver.specs.Plan as spec;
 ghost use Rattle.solver.specs.Told.{outcomeTold, planTold};
@@ -40,39 +36,12 @@ pub struct Planned {
     pub plan: Plan,
 }
 
-// What a plan needs to know of a factor.
-fn touched_by(f: Factor) -> FactorKeys
-    ensures { λ r. ⌜ (r ≡ spec.touchedBy f) × (length (f .keys) ≡ max-keys) ⌝ }
-{
-    let keys = f.keys;
-    FactorKeys {
-        touched: f.touched,
-        keys: keys,
-    }
-}
-
-// `touched_by` of every place of the graph's factors.
-fn table_of(g: Graph) -> [FactorKeys; FACTORS]
-    ensures { λ r. ⌜ spec.Table g max-factors r ⌝ }
-{
-    let none = FactorKeys {
-        touched: 0,
-        keys: [0; KEYS],
-    };
-    let mut table = [none; FACTORS];
-    for i in 0..FACTORS {
-        let f = g.factors[i];
-        table[i] = touched_by(f);
-    }
-    table
-}
-
 // The plan of a graph, in arrays: over all its factors, with keys rising. What stands past their counts is read by nobody.
 pub fn arrange(g: Graph) -> Arranged
     ensures { λ r. ⌜ spec.read r ≡ spec.planned g ⌝ }
     ensures { λ r. ⌜ (r .keys ≤ max-variables) × Bounded (r .keys) (r .plan) ⌝ }
 {
-    let table = table_of(g);
+    let factors = g.factors;
     let mut live = [0u8; FACTORS];
     let mut order = [0u8; VARIABLES];
     rise(&mut live);
@@ -81,7 +50,7 @@ pub fn arrange(g: Graph) -> Arranged
         return Arranged {
             outcome: Outcome::Refused(Refusal::NoSuchGraph),
             keys: 0,
-            plan: plan_of(table, 0, live, 0, order, 0),
+            plan: plan_of(factors, 0, live, 0, order, 0),
         };
     }
     let n = g.variables;
@@ -89,7 +58,7 @@ pub fn arrange(g: Graph) -> Arranged
     Arranged {
         outcome: Outcome::Made,
         keys: n,
-        plan: plan_of(table, count, live, count, order, n),
+        plan: plan_of(factors, count, live, count, order, n),
     }
 }
 

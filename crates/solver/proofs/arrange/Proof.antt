@@ -1,5 +1,4 @@
--- `solver::arrange` meets its contract: the table of the factors' keys meets what a plan asks for (`proofs/Tables.antt`), and rising lists are an
--- order. Assumes nothing.
+-- `solver::arrange` meets its contract: the factors of a valid graph are what a plan asks for (`proofs/Tables.antt`), and rising lists are an order. Assumes nothing.
 use mathlib.Core.Path.{_∙_}
 use native.Mathlib.Omega.{arith}
 use borrow.Author.Needs.{needs}
@@ -28,7 +27,7 @@ returns c = (
 plan-of-requires-2 : tie.Need-plan-of-requires-2
 plan-of-requires-2 c κs =
     let v = tells (c .before .valid .ensures .0) (not-false _ (c .if1 .left)) in (
-      registered _ _ v (c .before .before .before .before .before .before .before .before .table-of .ensures),
+      registered _ v,
       rising-ordered _ _ _ _ (c .before .before .before .before .before .before .rise .ensures) (c .before .before .before .rise2 .ensures)
           (valid-count _ v) (valid-variables _ v),
     )
@@ -36,15 +35,13 @@ plan-of-requires-2 c κs =
 returns-2 : tie.Need-returns-2
 returns-2 c =
     let v = tells (c .before .before .valid .ensures .0) (not-false _ (c .before .if1 .left)) in (
-      made _ _ v (c .plan-of2 .ensures .0 ∙ graph-plan _ _ _ _ v (c .before .before .before .before .before .before .before .before .before .table-of
-          .ensures) (c .before .before .before .before .before .before .before .rise .ensures) (c .before .before .before .before .rise2 .ensures)),
+      made _ _ v (c .plan-of2 .ensures .0 ∙ graph-plan _ _ _ v (c .before .before .before .before .before .before .before .rise .ensures) (c .before .before .before .before .rise2 .ensures)),
       (valid-variables _ v, c .plan-of2 .ensures .1),
     )
 
 pub arrange-spec : {M : Type 1} → statement M
 arrange-spec =
     tie.close (tie.spec
-    (λ c κs. search needs)  -- table-of-requires
     (λ c. search needs)  -- slice-aggregate-rise
     (λ c κs. search needs)  -- rise-requires
     (λ c. search needs)  -- slice-aggregate-rise-2

@@ -3,8 +3,9 @@
 use borrow.Author.Needs.{needs}
 use mathlib.Core.Path.{_≡_, ap, subst, _∙_}
 use Prim.Native.Nat.{ℕ, _≤_, _-_, _^_}
-use lib.ListN.{take}
+use lib.ListN.{length, take}
 use native.Mathlib.Omega.{arith}
+use Rattle.factor.specs.Limits.{max-keys}
 use Rattle.plan.specs.Mask.{Set}
 use Rattle.plan.proofs.Unions.{set-none, set-take}
 use Rattle.plan.proofs.factors.mask_of.Statement.{statement}
@@ -31,6 +32,7 @@ add-i c =
 
 loop-again : tie.Need-loop-again Inv-loop μ-loop
 loop-again c =
+    let long : length (c .before .before .before .before .before .before .args .t1 .keys) ≡ max-keys = search needs in
     let entry = c .before .before .before .before .before .before in
     let args = entry .args in
     let loop = c .before .before .before .before .loop in
@@ -38,7 +40,7 @@ loop-again c =
     let pre = entry .pre in
     let wide = c .before .before .before .before .before .wide in (
       omega arith,
-      set-take (args .t1 .keys) (loop .i) (loop .r) (single .result) (omega (arith, pre .few, pre .long, wide .ensures)) (loop .inv .1)
+      set-take (args .t1 .keys) (loop .i) (loop .r) (single .result) (omega (arith, pre .few, long, wide .ensures)) (loop .inv .1)
           (single .ensures ∙ ap (λ (x : ℕ). 2 ^ x) (c .before .wide2 .ensures)),
     )
 
