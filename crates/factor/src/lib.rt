@@ -1,7 +1,7 @@
-// A factor of the graph: its record and the layout of its blocks. `storing` has the numbers that are stored for it, `lists` what it needs of lists.
+// A factor of the graph: its record and the layout of its blocks. `weighing` has the numbers that are stored for it, `lists` what it needs of lists.
 pub mod limits;
 pub mod lists;
-pub mod storing;
+pub mod weighing;
 
 use limits::KEYS;
 use limits::ROWS;

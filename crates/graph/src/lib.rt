@@ -295,10 +295,10 @@ impl Graph {
         if store.len() < start + f.numbers(sizes) {
             return self.refused(Refusal::FactorStoreShort);
         }
-        if !factor::storing::given_finite(a, mean, variance) {
+        if !factor::weighing::given_finite(a, mean, variance) {
             return self.refused(Refusal::NotFinite);
         }
-        match factor::storing::store_factor(store, start, a, mean, variance, mean.len()) {
+        match factor::weighing::store_factor(store, start, a, mean, variance, mean.len()) {
             Exchanged::Done => {}
             Exchanged::Pivot => return self.refused(Refusal::VariancePivot),
             Exchanged::Unbounded => return self.refused(Refusal::NotFinite),

@@ -1,4 +1,4 @@
--- `factor::storing::given_finite` meets its contract, by its ways out. Assumes nothing.
+-- `factor::weighing::given_finite` meets its contract, by its ways out. Assumes nothing.
 use mathlib.Core.Bool.{and-true, false, true}
 use mathlib.Core.List.{List}
 use mathlib.Core.Path.{_∙_, _≡_}
@@ -9,8 +9,8 @@ use Rattle.factor.proofs.Counting.{tells}
 use Rattle.factor.specs.Counting.{every}
 use Rattle.factor.specs.Factor.{givenFinite}
 use Rattle.matrix.specs.Finite.{allFinite}
-use Rattle.factor.proofs.storing.given_finite.Statement.{statement}
-use Rattle.factor.proofs.storing.given_finite.Tie as tie
+use Rattle.factor.proofs.weighing.given_finite.Statement.{statement}
+use Rattle.factor.proofs.weighing.given_finite.Tie as tie
 
 -- the ways out, over plain values
 module _ (a mean variance : List Float) where

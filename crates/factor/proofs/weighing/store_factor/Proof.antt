@@ -1,4 +1,4 @@
--- `factor::storing::store_factor` meets its contract: its arrays have room for a factor of the most rows, and begin as zeros. Assumes nothing.
+-- `factor::weighing::store_factor` meets its contract: its arrays have room for a factor of the most rows, and begin as zeros. Assumes nothing.
 use Prim.Native.Nat.{_*_, _≤_, ℕ}
 use mathlib.Core.List.{List}
 use mathlib.Core.Path.{_≡_}
@@ -12,8 +12,8 @@ use Rattle.factor.proofs.Telling.{weighed-tells}
 use Rattle.factor.specs.Limits.{max-rows}
 use Rattle.cholesky.specs.Forms.{Lent}
 use Rattle.matrix.specs.Sums.{plus-zero}
-use Rattle.factor.proofs.storing.store_factor.Statement.{statement}
-use Rattle.factor.proofs.storing.store_factor.Tie as tie
+use Rattle.factor.proofs.weighing.store_factor.Statement.{statement}
+use Rattle.factor.proofs.weighing.store_factor.Tie as tie
 
 -- a square of the most rows has room
 room : (n : ℕ) → n ≤ max-rows → n * n ≤ max-rows * max-rows

@@ -1,4 +1,4 @@
--- `factor::storing::store_by` meets its contract: the slices hold the mean and the variance when they are exchanged, and A, xi and W are laid one after the
+-- `factor::weighing::store_by` meets its contract: the slices hold the mean and the variance when they are exchanged, and A, xi and W are laid one after the
 -- other. Assumes nothing.
 use Prim.Native.Nat.{_*_}
 use mathlib.Core.Path.{ap}
@@ -7,8 +7,8 @@ use borrow.Author.Needs.{needs}
 use lib.ListN.{length, length-replicate}
 use Rattle.factor.proofs.Storing.{at-overflow, at-pivot, when-done}
 use Rattle.matrix.specs.Sums.{plus-zero}
-use Rattle.factor.proofs.storing.store_by.Statement.{statement}
-use Rattle.factor.proofs.storing.store_by.Tie as tie
+use Rattle.factor.proofs.weighing.store_by.Statement.{statement}
+use Rattle.factor.proofs.weighing.store_by.Tie as tie
 
 returns : tie.Need-returns
 returns c =
