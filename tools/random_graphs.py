@@ -148,11 +148,11 @@ use Rattle.schedule.specs.Gather.{{Gathered}}
 use Rattle.schedule.specs.Plan.{{plan}}
 
 -- a message by its step, content, kept and cleared keys
-abbrev sent : ℕ → List Slot → List ℕ → List ℕ → ClosedFactor
+abbrev sent : (step : ℕ) (content : List Slot) (kept cleared : List ℕ) → ClosedFactor
 sent step content kept cleared = record {{ step = step; content = content; kept = kept; cleared = cleared }}
 
 -- what a key gathers: forward and backward messages, uncovered originals, all leaves, the keys cleared last
-abbrev got : List ℕ → List ℕ → List ℕ → List ℕ → List ℕ → Gathered
+abbrev got : (forward backward originals leaves last : List ℕ) → Gathered
 got forward backward originals leaves last = record {{ forward = forward; backward = backward; originals = originals; leaves = leaves; last = last }}
 """
 

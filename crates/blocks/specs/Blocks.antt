@@ -15,21 +15,21 @@ use Rattle.blocks.specs.declared.NextKey.the-variants.{Key, End}
 -- ---- the block columns
 
 -- the first column of the i-th key of a factor
-unfoldable pub column : List ℕ → List ℕ → ℕ → ℕ
+unfoldable pub column : (sizes keys : List ℕ) (i : ℕ) → ℕ
 column sizes keys zero = 0
 column sizes keys (suc i) = column sizes keys i + getD sizes (getD keys i 0) 0
 
 -- the block column of s columns from column c on: that part of A, which has y rows
-abbrev pub blockColumnOf : List Float → ℕ → ℕ → ℕ → List Float
+abbrev pub blockColumnOf : (a : List Float) (y c s : ℕ) → List Float
 blockColumnOf a y c s = part a (c * y) ((c + s) * y)
 
 -- each key with its block column, where the first block begins at column c
-unfoldable pub blocksFrom : List ℕ → ℕ → List Float → List ℕ → ℕ → List (ℕ × List Float)
+unfoldable pub blocksFrom : (sizes : List ℕ) (y : ℕ) (a : List Float) (keys : List ℕ) (c : ℕ) → List (ℕ × List Float)
 blocksFrom sizes y a [] c = []
 blocksFrom sizes y a (key ∷ keys) c = (key, blockColumnOf a y c (getD sizes key 0)) ∷ blocksFrom sizes y a keys (c + getD sizes key 0)
 
 -- the blocks of a factor of y rows
-abbrev pub blocksOf : List ℕ → List ℕ → ℕ → List Float → List (ℕ × List Float)
+abbrev pub blocksOf : (sizes keys : List ℕ) (y : ℕ) (a : List Float) → List (ℕ × List Float)
 blocksOf sizes keys y a = blocksFrom sizes y a keys 0
 
 -- ---- the reader
@@ -46,6 +46,6 @@ abbrev pub passed : Blocks → ℕ → Blocks
 passed b s = record { a = b .a; place = b .place + 1; column = b .column + s }
 
 -- the reader after the blocks of the first i keys
-unfoldable pub turned : RefT (List Float) → List ℕ → List ℕ → ℕ → Blocks
+unfoldable pub turned : (a : RefT (List Float)) (sizes keys : List ℕ) (i : ℕ) → Blocks
 turned a sizes keys zero = started a
 turned a sizes keys (suc i) = passed (turned a sizes keys i) (getD sizes (getD keys i 0) 0)

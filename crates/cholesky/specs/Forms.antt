@@ -1,4 +1,5 @@
--- The two forms of a Gaussian: mean and covariance, and xi and W. Each has a vector of n numbers and an n × n matrix, and each is made from the other by the same steps. Definitions only.
+-- The two forms of a Gaussian: mean and covariance, and xi and W. Each has a vector of n numbers and an n × n matrix, and each is made from the other by the
+-- same steps. Definitions only.
 use mathlib.Core.Path.{_≡_}
 use mathlib.Core.Bool.{cond}
 use mathlib.Core.List.{List}
@@ -15,23 +16,23 @@ use Rattle.cholesky.specs.declared.exchange.Exchanged.the-variants.{Done
 
 -- the vector and the matrix of the other form, or that the matrix given has a refused pivot, or that a number computed is not finite
 pub data Form : Type 0 where
-  form : List Float → List Float → Form
+  form : (x m : List Float) → Form
   noPivot : Form
   noNumber : Form
 
-unfoldable pub bounded : List Float → List Float → Form
+unfoldable pub bounded : (x m : List Float) → Form
 bounded x m = cond (allFinite x) (cond (allFinite m) (form x m) noNumber) noNumber
 
 -- with the Cholesky factor l of the matrix the vector is solved and the matrix inverted
-unfoldable pub exchangedBy : ℕ → List Float → Left → Form
+unfoldable pub exchangedBy : (n : ℕ) (x : List Float) → Left → Form
 exchangedBy n x (whole l) = bounded (solved l (columns n) n (columns n) 0 x) (inverted l (columns n) n (columns n) (replicate (n * n) plus-zero) n)
 exchangedBy n x (stuck l) = noPivot
 
-unfoldable pub exchanged : ℕ → List Float → List Float → Form
+unfoldable pub exchanged : (n : ℕ) (x m : List Float) → Form
 exchanged n x m = exchangedBy n x (factor (columns n) n m n)
 
 -- what the code answers, with what its slices then hold
-unfoldable pub told : Exchanged → List Float → List Float → Form
+unfoldable pub told : Exchanged → (x m : List Float) → Form
 told Done x m = form x m
 told Pivot x m = noPivot
 told Unbounded x m = noNumber

@@ -1,4 +1,5 @@
--- Demand 3, whole, as one claim about a list of registering calls. Keys and factors are read off what the calls answered and were given, never off the graph that they yield. Definitions only.
+-- Demand 3, whole, as one claim about a list of registering calls. Keys and factors are read off what the calls answered and were given, never off the graph
+-- that they yield. Definitions only.
 use mathlib.Core.Path.{_≡_}
 use mathlib.Core.Logic.{_≢_}
 use mathlib.Core.List.{List, [], _∷_, _++_, map, List·Memᴰ}
@@ -88,16 +89,18 @@ pub record Rests (keys : List ℕ) (factors : List Accepted) (p : lists.Plan) (k
 -- ---- what is claimed of a run
 
 -- what the last elimination of the key k comes to, which keeps k alone and clears the plan's other keys from what k gathered
-unfoldable pub solvedAt : Graph → List Float → lists.Plan → ℕ → Gathered → Found
+unfoldable pub solvedAt : (g : Graph) (factors : List Float) (p : lists.Plan) (k : ℕ) (q : Gathered) → Found
 solvedAt g factors p k q =
-    foundIn (sizeAt g k) (gaussian.eliminate (gatheredViews g factors p (values g factors (p .forward)) (values g factors (p .backward)) q) (k ∷ []) (q .last) (g .sizes))
+    foundIn (sizeAt g k)
+    (gaussian.eliminate (gatheredViews g factors p (values g factors (p .forward)) (values g factors (p .backward)) q) (k ∷ []) (q .last) (g .sizes))
 
 -- of all keys from k on
-unfoldable pub solvedFrom : Graph → List Float → lists.Plan → ℕ → List Gathered → List Found
+unfoldable pub solvedFrom : (g : Graph) (factors : List Float) (p : lists.Plan) (k : ℕ) (qs : List Gathered) → List Found
 solvedFrom g factors p k [] = []
 solvedFrom g factors p k (q ∷ qs) = solvedAt g factors p k q ∷ solvedFrom g factors p (k + 1) qs
 
--- The stores after an unrefused run: no elimination of the plan is refused, and what stands in the stores is what they come to from the factor store. Past that the stores are as they were.
+-- The stores after an unrefused run: no elimination of the plan is refused, and what stands in the stores is what they come to from the factor store. Past
+-- that the stores are as they were.
 pub record Exact (g : Graph) (p : lists.Plan) (factors messages marginals : List Float) (v : Verdict) : Type 0 where
   pub forward-made : stopFrom 0 (values g factors (p .forward)) ≡ none
   pub backward-made : stopFrom 0 (values g factors (p .backward)) ≡ none
@@ -122,7 +125,8 @@ pub record Whole (cs : List Call) : Type 0 where
   pub made : planned (graphOf cs) .outcome ≡ plans.Made
   pub for-each : length (planOf cs .at-key) ≡ length (registered fresh cs)
   -- behind each registered key stands the whole graph, once
-  pub rests : (k : ℕ) → In k (registered fresh cs) → (d : Gathered) → Rests (registered fresh cs) (accepted fresh cs) (planOf cs) k (getD (planOf cs .at-key) k d)
+  pub rests : (k : ℕ) → In k (registered fresh cs) → (d : Gathered)
+      → Rests (registered fresh cs) (accepted fresh cs) (planOf cs) k (getD (planOf cs .at-key) k d)
   -- no run gives the double-count refusal, whatever stores it is lent
   pub never-twice : (factors messages : List Float) (work : ℕ) (marginals : List Float) (stage key : ℕ)
       → run (graphOf cs) factors messages work marginals .answer .ended ≢ ended.Refused CountedTwice stage key
@@ -130,4 +134,5 @@ pub record Whole (cs : List Call) : Type 0 where
   pub exact : (factors messages : List Float) (work : ℕ) (marginals : List Float) → run (graphOf cs) factors messages work marginals .answer .ended ≡ ended.Done
       → Exact (graphOf cs) (planOf cs) factors messages marginals (run (graphOf cs) factors messages work marginals)
   -- where no key is registered no run gives a marginal: the marginal store is as it was
-  pub none-without-keys : registered fresh cs ≡ [] → (factors messages : List Float) (work : ℕ) (marginals : List Float) → run (graphOf cs) factors messages work marginals .marginals ≡ marginals
+  pub none-without-keys : registered fresh cs ≡ [] → (factors messages : List Float) (work : ℕ) (marginals : List Float)
+      → run (graphOf cs) factors messages work marginals .marginals ≡ marginals

@@ -82,11 +82,11 @@ made n cs = lentTo (record { graph = fresh; store = replicate n nan }) cs
 abbrev pub named : ℕ → List Float → Call
 named i store = variable (97, i) 1
 
-abbrev pub prior-on : ℕ → Float → Float → List Float → Call
+abbrev pub prior-on : (key : ℕ) (mean variance : Float) (store : List Float) → Call
 prior-on key mean variance store = register (prior key (mean ∷ []) (variance ∷ [])) store
 
 -- one row, variance 1
-abbrev pub observed : List ℕ → List Float → Float → List Float → Call
+abbrev pub observed : (keys : List ℕ) (a : List Float) (mean : Float) (store : List Float) → Call
 observed keys a mean store = register (observation keys 1 a (mean ∷ []) (one ∷ [])) store
 
 -- the prior and the observation of P4
@@ -115,7 +115,7 @@ abbrev pub planOf : Lent → lists.Plan
 planOf r = planned (r .graph) .plan
 
 -- a run over a store of n numbers for the messages, and of m for the marginals
-abbrev pub runOf : Lent → ℕ → ℕ → Verdict
+abbrev pub runOf : Lent → (n m : ℕ) → Verdict
 runOf r n m = run (r .graph) (r .store) (replicate n nan) work-numbers (replicate m nan)
 
 -- what a key gathers, as factors
@@ -125,7 +125,8 @@ noGathering = record { forward = []; backward = []; originals = []; leaves = [];
 abbrev pub gatheredAt : Lent → ℕ → List FactorView
 gatheredAt r k =
     let p = planOf r in
-    gatheredViews (r .graph) (r .store) p (values (r .graph) (r .store) (p .forward)) (values (r .graph) (r .store) (p .backward)) (getD (p .at-key) k noGathering)
+    gatheredViews (r .graph) (r .store) p (values (r .graph) (r .store) (p .forward)) (values (r .graph) (r .store) (p .backward))
+    (getD (p .at-key) k noGathering)
 
 -- P10: one row over two cleared keys of size 2, beside a kept key of size 1
 abbrev pub crossed : FactorView
@@ -141,7 +142,7 @@ abbrev pub four-bytes : List ℕ
 four-bytes = 0 ∷ 0 ∷ 0 ∷ 0 ∷ 0 ∷ 0 ∷ 0x10 ∷ 0x40 ∷ []
 
 -- a variable whose name has the letter a; of size 1
-abbrev pub sized-bytes : ℕ → ℕ → List ℕ
+abbrev pub sized-bytes : (index size : ℕ) → List ℕ
 sized-bytes index size = 0x56 ∷ 0x41 ∷ 0x61 ∷ 0 ∷ 0 ∷ 0 ∷ index ∷ 0 ∷ 0 ∷ 0 ∷ size ∷ []
 
 abbrev pub variable-bytes : ℕ → List ℕ
@@ -176,7 +177,8 @@ pub record Pairs : Type 0 where
       ∷ record { forward = 0 ∷ []; backward = []; originals = []; leaves = 0 ∷ 3 ∷ 2 ∷ 1 ∷ []; last = [] }
       ∷ []
   pub p6-rows : rowsOfAll (layoutOf (0 ∷ []) [] (pair .graph .sizes)) (nth (gatheredAt pair 0)) (length (gatheredAt pair 0)) ≡ 4
-  pub p6-branch : gaussian.eliminate (gatheredAt pair 0) (0 ∷ []) [] (pair .graph .sizes) ≡ gaussian.run false (frameOf 0 1 1) (layoutOf (0 ∷ []) [] (pair .graph .sizes)) (nth (gatheredAt pair 0)) 4
+  pub p6-branch : gaussian.eliminate (gatheredAt pair 0) (0 ∷ []) [] (pair .graph .sizes)
+      ≡ gaussian.run false (frameOf 0 1 1) (layoutOf (0 ∷ []) [] (pair .graph .sizes)) (nth (gatheredAt pair 0)) 4
   -- the run of that graph: both messages, and mean and covariance of both keys
   pub p4-run : runOf pair 7 5
       ≡ record {
@@ -192,7 +194,8 @@ pub record Pairs : Type 0 where
   pub p8 : answered (pair .graph) (observed (1 ∷ 1 ∷ []) (one ∷ one ∷ []) one (replicate 14 nan)) .outcome ≡ outcome.Refused KeysNotRising
   pub p8-number : numberOf KeysNotRising ≡ 3
   -- P9: an observation without keys is uncovered at every key; in a graph of two, the one of number 1
-  pub p9-every : (g : Graph) → valid g ≡ true → (i k : ℕ) → i < g .count → keysOf g i ≡ [] → k < g .variables → (d : Gathered) → In i (getD (planned g .plan .at-key) k d .originals)
+  pub p9-every : (g : Graph) → valid g ≡ true → (i k : ℕ) → i < g .count → keysOf g i ≡ [] → k < g .variables → (d : Gathered)
+      → In i (getD (planned g .plan .at-key) k d .originals)
   pub p9 : map (λ (q : Gathered). q .originals) (planOf keyless .at-key) ≡ (0 ∷ 1 ∷ []) ∷ (1 ∷ []) ∷ []
   -- P10: block (1, 0) of the cleared block has rows (3 6) and (4 8); it is 4 × 4, column by column
   pub p10 : withViews true (frameOf 4 1 1) (layoutOf (2 ∷ []) (0 ∷ 1 ∷ []) (2 ∷ 2 ∷ 1 ∷ [])) (nth (crossed ∷ [])) (begun true (frameOf 4 1 1)) 1 .s
@@ -202,11 +205,15 @@ pub record Pairs : Type 0 where
       ∷ zer ∷ zer ∷ float 0x4028000000000000 ∷ float 0x4030000000000000
       ∷ []
   -- P1 as a job: one that is read whole and registers no variable prints nothing, and so does one of no bytes
-  pub p1-every : (bytes : List ℕ) → readAll bytes (zeros factor-room) .answer .ended ≡ Whole → readAll bytes (zeros factor-room) .answer .graph .variables ≡ 0 → jobText bytes ≡ []
+  pub p1-every : (bytes : List ℕ) → readAll bytes (zeros factor-room) .answer .ended ≡ Whole → readAll bytes (zeros factor-room) .answer .graph .variables ≡ 0
+      → jobText bytes ≡ []
   pub p1-job : jobText [] ≡ []
   -- P2 as a job, of every size: `refused 16 3 0`
   pub p2-job : (size : ℕ) → 1 ≤ size → size ≤ max-size → jobText (sized-bytes 0 size) ≡ refusedWord ++ (32 ∷ 49 ∷ 54 ∷ 32 ∷ 51 ∷ 32 ∷ 48 ∷ 10 ∷ [])
   -- P3 and P8 as jobs: `0 4000000000000000 4010000000000000`; `refused 3 0 2`, since the third record is refused
   pub p3-job : jobText (variable-bytes 0 ++ prior-bytes)
-      ≡ (48 ∷ []) ++ (32 ∷ 52 ∷ 48 ∷ 48 ∷ 48 ∷ 48 ∷ 48 ∷ 48 ∷ 48 ∷ 48 ∷ 48 ∷ 48 ∷ 48 ∷ 48 ∷ 48 ∷ 48 ∷ 48 ∷ []) ++ (32 ∷ 52 ∷ 48 ∷ 49 ∷ 48 ∷ 48 ∷ 48 ∷ 48 ∷ 48 ∷ 48 ∷ 48 ∷ 48 ∷ 48 ∷ 48 ∷ 48 ∷ 48 ∷ 48 ∷ []) ++ (10 ∷ [])
+      ≡ (48 ∷ [])
+      ++ (32 ∷ 52 ∷ 48 ∷ 48 ∷ 48 ∷ 48 ∷ 48 ∷ 48 ∷ 48 ∷ 48 ∷ 48 ∷ 48 ∷ 48 ∷ 48 ∷ 48 ∷ 48 ∷ 48 ∷ [])
+      ++ (32 ∷ 52 ∷ 48 ∷ 49 ∷ 48 ∷ 48 ∷ 48 ∷ 48 ∷ 48 ∷ 48 ∷ 48 ∷ 48 ∷ 48 ∷ 48 ∷ 48 ∷ 48 ∷ 48 ∷ [])
+      ++ (10 ∷ [])
   pub p8-job : jobText (variable-bytes 0 ++ variable-bytes 1 ++ equal-bytes) ≡ refusedWord ++ (32 ∷ 51 ∷ 32 ∷ 48 ∷ 32 ∷ 50 ∷ 10 ∷ [])

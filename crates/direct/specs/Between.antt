@@ -14,7 +14,7 @@ use Rattle.direct.specs.declared.Checked.{Checked}
 use Rattle.direct.specs.declared.Checked.the-variants.{Passed, Stopped}
 
 -- the checks before 14, which look at no table
-unfoldable pub early : Graph → List ℕ → List ℕ → List ℕ → List Float → Checked
+unfoldable pub early : (g : Graph) (slots kept cleared : List ℕ) (factors : List Float) → Checked
 early g slots kept cleared factors =
     cond (not (valid g)) (Stopped NoSuchGraph)
     (cond (not (countsFit slots kept cleared)) (Stopped CountOutside)

@@ -12,7 +12,8 @@ use Rattle.factor.specs.declared.Factor.{Factor}
 use Rattle.graph.specs.Record.{factorAt, offset, valid}
 use Rattle.graph.specs.declared.Graph.{Graph}
 use Rattle.graph.specs.declared.refusal.Refusal.{Refusal}
-use Rattle.graph.specs.declared.refusal.Refusal.the-variants.{NeitherKeptNorCleared, CountOutside, KeptAndCleared, NoSuchKey, FactorStoreShort, StoreShort, ClearedPivot, ResultNotFinite, NoSuchGraph}
+use Rattle.graph.specs.declared.refusal.Refusal.the-variants.{NeitherKeptNorCleared, CountOutside, KeptAndCleared, NoSuchKey, FactorStoreShort}
+use Rattle.graph.specs.declared.refusal.Refusal.the-variants.{StoreShort, ClearedPivot, ResultNotFinite, NoSuchGraph}
 use Rattle.workspace.specs.Frames.{work-numbers}
 use Rattle.slots.specs.Limits.{max-slots}
 use Rattle.slots.specs.Layouts.{member, dimOf, layoutOf}
@@ -27,33 +28,33 @@ use Rattle.direct.specs.declared.Direct.the-variants.{Rows, Refused}
 -- ---- the checks
 
 -- 4: at most 128 slots, and at most 32 keys a list
-unfoldable pub countsFit : List ℕ → List ℕ → List ℕ → Bool
+unfoldable pub countsFit : (slots kept cleared : List ℕ) → Bool
 countsFit slots kept cleared = every (leb (length slots) max-slots ∷ leb (length kept) max-variables ∷ leb (length cleared) max-variables ∷ [])
 
 -- 9: both lists strictly rising, and no key in both
-unfoldable pub disjoint : List ℕ → List ℕ → Bool
+unfoldable pub disjoint : (kept cleared : List ℕ) → Bool
 disjoint kept cleared = all (λ i. not (member (getD kept i 0) cleared)) (length kept)
 
-unfoldable pub listsFit : List ℕ → List ℕ → Bool
+unfoldable pub listsFit : (kept cleared : List ℕ) → Bool
 listsFit kept cleared = every (rising kept ∷ rising cleared ∷ disjoint kept cleared ∷ [])
 
 -- 11: all keys registered, and all slots factors of the graph
-unfoldable pub allKnown : Graph → List ℕ → List ℕ → List ℕ → Bool
+unfoldable pub allKnown : (g : Graph) (slots kept cleared : List ℕ) → Bool
 allKnown g slots kept cleared = every (known (g .variables) kept ∷ known (g .variables) cleared ∷ known (g .count) slots ∷ [])
 
 -- 0: each key of a listed factor is cleared or kept
-unfoldable pub factorPlaced : List ℕ → List ℕ → Factor → Bool
+unfoldable pub factorPlaced : (kept cleared : List ℕ) (f : Factor) → Bool
 factorPlaced kept cleared f = all (λ j. member (keyAt f j) cleared || member (keyAt f j) kept) (f .touched)
 
-unfoldable pub allPlaced : Graph → List ℕ → List ℕ → List ℕ → Bool
+unfoldable pub allPlaced : (g : Graph) (slots kept cleared : List ℕ) → Bool
 allPlaced g slots kept cleared = all (λ i. factorPlaced kept cleared (factorAt g (getD slots i 0))) (length slots)
 
 -- the listed factors in their order, one listed twice standing twice
-unfoldable pub views : Graph → List ℕ → List Float → List FactorView
+unfoldable pub views : (g : Graph) (slots : List ℕ) (factors : List Float) → List FactorView
 views g slots factors = map (originalView g factors) slots
 
 -- 14: how many numbers the message has, by the rows of the views and the kept dimension
-unfoldable pub need : Graph → List ℕ → List ℕ → List FactorView → ℕ
+unfoldable pub need : (g : Graph) (kept cleared : List ℕ) (vs : List FactorView) → ℕ
 need g kept cleared vs =
     let d = dimOf (g .sizes) kept in
     numbersOf (messageRows (rowsOfAll (layoutOf kept cleared (g .sizes)) (nth vs) (length vs)) d) d
@@ -72,7 +73,7 @@ sent unbounded = refuse ResultNotFinite
 sent (message r a xi w) = send r (a ++ (xi ++ w))
 
 -- the checks in their order, over the lists, the factor store, and the lengths of the message store and the work store
-unfoldable pub verdict : Graph → List ℕ → List ℕ → List ℕ → List Float → ℕ → ℕ → Verdict
+unfoldable pub verdict : (g : Graph) (slots kept cleared : List ℕ) (factors : List Float) (room work : ℕ) → Verdict
 verdict g slots kept cleared factors room work =
     cond (not (valid g)) (refuse NoSuchGraph)
     (cond (not (countsFit slots kept cleared)) (refuse CountOutside)

@@ -9,7 +9,7 @@ use Rattle.factor.specs.Limits.{max-rows}
 use Rattle.factor.specs.Factor.{lay}
 
 -- a store after A, xi and W are stored from a place on; a refusal leaves it
-abbrev pub laid : Form → List Float → List Float → ℕ → List Float
+abbrev pub laid : Form → (a store : List Float) (at : ℕ) → List Float
 laid (form xi w) a store at = lay store at (a ++ xi ++ w)
 laid noPivot a store at = store
 laid noNumber a store at = store

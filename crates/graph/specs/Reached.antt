@@ -9,10 +9,10 @@ use Rattle.graph.specs.declared.Symbol.{Symbol}
 use Rattle.graph.specs.declared.Graph.{Graph}
 use Rattle.graph.specs.declared.Added.{Added}
 
--- what a factor's call is given: key, mean and variance; keys, rows, A, mean and variance
+-- what a factor's call is given
 pub data Exposure : Type 0 where
-  prior : ℕ → List Float → List Float → Exposure
-  observation : List ℕ → ℕ → List Float → List Float → List Float → Exposure
+  prior : (key : ℕ) (mean variance : List Float) → Exposure
+  observation : (keys : List ℕ) (rows : ℕ) (a mean variance : List Float) → Exposure
 
 -- a registering call with what it is given; a factor's also with the store that it is lent
 pub data Call : Type 0 where

@@ -1,7 +1,10 @@
 -- The number of each refusal. Definitions only.
 use Prim.Native.Nat.{ℕ}
 use Rattle.graph.specs.declared.refusal.Refusal.{Refusal}
-use Rattle.graph.specs.declared.refusal.Refusal.the-variants.{NeitherKeptNorCleared, NotALetter, SizeOutside, KeysNotRising, CountOutside, LengthUnlike, NotFinite, VariancePivot, BadRecord, KeptAndCleared, NameTaken, NoSuchKey, PastLimit, FactorStoreShort, StoreShort, ClearedPivot, MarginalPivot, ResultNotFinite, CountedTwice, NoSuchGraph}
+use Rattle.graph.specs.declared.refusal.Refusal.the-variants.{NeitherKeptNorCleared, NotALetter, SizeOutside, KeysNotRising, CountOutside}
+use Rattle.graph.specs.declared.refusal.Refusal.the-variants.{LengthUnlike, NotFinite, VariancePivot, BadRecord, KeptAndCleared, NameTaken, NoSuchKey}
+use Rattle.graph.specs.declared.refusal.Refusal.the-variants.{PastLimit, FactorStoreShort, StoreShort, ClearedPivot, MarginalPivot}
+use Rattle.graph.specs.declared.refusal.Refusal.the-variants.{ResultNotFinite, CountedTwice, NoSuchGraph}
 
 abbrev pub numberOf : Refusal → ℕ
 -- a direct elimination meets a key that is neither kept nor cleared

@@ -68,4 +68,6 @@ deciding-bytes = enough factor-room
 
 -- the first n bytes, or any more of them, decide the graph with its store, and so what is printed
 unfoldable pub Decide : ℕ → Type 0
-Decide n = (bytes : List ℕ) (most : ℕ) → n ≤ most → (readAll (take most bytes) (zeros factor-room) ≡ readAll bytes (zeros factor-room)) × (jobText (take most bytes) ≡ jobText bytes)
+Decide n =
+    (bytes : List ℕ) (most : ℕ) → n ≤ most
+    → (readAll (take most bytes) (zeros factor-room) ≡ readAll bytes (zeros factor-room)) × (jobText (take most bytes) ≡ jobText bytes)

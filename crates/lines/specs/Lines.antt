@@ -22,7 +22,7 @@ abbrev pub hexDigit : ℕ → ℕ
 hexDigit d = cond (ltb d 10) (48 + d) (55 + d)
 
 -- the first n of the 16 digits of a pattern of 64 bits
-unfoldable pub hexBy : ℕ → ℕ → List ℕ
+unfoldable pub hexBy : (n bits : ℕ) → List ℕ
 hexBy zero bits = []
 hexBy (suc n) bits = hexBy n bits ++ (hexDigit (bits / 2 ^ (60 - 4 * n) % 16) ∷ [])
 
@@ -35,7 +35,7 @@ abbrev pub number-bytes : ℕ
 number-bytes = 17
 
 -- n floats of a list, from a place on
-unfoldable pub numbersText : List Float → ℕ → ℕ → List ℕ
+unfoldable pub numbersText : (values : List Float) (from n : ℕ) → List ℕ
 numbersText values from zero = []
 numbersText values from (suc n) = numbersText values from n ++ numberText (getD values (from + n) nan)
 
@@ -45,7 +45,7 @@ numbersText values from (suc n) = numbersText values from n ++ numberText (getD 
 abbrev pub numbersOf : Graph → ℕ → ℕ
 numbersOf g k = momentNumbers (sizeAt g k)
 
-unfoldable pub lineText : ℕ → List Float → ℕ → ℕ → List ℕ
+unfoldable pub lineText : (key : ℕ) (values : List Float) (from n : ℕ) → List ℕ
 lineText key values from n = decimal key ++ numbersText values from n ++ (feed ∷ [])
 
 -- the lines of the first n keys
@@ -64,18 +64,18 @@ abbrev pub refusedWord : List ℕ
 refusedWord = 114 ∷ 101 ∷ 102 ∷ 117 ∷ 115 ∷ 101 ∷ 100 ∷ []
 
 -- number, stage and place
-unfoldable pub refusalText : ℕ → ℕ → ℕ → List ℕ
+unfoldable pub refusalText : (number stage place : ℕ) → List ℕ
 refusalText number stage place = refusedWord ++ fieldText number ++ fieldText stage ++ fieldText place ++ (feed ∷ [])
 
 -- ---- text in a lent buffer
 
 -- text put from a place on: the buffer, and the place after the text
-abbrev pub Puts : List ℕ → List ℕ → ℕ → ℕ → List ℕ → Type 0
+abbrev pub Puts : (out after : List ℕ) (at next : ℕ) (text : List ℕ) → Type 0
 Puts out after at next text = (after ≡ lay out at text) × (next ≡ at + length text)
 
 -- a text that fits stands at the buffer's start; a buffer that is too short is left as it was
-unfoldable pub written : List ℕ → List ℕ → Written
+unfoldable pub written : (out text : List ℕ) → Written
 written out text = cond (leb (length text) (length out)) (Length (length text)) Short
 
-unfoldable pub laidIn : List ℕ → List ℕ → List ℕ
+unfoldable pub laidIn : (out text : List ℕ) → List ℕ
 laidIn out text = cond (leb (length text) (length out)) (lay out 0 text) out

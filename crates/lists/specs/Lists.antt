@@ -1,4 +1,5 @@
--- The lists of an elimination, out of a plan's arrays. A slot's number in them: an original has its own, the forward messages follow the originals, and the backward ones follow the forward ones. Definitions only.
+-- The lists of an elimination, out of a plan's arrays. A slot's number in them: an original has its own, the forward messages follow the originals, and the
+-- backward ones follow the forward ones. Definitions only.
 use mathlib.Core.Path.{_≡_}
 use mathlib.Core.Bool.{cond}
 use mathlib.Core.List.{List, [], _∷_, _++_, map}
@@ -20,7 +21,7 @@ backward-shift = max-variables
 abbrev pub first-backward : ℕ
 first-backward = max-factors + backward-shift
 
-abbrev pub messageNumber : ℕ → ℕ → ℕ
+abbrev pub messageNumber : (shift j : ℕ) → ℕ
 messageNumber shift j = max-factors + shift + j
 
 -- the number of a slot of a pass
@@ -29,7 +30,7 @@ numberOf shift (original i) = i
 numberOf shift (closed j) = messageNumber shift j
 
 -- the same from the number that it has in the pass
-unfoldable pub raised : ℕ → ℕ → ℕ
+unfoldable pub raised : (shift s : ℕ) → ℕ
 raised shift s = cond (ltb s max-factors) s (s + shift)
 
 -- the lists hold the kept keys, the cleared keys and the slots of a message

@@ -31,21 +31,22 @@ use Rattle.marginals.specs.Marginals.{marginalNumbers, twice, Found, mis
 -- ---- by the tables
 
 -- what the last elimination of a key comes to, its slots read through the tables
-abbrev pub lastBy : List ℕ → List Float → List Float → List ℕ → List ℕ → ℕ → Gathered → Outcome
+abbrev pub lastBy : (sizes : List ℕ) (factors messages : List Float) (keys heads : List ℕ) (k : ℕ) (q : Gathered) → Outcome
 lastBy sizes factors messages keys heads k q = eliminate (viewsOf factors messages keys heads (gatheredNumbers q)) (k ∷ []) (q .last) sizes
 
-unfoldable pub foundAt : List ℕ → List Float → List Float → List ℕ → List ℕ → ℕ → Gathered → Found
-foundAt sizes factors messages keys heads k q = cond (twice (q .leaves)) (missing CountedTwice) (foundIn (getD sizes k 0) (lastBy sizes factors messages keys heads k q))
+unfoldable pub foundAt : (sizes : List ℕ) (factors messages : List Float) (keys heads : List ℕ) (k : ℕ) (q : Gathered) → Found
+foundAt sizes factors messages keys heads k q =
+    cond (twice (q .leaves)) (missing CountedTwice) (foundIn (getD sizes k 0) (lastBy sizes factors messages keys heads k q))
 
 -- the marginals of the keys from k on
-unfoldable pub foundFrom : List ℕ → List Float → List Float → List ℕ → List ℕ → ℕ → List Gathered → List Found
+unfoldable pub foundFrom : (sizes : List ℕ) (factors messages : List Float) (keys heads : List ℕ) (k : ℕ) (qs : List Gathered) → List Found
 foundFrom sizes factors messages keys heads k [] = []
 foundFrom sizes factors messages keys heads k (q ∷ qs) = foundAt sizes factors messages keys heads k q ∷ foundFrom sizes factors messages keys heads (k + 1) qs
 
 -- ---- what is asked for
 
 -- the last elimination of a key
-abbrev pub AskedAt : List ℕ → List Float → List Float → ℕ → List ℕ → List ℕ → ℕ → Gathered → Type 0
+abbrev pub AskedAt : (sizes : List ℕ) (factors messages : List Float) (work : ℕ) (keys heads : List ℕ) (k : ℕ) (q : Gathered) → Type 0
 AskedAt sizes factors messages work keys heads k q = Asked (k ∷ []) (q .last) sizes factors messages work keys heads (gatheredNumbers q)
 
 pub record Findable (g : Graph) (at : List arrays.Gathered) (factors messages : List Float) (work : ℕ) (keys heads : List ℕ) (results : ℕ) : Type 0 where
@@ -69,7 +70,8 @@ pub record Gatherable (g : Graph) (p : lists.Plan) (at : List arrays.Gathered) (
   pub long : g .variables ≤ length at
   pub gathers : p .at-key ≡ map gatheredOf (take (g .variables) at)
   pub held : (k : ℕ) → k < g .variables → Held (getD at k noGathered)
-  pub settled : (k : ℕ) → k < g .variables → Settled (g .variables) (keysOf g) (from 0 (g .count)) (p .forward) (p .backward) k (gatheredOf (getD at k noGathered))
+  pub settled : (k : ℕ) → k < g .variables
+      → Settled (g .variables) (keysOf g) (from 0 (g .count)) (p .forward) (p .backward) k (gatheredOf (getD at k noGathered))
   pub enough : offset g (g .count) ≤ length factors
   pub enough′ : need g (p .forward) + need g (p .backward) ≤ length messages
 
@@ -85,5 +87,7 @@ pub record Finds (all : List Found) (numbers : ℕ) (r : Carried) (before after 
   pub stand : r ≡ Through → after ≡ overlaid before (marginalsIn all)
 
 -- `Finds` holds for every plan p whose messages stand in these tables and stores
-abbrev pub FindsPlanned : Graph → List arrays.Gathered → List Float → List Float → List ℕ → List ℕ → Carried → List Float → List Float → Type 0
-FindsPlanned g at factors messages keys heads r before after = (p : lists.Plan) → Gatherable g p at factors messages keys heads → Finds (planned g factors p) (marginalNumbers g) r before after
+abbrev pub FindsPlanned : (g : Graph) (at : List arrays.Gathered) (factors messages : List Float) (keys heads : List ℕ)
+    (r : Carried) (before after : List Float) → Type 0
+FindsPlanned g at factors messages keys heads r before after =
+    (p : lists.Plan) → Gatherable g p at factors messages keys heads → Finds (planned g factors p) (marginalNumbers g) r before after

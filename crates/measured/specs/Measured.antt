@@ -30,7 +30,7 @@ numberIn (Rows rows) = rows
 numberIn (Refused why) = refused-mark + numberOf why
 
 -- a direct elimination of some of its factors
-unfoldable pub eliminated : Reading → List ℕ → List ℕ → List ℕ → ℕ → Verdict
+unfoldable pub eliminated : (r : Reading) (slots kept cleared : List ℕ) (room : ℕ) → Verdict
 eliminated r slots kept cleared room = verdict (r .answer .graph) slots kept cleared (r .store) room work-numbers
 
 -- the message and the marginal store
@@ -38,14 +38,14 @@ pub record Stores : Type 0 where
   pub messages : List Float
   pub marginals : List Float
 
-abbrev pub stores : List Float → List Float → Stores
+abbrev pub stores : (messages marginals : List Float) → Stores
 stores messages marginals = record { messages = messages; marginals = marginals }
 
 abbrev pub storesIn : solver.Verdict → Stores
 storesIn v = record { messages = v .messages; marginals = v .marginals }
 
 -- n runs, each over the stores that the one before left
-unfoldable pub again : Graph → List Float → Stores → ℕ → Stores
+unfoldable pub again : (g : Graph) (factors : List Float) (s : Stores) (n : ℕ) → Stores
 again g factors s zero = s
 again g factors s (suc n) = let t = again g factors s n in storesIn (solver.run g factors (t .messages) work-numbers (t .marginals))
 

@@ -36,7 +36,7 @@ abbrev pub firstOf : ℕ → ℕ
 firstOf number = max-keys * max-factors + max-variables * (number - max-factors)
 
 -- the rows of the message of these lists, by the heads of its slots
-abbrev pub rowsBy : List ℕ → List ℕ → List ℕ → List ℕ → List ℕ → List ℕ → ℕ
+abbrev pub rowsBy : (kept cleared slots sizes keys heads : List ℕ) → ℕ
 rowsBy kept cleared slots sizes keys heads = messageRows (rowsByAll (layoutOf kept cleared sizes) keys heads slots (length slots)) (dimOf sizes kept)
 
 -- what the placing of a message asks for

@@ -43,11 +43,11 @@ abbrev pub keys-length : ℕ
 keys-length = max-keys * max-factors + max-variables * (2 * backward-shift)
 
 -- where the keys of the message j begin
-abbrev pub firstKey : ℕ → ℕ → ℕ
+abbrev pub firstKey : (shift j : ℕ) → ℕ
 firstKey shift j = max-keys * max-factors + max-variables * (shift + j)
 
 -- the head of the message j, where the first message's numbers begin at a place of the message store
-abbrev pub messageHead : Graph → List ClosedFactor → ℕ → ℕ → ℕ → Head
+abbrev pub messageHead : (g : Graph) (ms : List ClosedFactor) (shift start j : ℕ) → Head
 messageHead g ms shift start j =
     record {
       slot = Closed (shift + j);
@@ -64,7 +64,7 @@ pub record Placed (g : Graph) (ms : List ClosedFactor) (shift start : ℕ) (keys
   pub head : headOf heads (messageNumber shift j) ≡ messageHead g ms shift start j
   pub key : (i : ℕ) → i < length (at ms j .kept) → getD keys (firstKey shift j + i) 0 ≡ getD (at ms j .kept) i 0
 
-abbrev pub PlacedTo : Graph → List ClosedFactor → ℕ → ℕ → List ℕ → List ℕ → ℕ → Type 0
+abbrev pub PlacedTo : (g : Graph) (ms : List ClosedFactor) (shift start : ℕ) (keys heads : List ℕ) (n : ℕ) → Type 0
 PlacedTo g ms shift start keys heads n = (j : ℕ) → j < n → Placed g ms shift start keys heads j
 
 -- the tables are of their lengths and have the originals

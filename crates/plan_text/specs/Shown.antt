@@ -26,7 +26,7 @@ endedAs outcome.Made laying.Short = Short
 endedAs (outcome.Refused why) w = Refused why
 
 -- a refused plan leaves the buffer as it was
-abbrev pub leftAs : Outcome → List ℕ → List ℕ → List ℕ
+abbrev pub leftAs : Outcome → (out after : List ℕ) → List ℕ
 leftAs outcome.Made out after = after
 leftAs (outcome.Refused why) out after = out
 

@@ -57,7 +57,7 @@ unfoldable pub namedText : List ℕ → ℕ → List ℕ
 namedText word n = word ++ fieldText n
 
 -- a word and the numbers of a list, which may have none
-unfoldable pub listText : List ℕ → List ℕ → List ℕ
+unfoldable pub listText : (word numbers : List ℕ) → List ℕ
 listText word numbers = word ++ joined fieldText numbers
 
 unfoldable pub contentText : List Slot → List ℕ

@@ -15,7 +15,7 @@ abbrev pub byteAt : List ℕ → ℕ → ℕ
 byteAt bytes at = getD bytes at 0
 
 -- fewer than n bytes stand from a place on
-abbrev pub cut : List ℕ → ℕ → ℕ → Bool
+abbrev pub cut : (bytes : List ℕ) (at n : ℕ) → Bool
 cut bytes at n = ltb (length bytes) (at + n)
 
 -- an unsigned number of 32 bits
@@ -32,12 +32,12 @@ listed f zero = []
 listed f (suc n) = listed f n ++ (f n ∷ [])
 
 -- n bytes as numbers, and n floats
-abbrev pub keysAt : List ℕ → ℕ → ℕ → List ℕ
+abbrev pub keysAt : (bytes : List ℕ) (at n : ℕ) → List ℕ
 keysAt bytes at n = listed (λ i. byteAt bytes (at + i)) n
 
-abbrev pub numbersAt : List ℕ → ℕ → ℕ → List Float
+abbrev pub numbersAt : (bytes : List ℕ) (at n : ℕ) → List Float
 numbersAt bytes at n = listed (λ i. numberAt bytes (at + float-bytes * i)) n
 
 -- an entry of the identity of n rows, by its place, column by column
-abbrev pub unitAt : ℕ → ℕ → Float
+abbrev pub unitAt : (n i : ℕ) → Float
 unitAt n i = cond (eqb (i % n) (i / n)) one plus-zero

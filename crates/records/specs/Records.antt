@@ -73,12 +73,12 @@ variableAt bytes at =
 -- ---- a prior: key, means and variance
 
 -- from the means on, of a key of size s
-unfoldable pub priorNumbers : List Float → List ℕ → ℕ → ℕ → ℕ → Request
+unfoldable pub priorNumbers : (store : List Float) (bytes : List ℕ) (key s at : ℕ) → Request
 priorNumbers store bytes key s at =
     cond (cut bytes at (float-bytes * (s + s * s))) (refuse BadRecord)
     (ask (register (prior key (numbersAt bytes at s) (numbersAt bytes (at + float-bytes * s) (s * s))) store) (at + float-bytes * (s + s * s)))
 
-unfoldable pub priorAt : Graph → List Float → List ℕ → ℕ → Request
+unfoldable pub priorAt : (g : Graph) (store : List Float) (bytes : List ℕ) (at : ℕ) → Request
 priorAt g store bytes at =
     cond (cut bytes at 1) (refuse BadRecord)
     (cond (not (ltb (byteAt bytes at) (g .variables))) (refuse NoSuchKey)
@@ -101,31 +101,36 @@ given Identity y = 0
 given Given y = y * y
 given Unknown y = 0
 
-abbrev pub varianceAt : Flag → List ℕ → ℕ → ℕ → List Float
+abbrev pub varianceAt : Flag → (bytes : List ℕ) (at y : ℕ) → List Float
 varianceAt Identity bytes at y = identityOf y
 varianceAt Given bytes at y = numbersAt bytes at (y * y)
 varianceAt Unknown bytes at y = []
 
 -- from the numbers on, of which A takes n
-unfoldable pub observedNumbers : List Float → List ℕ → List ℕ → ℕ → Flag → ℕ → ℕ → Request
+unfoldable pub observedNumbers : (store : List Float) (bytes keys : List ℕ) (rows : ℕ) (flag : Flag) (n at : ℕ) → Request
 observedNumbers store bytes keys rows flag n at =
     cond (cut bytes at (float-bytes * (n + rows + given flag rows))) (refuse BadRecord)
-    (ask (register (observation keys rows (numbersAt bytes at n) (numbersAt bytes (at + float-bytes * n) rows) (varianceAt flag bytes (at + float-bytes * (n + rows)) rows)) store) (at + float-bytes * (n + rows + given flag rows)))
+    (ask (register (observation keys rows
+    (numbersAt bytes at n)
+    (numbersAt bytes (at + float-bytes * n) rows)
+    (varianceAt flag bytes (at + float-bytes * (n + rows)) rows)) store)
+    (at + float-bytes * (n + rows + given flag rows)))
 
 -- from the judging of the keys on
-unfoldable pub observed : Graph → List Float → List ℕ → List ℕ → ℕ → Flag → ℕ → Request
+unfoldable pub observed : (g : Graph) (store : List Float) (bytes keys : List ℕ) (rows : ℕ) (flag : Flag) (at : ℕ) → Request
 observed g store bytes keys rows flag at =
     cond (not (rising keys)) (refuse KeysNotRising)
     (cond (not (known (g .variables) keys)) (refuse NoSuchKey)
     (observedNumbers store bytes keys rows flag (aNumbers (g .sizes) (observationOf keys rows)) at))
 
-unfoldable pub observationAt : Graph → List Float → List ℕ → ℕ → Request
+unfoldable pub observationAt : (g : Graph) (store : List Float) (bytes : List ℕ) (at : ℕ) → Request
 observationAt g store bytes at =
     cond (cut bytes at header-bytes) (refuse BadRecord)
     (cond (not (flagKnown (meaning (byteAt bytes (at + 2))))) (refuse BadRecord)
     (cond (not (countsFit (byteAt bytes at) (byteAt bytes (at + 1)))) (refuse CountOutside)
     (cond (cut bytes (at + header-bytes) (byteAt bytes at)) (refuse BadRecord)
-    (observed g store bytes (keysAt bytes (at + header-bytes) (byteAt bytes at)) (byteAt bytes (at + 1)) (meaning (byteAt bytes (at + 2))) (at + header-bytes + byteAt bytes at)))))
+    (observed g store bytes (keysAt bytes (at + header-bytes) (byteAt bytes at)) (byteAt bytes (at + 1)) (meaning (byteAt bytes (at + 2)))
+    (at + header-bytes + byteAt bytes at)))))
 
 -- ---- a record: a mark, then its kind
 
@@ -136,13 +141,13 @@ markOf a b =
     (cond (eqb a 0x50 && eqb b 0x52) mark.Prior
     (cond (eqb a 0x4F && eqb b 0x42) mark.Observation mark.Unmarked))
 
-abbrev pub marked : Mark → Graph → List Float → List ℕ → ℕ → Request
+abbrev pub marked : Mark → (g : Graph) (store : List Float) (bytes : List ℕ) (at : ℕ) → Request
 marked mark.Variable g store bytes at = variableAt bytes at
 marked mark.Prior g store bytes at = priorAt g store bytes at
 marked mark.Observation g store bytes at = observationAt g store bytes at
 marked mark.Unmarked g store bytes at = refuse BadRecord
 
-unfoldable pub recordAt : Graph → List Float → List ℕ → ℕ → Request
+unfoldable pub recordAt : (g : Graph) (store : List Float) (bytes : List ℕ) (at : ℕ) → Request
 recordAt g store bytes at =
     cond (cut bytes at mark-bytes) (refuse BadRecord)
     (marked (markOf (byteAt bytes at) (byteAt bytes (at + 1))) g store bytes (at + mark-bytes))
@@ -179,12 +184,12 @@ pub record Reading : Type 0 where
 abbrev pub reading : Graph → Ended → List Float → Reading
 reading g ended store = record { answer = record { graph = g; ended = ended }; store = store }
 
-abbrev pub onward : Next → Graph → List Float → ℕ → (ℕ → Reading) → Reading
+abbrev pub onward : Next → (g : Graph) (store : List Float) (place : ℕ) (rest : ℕ → Reading) → Reading
 onward (At next) g store place rest = rest next
 onward (Stop why) g store place rest = reading g (Refused why place) store
 
 -- The records from a byte on; `place` counts them from 0. Each takes two bytes or more, so as many turns as there are bytes suffice.
-unfoldable pub readFrom : ℕ → List ℕ → ℕ → ℕ → Graph → List Float → Reading
+unfoldable pub readFrom : (turns : ℕ) (bytes : List ℕ) (at place : ℕ) (g : Graph) (store : List Float) → Reading
 readFrom zero bytes at place g store = reading g Whole store
 readFrom (suc turns) bytes at place g store =
     cond (ltb at (length bytes))

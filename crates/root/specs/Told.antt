@@ -1,4 +1,5 @@
--- What an answer tells in numbers. A refused pivot alone has no number of document 01: it is 7 in a variance, 15 in a cleared block and 16 in a marginal. Definitions only.
+-- What an answer tells in numbers. A refused pivot alone has no number of document 01: it is 7 in a variance, 15 in a cleared block and 16 in a marginal.
+-- Definitions only.
 use Prim.Native.Nat.{ℕ}
 use mathlib.Core.Bool.{cond}
 use lib.Ieee.{Float, binary64, toBits}

@@ -30,7 +30,7 @@ use Rattle.solver.specs.declared.run.Ran.{Ran}
 use Rattle.solver.specs.declared.run.Stores.{Stores}
 use Rattle.solver.specs.declared.run.Stores.the-variants as stores
 
-abbrev pub verdict : Ran → List Float → List Float → Verdict
+abbrev pub verdict : (r : Ran) (messages marginals : List Float) → Verdict
 verdict r messages marginals = record { answer = r; messages = messages; marginals = marginals }
 
 -- What a run relies on in a plan. Any plan over originals of a valid graph, along any order of its keys, has it.
@@ -40,7 +40,8 @@ pub record Runnable (g : Graph) (q : lists.Plan) : Type 0 where
   pub forward-steps : (j : ℕ) → j < length (q .forward) → at (q .forward) j .step < g .variables
   pub backward-steps : (j : ℕ) → j < length (q .backward) → at (q .backward) j .step < g .variables
   pub for-each : length (q .at-key) ≡ g .variables
-  pub settled : (k : ℕ) → k < g .variables → (d : Gathered) → Settled (g .variables) (keysOf g) (from 0 (g .count)) (q .forward) (q .backward) k (getD (q .at-key) k d)
+  pub settled : (k : ℕ) → k < g .variables → (d : Gathered)
+      → Settled (g .variables) (keysOf g) (from 0 (g .count)) (q .forward) (q .backward) k (getD (q .at-key) k d)
   pub single : (k : ℕ) → k < g .variables → (d : Gathered) (f : ℕ) → count f (getD (q .at-key) k d .leaves) ≤ 1
 
 -- the arrays p hold the plan q, and it can be carried out
@@ -72,6 +73,8 @@ storesOf g figure factors messages work marginals =
     (cond (not (every (leb figure messages ∷ leb work-numbers work ∷ leb (marginalNumbers g) marginals ∷ []))) (stores.Short StoreShort) stores.Enough)
 
 -- what stage 3 comes to, for every plan whose messages stand in these tables and stores
-abbrev pub ThirdPlanned : Graph → List arrays.Gathered → ℕ → List Float → List Float → List ℕ → List ℕ → List Float → Ran → List Float → Type 0
+abbrev pub ThirdPlanned : (g : Graph) (at : List arrays.Gathered) (figure : ℕ) (factors messages : List Float) (keys heads : List ℕ)
+    (before : List Float) (r : Ran) (after : List Float) → Type 0
 ThirdPlanned g at figure factors messages keys heads before r after =
-    (q : lists.Plan) → Gatherable g q at factors messages keys heads → verdict r messages after ≡ third figure messages before (planned g factors q) (missingFrom 0 (planned g factors q))
+    (q : lists.Plan) → Gatherable g q at factors messages keys heads
+    → verdict r messages after ≡ third figure messages before (planned g factors q) (missingFrom 0 (planned g factors q))

@@ -11,7 +11,7 @@ abbrev pub feed : ℕ
 feed = 10
 
 -- in decimal, without leading zeros; each turn writes a digit
-unfoldable pub decimalBy : ℕ → ℕ → List ℕ
+unfoldable pub decimalBy : (turns n : ℕ) → List ℕ
 decimalBy zero n = []
 decimalBy (suc turns) n = cond (ltb n 10) ((48 + n) ∷ []) (decimalBy turns (n / 10) ++ ((48 + n % 10) ∷ []))
 

@@ -15,7 +15,7 @@ unfoldable pub next : ℕ → ℕ
 next at = cond (ltb at last-place) (at + 1) at
 
 -- the buffer after the text, from a place on; `set` leaves a list as it is where the place lies past its end
-unfoldable pub put : List ℕ → ℕ → List ℕ → List ℕ
+unfoldable pub put : (out : List ℕ) (at : ℕ) (text : List ℕ) → List ℕ
 put out at [] = out
 put out at (x ∷ text) = put (set out at x) (next at) text
 
