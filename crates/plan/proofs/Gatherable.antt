@@ -87,7 +87,7 @@ forest p n K N order e each =
         messages-length p,
         light (messagesOf p) (subst Older (sym e) (run .older))
             (subst (λ (ms : List ClosedFactor). (j : ℕ) → j < length ms → (x : ℕ)
-            → count x (Rattle.schedule.proofs.Trees.all Rattle.schedule.proofs.Runs.oneH ms j) ≤ count x (from 0 (length ms))) (sym e) (run .small))
+            → count x (Rattle.schedule.specs.Messages.collected Rattle.schedule.proofs.Runs.oneH ms j) ≤ count x (from 0 (length ms))) (sym e) (run .small))
             j (omega (arith, messages-length p)),
       );
     }
