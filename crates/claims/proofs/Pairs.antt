@@ -1,6 +1,6 @@
 -- P1 to P10, computed. Assumes nothing.
 use mathlib.Core.Path.{_≡_, refl, sym, ap, subst, _∙_}
-use mathlib.Core.Bool.{true, false}
+use mathlib.Core.Bool.{true}
 use mathlib.Core.List.{List, [], _∷_, _++_, map}
 use Prim.Native.Nat.{_-_}
 use lib.ListN.{length, getD, replicate}
@@ -22,6 +22,7 @@ use Rattle.schedule.specs.Gather.{Gathered}
 use Rattle.schedule.specs.Plan as lists
 use Rattle.workspace.specs.Frames.{work-numbers, frameOf}
 use Rattle.slots.specs.Layouts.{layoutOf}
+use Rattle.slots.specs.declared.Branch.the-variants.{X}
 use Rattle.slots.specs.Views.{FactorView, prior, likelihood, rowsOfAll, withViews}
 use Rattle.gaussian.specs.Elimination as gaussian
 use Rattle.gaussian.specs.Elimination.{message, nth}
@@ -183,7 +184,7 @@ rows-are : rowsOfAll (layoutOf (0 ∷ []) [] (graph .sizes)) (nth views) 4 ≡ 4
 unfolding rowsOfAll layoutOf
 rows-are = refl
 
-branch-is : gaussian.eliminate views (0 ∷ []) [] (graph .sizes) ≡ gaussian.run false (frameOf 0 1 1) (layoutOf (0 ∷ []) [] (graph .sizes)) (nth views) 4
+branch-is : gaussian.eliminate views (0 ∷ []) [] (graph .sizes) ≡ gaussian.run X (frameOf 0 1 1) (layoutOf (0 ∷ []) [] (graph .sizes)) (nth views) 4
 unfolding gaussian.eliminate gaussian.branched rowsOfAll layoutOf
 branch-is = refl
 
@@ -257,9 +258,9 @@ pairs =
           (subst (λ (vs : List FactorView). rowsOfAll (layoutOf (0 ∷ []) [] (graph .sizes)) (nth vs) (length vs) ≡ 4) (sym views-are) rows-are);
       p6-branch =
           of-pair (λ (r : Lent). gaussian.eliminate (gatheredAt r 0) (0 ∷ []) [] (r .graph .sizes)
-          ≡ gaussian.run false (frameOf 0 1 1) (layoutOf (0 ∷ []) [] (r .graph .sizes)) (nth (gatheredAt r 0)) 4)
+          ≡ gaussian.run X (frameOf 0 1 1) (layoutOf (0 ∷ []) [] (r .graph .sizes)) (nth (gatheredAt r 0)) 4)
           (subst (λ (vs : List FactorView). gaussian.eliminate vs (0 ∷ []) [] (graph .sizes)
-          ≡ gaussian.run false (frameOf 0 1 1) (layoutOf (0 ∷ []) [] (graph .sizes)) (nth vs) 4) (sym views-are) branch-is);
+          ≡ gaussian.run X (frameOf 0 1 1) (layoutOf (0 ∷ []) [] (graph .sizes)) (nth vs) 4) (sym views-are) branch-is);
       p4-run = of-pair (λ (r : Lent). runOf r 7 5 ≡ ended) run-is;
       p7-four = refl;
       p7-two = refl;

@@ -1,6 +1,6 @@
 -- The pairs P1 to P10 of document 01, as one statement about the definitions that the contracts cite. Definitions only.
 use mathlib.Core.Path.{_≡_}
-use mathlib.Core.Bool.{true, false}
+use mathlib.Core.Bool.{true}
 use mathlib.Core.List.{List, [], _∷_, _++_, map}
 use Prim.Native.Nat.{ℕ, _≤_, _<_}
 use lib.ListN.{length, getD, replicate}
@@ -22,6 +22,7 @@ use Rattle.schedule.specs.Gather.{Gathered}
 use Rattle.schedule.specs.Plan as lists
 use Rattle.workspace.specs.Frames.{work-numbers, frameOf}
 use Rattle.slots.specs.Layouts.{layoutOf}
+use Rattle.slots.specs.declared.Branch.the-variants.{Z, X}
 use Rattle.slots.specs.Views.{FactorView, likelihood, rowsOfAll, withViews}
 use Rattle.gaussian.specs.Elimination as gaussian
 use Rattle.gaussian.specs.Elimination.{nth, begun, message}
@@ -178,7 +179,7 @@ pub record Pairs : Type 0 where
       ∷ []
   pub p6-rows : rowsOfAll (layoutOf (0 ∷ []) [] (pair .graph .sizes)) (nth (gatheredAt pair 0)) (length (gatheredAt pair 0)) ≡ 4
   pub p6-branch : gaussian.eliminate (gatheredAt pair 0) (0 ∷ []) [] (pair .graph .sizes)
-      ≡ gaussian.run false (frameOf 0 1 1) (layoutOf (0 ∷ []) [] (pair .graph .sizes)) (nth (gatheredAt pair 0)) 4
+      ≡ gaussian.run X (frameOf 0 1 1) (layoutOf (0 ∷ []) [] (pair .graph .sizes)) (nth (gatheredAt pair 0)) 4
   -- the run of that graph: both messages, and mean and covariance of both keys
   pub p4-run : runOf pair 7 5
       ≡ record {
@@ -198,7 +199,7 @@ pub record Pairs : Type 0 where
       → In i (getD (planned g .plan .at-key) k d .originals)
   pub p9 : map (λ (q : Gathered). q .originals) (planOf keyless .at-key) ≡ (0 ∷ 1 ∷ []) ∷ (1 ∷ []) ∷ []
   -- P10: block (1, 0) of the cleared block has rows (3 6) and (4 8); it is 4 × 4, column by column
-  pub p10 : withViews true (frameOf 4 1 1) (layoutOf (2 ∷ []) (0 ∷ 1 ∷ []) (2 ∷ 2 ∷ 1 ∷ [])) (nth (crossed ∷ [])) (begun true (frameOf 4 1 1)) 1 .s
+  pub p10 : withViews Z (frameOf 4 1 1) (layoutOf (2 ∷ []) (0 ∷ 1 ∷ []) (2 ∷ 2 ∷ 1 ∷ [])) (nth (crossed ∷ [])) (begun Z (frameOf 4 1 1)) 1 .s
       ≡ one ∷ two ∷ three ∷ four
       ∷ two ∷ four ∷ float 0x4018000000000000 ∷ float 0x4020000000000000
       ∷ zer ∷ zer ∷ float 0x4022000000000000 ∷ float 0x4028000000000000

@@ -21,9 +21,9 @@ use Rattle.slots.specs.Tables.{headOf, storeOf, numbersOf, readView, rowsByAll}
 use Rattle.slots.specs.Fitting.{Counted}
 use Rattle.slots.specs.declared.layout.Layout.{Layout}
 use Rattle.slots.specs.declared.Head.{Head}
-use Rattle.gaussian.specs.Elimination.{nth}
+use Rattle.gaussian.specs.Elimination.{messageRows, nth}
 use Rattle.gaussian.specs.Answers.{viewsOf}
-use Rattle.gaussian.specs.Asked.{HeadFits, messageRows, Asked, Roomy}
+use Rattle.gaussian.specs.Asked.{HeadFits, Asked, Roomy}
 use Rattle.gaussian.proofs.Heads.{counted-head, rows-are}
 use Rattle.gaussian.proofs.Listing.{getD-map}
 use Rattle.tables.specs.Originals.{originalView, Originals}

@@ -1,19 +1,18 @@
 -- Tests of three parts and of a key, by the ways out of the functions that make them. Assumes nothing.
 use Prim.Native.Nat.{ℕ, _+_, _*_, _≤_}
-use mathlib.Core.Path.{_≡_, refl, sym}
-use mathlib.Core.Bool.{Bool, true, false, and-true, cond, _||_}
+use mathlib.Core.Path.{_≡_, sym}
+use mathlib.Core.Bool.{Bool, true, false, and-true, _||_}
 use mathlib.Core.List.{List, [], _∷_}
 use native.Mathlib.Nat.{mul-le-mul}
 use native.Mathlib.Omega.{arith}
-use borrow.Author.Tests.{leb-true}
-use lib.Dec.{leb}
 use lib.ListN.{length}
 use Rattle.factor.specs.Limits.{max-total}
 use Rattle.factor.specs.Counting.{every}
 use Rattle.slots.specs.Layouts.{member}
 use Rattle.slots.specs.Tables.{numbersOf, rowsByAll}
 use Rattle.slots.specs.declared.layout.Layout.{Layout}
-use Rattle.gaussian.specs.Asked.{messageRows}
+use Rattle.gaussian.specs.Elimination.{messageRows}
+use Rattle.gaussian.proofs.Lengths.{rows-few}
 
 module _ (a b c : Bool) where
   pub first-fails : a ≡ false → false ≡ every (a ∷ b ∷ c ∷ [])
@@ -32,17 +31,10 @@ pub key-tells : (kept cleared : List ℕ) (key k : ℕ) (r b : Bool) → key ≡
     → (member k cleared || member k kept) ≡ b
 key-tells kept cleared key k r b e er eb = rw (← e, ← er) eb
 
-pub rows-low : (y d : ℕ) → messageRows y d ≤ d
-rows-low y d = go (leb y d) refl
-  where
-    go : (b : Bool) → leb y d ≡ b → cond b y d ≤ d
-    go true e = leb-true y d e
-    go false e = omega arith
-
 -- the numbers of a message are few
 pub numbers-low : (r y d k : ℕ) → r ≡ messageRows y d → d ≡ k → k ≤ max-total → (r ≤ 32) × (r * d ≤ 1024) × (r * r ≤ 1024)
 numbers-low r y d k er ed h =
-    let a : r ≤ 32 = rw er (omega (arith, rows-low y d)) in
+    let a : r ≤ 32 = rw er (omega (arith, rows-few y d)) in
     let b : d ≤ 32 = omega arith in
     (a, mul-le-mul a b, mul-le-mul a a)
 

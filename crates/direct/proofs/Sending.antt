@@ -11,10 +11,9 @@ use Rattle.workspace.specs.Frames.{work-numbers}
 use Rattle.slots.specs.Layouts.{dimOf, layoutOf}
 use Rattle.slots.specs.Views.{FactorView}
 use Rattle.slots.specs.Tables.{numbersOf, rowsByAll}
-use Rattle.gaussian.specs.Elimination.{Outcome, pivot, unbounded, message, eliminate}
+use Rattle.gaussian.specs.Elimination.{messageRows, Outcome, pivot, unbounded, message, eliminate}
 use Rattle.gaussian.specs.Answers as gaussian
 use Rattle.gaussian.specs.Answers.{viewsOf}
-use Rattle.gaussian.specs.Asked.{messageRows}
 use Rattle.gaussian.specs.declared.Eliminated.{Eliminated}
 use Rattle.gaussian.specs.declared.Eliminated.the-variants as eliminated
 use Rattle.graph.specs.declared.Graph.{Graph}

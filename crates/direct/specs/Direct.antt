@@ -19,8 +19,7 @@ use Rattle.slots.specs.Limits.{max-slots}
 use Rattle.slots.specs.Layouts.{member, dimOf, layoutOf}
 use Rattle.slots.specs.Views.{FactorView, rowsOfAll}
 use Rattle.slots.specs.Tables.{numbersOf}
-use Rattle.gaussian.specs.Elimination.{Outcome, pivot, unbounded, message, nth, eliminate}
-use Rattle.gaussian.specs.Asked.{messageRows}
+use Rattle.gaussian.specs.Elimination.{messageRows, Outcome, pivot, unbounded, message, nth, eliminate}
 use Rattle.tables.specs.Originals.{originalView}
 use Rattle.direct.specs.declared.Direct.{Direct}
 use Rattle.direct.specs.declared.Direct.the-variants.{Rows, Refused}

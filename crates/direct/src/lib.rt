@@ -6,6 +6,7 @@ use factor::limits::VARIABLES;
 use factor::wide;
 use gaussian::Eliminated;
 use gaussian::eliminate_slots;
+use gaussian::message_rows;
 use graph::Graph;
 use graph::refusal::Refusal;
 use slots::count_rows;
@@ -27,7 +28,7 @@ ghost use Rattle.slots.specs.Layouts as of;
 ghost use Rattle.slots.specs.Layouts.{dimOf, layoutOf, Listed};
 ghost use Rattle.slots.specs.Tables.{numbersOf, rowsByAll};
 ghost use Rattle.slots.specs.Fitting.{Counted};
-ghost use Rattle.gaussian.specs.Asked.{messageRows};
+ghost use Rattle.gaussian.specs.Elimination.{messageRows};
 ghost use Rattle.tables.specs.Originals.{Originals};
 ghost use Rattle.direct.specs.Direct as spec;
 ghost use Rattle.direct.specs.Between.{early, Admitted};
@@ -158,13 +159,6 @@ fn check(g: Graph, slots: &[usize], kept: &[usize], cleared: &[usize], factors: 
         return Checked::Stopped(Refusal::FactorStoreShort);
     }
     Checked::Passed
-}
-
-// The message has all rows where they are at most the kept dimension, and as many as that otherwise.
-fn message_rows(y: usize, d: usize) -> usize
-    ensures { λ r. ⌜ r ≡ messageRows y d ⌝ }
-{
-    if y <= d { y } else { d }
 }
 
 // How many numbers the message has.

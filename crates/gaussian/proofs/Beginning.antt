@@ -1,7 +1,6 @@
 -- A work store that is all zero holds the sums before the first factor. Assumes nothing.
 use Prim.Native.Nat.{ℕ, _+_, _-_, _*_, _≤_, _<_}
 use mathlib.Core.Path.{_≡_, ap, _∙_, sym, subst}
-use mathlib.Core.Bool.{Bool, true, false}
 use mathlib.Core.List.{List}
 use native.Mathlib.Omega.{arith}
 use native.Mathlib.Nat.{zero-add}
@@ -17,6 +16,8 @@ use Rattle.workspace.specs.Frames.{cut, Laid}
 use Rattle.workspace.specs.declared.Frame.{Frame}
 use Rattle.workspace.specs.declared.Part.the-variants.{A}
 use Rattle.workspace.proofs.Parts.{length-part, getD-part, length-splice, splice-in, zeroed-is}
+use Rattle.slots.specs.declared.Branch.{Branch}
+use Rattle.slots.specs.declared.Branch.the-variants.{Z, X}
 use Rattle.gaussian.specs.Elimination.{begun}
 
 module _ (f : Frame) (w x : List Float) (l : Laid f (length w)) (e : x ≡ zeroed (part w 0 (f .end)) (length (part w 0 (f .end)))) where
@@ -45,7 +46,7 @@ module _ (f : Frame) (w x : List Float) (l : Laid f (length w)) (e : x ≡ zeroe
       ext-getD nan _ _ (r ∙ sym (length-replicate n plus-zero))
       (λ k b′. getD-part (splice w 0 (f .end) x) a b k (omega arith) ∙ at-zero (a + k) (omega arith) ∙ sym (getD-replicate n k plus-zero nan (omega arith)))
 
-  all-zero : cut f t ≡ begun true f
+  all-zero : cut f t ≡ begun Z f
   unfolding begun
   all-zero =
       rw (
@@ -57,12 +58,13 @@ module _ (f : Frame) (w x : List Float) (l : Laid f (length w)) (e : x ≡ zeroe
         part-zero (f .w) (f .end) (f .rows * f .rows) (omega arith) (omega arith),
       )
 
-  pub begun-z : (z : Bool) → z ≡ true → cut f t ≡ begun z f
-  begun-z z ez = rw ez all-zero
+  pub begun-z : (branch : Branch) → branch ≡ Z → cut f t ≡ begun branch f
+  begun-z branch ez = rw ez all-zero
 
-  pub begun-x : (z : Bool) (σ : Sums) → z ≡ false → σ ≡ change A (λ c. filledDiagonal (columns (f .rows)) one c (f .rows)) (cut f t) → σ ≡ begun z f
+  pub begun-x : (branch : Branch) (σ : Sums) → branch ≡ X → σ ≡ change A (λ c. filledDiagonal (columns (f .rows)) one c (f .rows)) (cut f t) → σ
+      ≡ begun branch f
   unfolding begun change
-  begun-x z σ ez es = rw ez (es ∙ ap (change A (λ c. filledDiagonal (columns (f .rows)) one c (f .rows))) all-zero)
+  begun-x branch σ ez es = rw ez (es ∙ ap (change A (λ c. filledDiagonal (columns (f .rows)) one c (f .rows))) all-zero)
 
   pub begun-long : length t ≡ length w
   begun-long = length-splice w 0 (f .end) x (omega arith) (l .fits) x-long

@@ -1,10 +1,8 @@
 -- The branch that the rows choose is the definition's, and what is asked for holds in it. Assumes nothing.
 use Prim.Native.Nat.{ℕ, _+_, _-_, _≤_, _<_}
-use mathlib.Core.Path.{_≡_, ap, _∙_, subst}
-use mathlib.Core.Bool.{Bool, cond}
+use mathlib.Core.Path.{_≡_, ap, _∙_, sym, subst}
 use mathlib.Core.List.{List}
 use native.Mathlib.Omega.{arith}
-use lib.Dec.{leb}
 use lib.ListN.{length, getD}
 use lib.Ieee.{Float}
 use Rattle.matrix.specs.Views.{part, splice}
@@ -16,36 +14,43 @@ use Rattle.slots.specs.Limits.{scratch-numbers}
 use Rattle.slots.specs.Views.{rowsOfAll}
 use Rattle.slots.specs.Tables.{headOf, numbersOf, viewAt, rowsByAll}
 use Rattle.slots.specs.Fitting.{Ready}
+use Rattle.slots.specs.declared.Branch.{Branch}
+use Rattle.slots.specs.declared.Branch.the-variants.{X}
 use Rattle.slots.specs.declared.layout.Layout.{Layout}
-use Rattle.gaussian.specs.Elimination.{Outcome, run, branched}
+use Rattle.gaussian.specs.Elimination.{branchOf, rowsFor, messageRows, Outcome, run, branched}
 use Rattle.gaussian.specs.Answers.{answer, numbersIn, leftIn, branchedAt}
 use Rattle.gaussian.specs.Asked.{Whole, frameFor}
 use Rattle.gaussian.specs.declared.Eliminated.{Eliminated}
+
+-- the rows of a message, once its branch is known
+pub rows-in : {branch : Branch} (y d : ℕ) → branchOf y d ≡ branch → rowsFor branch y d ≡ messageRows y d
+rows-in y d e = rw (← e)
 
 -- the same dimensions and the same outcome
 pub left-same : (u v d e : ℕ) (t : List Float) (o p : Outcome) → u ≡ v → d ≡ e → o ≡ p → leftIn u d t o ≡ numbersIn o → leftIn v e t p ≡ numbersIn p
 left-same u v d e t o p eu ed eo h = rw (eu, ed, eo) at h
 
 module _ {u d : ℕ} {m : Layout} {factors messages : List Float} {work : ℕ} {keys heads slots : List ℕ} (q : Whole u d m factors messages work keys heads slots)
-    {y r : ℕ} {z : Bool} {f : Frame} (ey : y ≡ rowsByAll m keys heads slots (length slots)) (ez : leb y d ≡ z) (er : cond z y d ≡ r)
-    (ef : f ≡ frameOf u r d) where
-  same-z : leb (rowsByAll m keys heads slots (length slots)) d ≡ z
-  same-z = rw (← ey) ez
+    {y r : ℕ} {branch : Branch} {f : Frame} (ey : y ≡ rowsByAll m keys heads slots (length slots)) (eb : branch ≡ branchOf y d)
+    (er : r ≡ messageRows y d) (ef : f ≡ frameOf u r d) where
+  same-branch : branchOf (rowsByAll m keys heads slots (length slots)) d ≡ branch
+  same-branch = rw (← ey) (sym eb)
 
   same-f : frameFor u d (rowsByAll m keys heads slots (length slots)) ≡ f
-  same-f = rw (← ey, ez, er, ef)
+  same-f = rw (← ey, ef, er)
 
-  pub ready-is : (i : ℕ) → i < length slots → Ready f m z (rowsOfAll m (viewAt factors messages keys heads slots) i) factors messages keys
+  pub ready-is : (i : ℕ) → i < length slots → Ready f m branch (rowsOfAll m (viewAt factors messages keys heads slots) i) factors messages keys
       scratch-numbers (headOf heads (getD slots i 0))
   ready-is i h =
-      subst (λ (g : Frame). Ready g m z (rowsOfAll m (viewAt factors messages keys heads slots) i) factors messages keys scratch-numbers
+      subst (λ (g : Frame). Ready g m branch (rowsOfAll m (viewAt factors messages keys heads slots) i) factors messages keys scratch-numbers
       (headOf heads (getD slots i 0))) same-f
-      (subst (λ (b : Bool). Ready (frameFor u d (rowsByAll m keys heads slots (length slots))) m b
-      (rowsOfAll m (viewAt factors messages keys heads slots) i) factors messages keys scratch-numbers (headOf heads (getD slots i 0))) same-z (q .ready i h))
+      (subst (λ (b : Branch). Ready (frameFor u d (rowsByAll m keys heads slots (length slots))) m b
+      (rowsOfAll m (viewAt factors messages keys heads slots) i) factors messages keys scratch-numbers (headOf heads (getD slots i 0))) same-branch
+      (q .ready i h))
 
-  run-is : run z f m (viewAt factors messages keys heads slots) (length slots) ≡ branchedAt u d m factors messages keys heads slots
+  run-is : run branch f m (viewAt factors messages keys heads slots) (length slots) ≡ branchedAt u d m factors messages keys heads slots
   unfolding branchedAt branched
-  run-is = rw (← q .rows, same-z, ← same-f, same-z)
+  run-is = rw (← q .rows, ← same-branch, ← same-f)
 
   cleared-is : f .cleared ≡ u
   unfolding frameOf
@@ -55,17 +60,18 @@ module _ {u d : ℕ} {m : Layout} {factors messages : List Float} {work : ℕ} {
   unfolding frameOf
   kept-is = rw ef
 
-  pub branch-is : (a : Eliminated) (t : List Float) → a ≡ answer (run z f m (viewAt factors messages keys heads slots) (length slots))
-      → leftIn (f .cleared) (f .kept) t (run z f m (viewAt factors messages keys heads slots) (length slots))
-      ≡ numbersIn (run z f m (viewAt factors messages keys heads slots) (length slots))
+  pub branch-is : (a : Eliminated) (t : List Float) → a ≡ answer (run branch f m (viewAt factors messages keys heads slots) (length slots))
+      → leftIn (f .cleared) (f .kept) t (run branch f m (viewAt factors messages keys heads slots) (length slots))
+      ≡ numbersIn (run branch f m (viewAt factors messages keys heads slots) (length slots))
       → (a ≡ answer (branchedAt u d m factors messages keys heads slots)) ×
       (leftIn u d t (branchedAt u d m factors messages keys heads slots) ≡ numbersIn (branchedAt u d m factors messages keys heads slots))
   branch-is a t ea et = (ea ∙ ap answer run-is, left-same _ _ _ _ t _ _ cleared-is kept-is run-is et)
 
 -- in x there are as many rows as kept columns
-pub frame-square : (u d : ℕ) (f : Frame) → f ≡ frameOf u d d → f .rows ≡ f .kept
+pub frame-square : (u d y r : ℕ) (branch : Branch) (f : Frame) → branch ≡ branchOf y d → r ≡ messageRows y d → f ≡ frameOf u r d → branch ≡ X
+    → f .rows ≡ f .kept
 unfolding frameOf
-frame-square u d f e = rw e
+frame-square u d y r branch f eb er ef e = rw (ef, er, ← eb, e)
 
 -- ---- where the message stands in the work store
 

@@ -7,6 +7,7 @@ use lib.Ieee.{Float, binary64, ofBits, fin}
 use Rattle.workspace.specs.Frames.{frameOf}
 use Rattle.slots.specs.Layouts.{layoutOf}
 use Rattle.slots.specs.Views.{FactorView, prior, likelihood, rowsOfAll, withViews}
+use Rattle.slots.specs.declared.Branch.the-variants.{Z, X}
 use Rattle.gaussian.proofs.Computing.{computed}
 use Rattle.gaussian.specs.Elimination.{eliminate, branched, run, begun, nth, pivot, unbounded, message}
 
@@ -50,13 +51,13 @@ unfolding rowsOfAll layoutOf
 p6-rows = refl
 
 p6 : eliminate (back ∷ p0 ∷ p0 ∷ p0 ∷ []) (0 ∷ []) [] (1 ∷ 1 ∷ [])
-    ≡ run false (frameOf 0 1 1) (layoutOf (0 ∷ []) [] (1 ∷ 1 ∷ [])) (nth (back ∷ p0 ∷ p0 ∷ p0 ∷ [])) 4
+    ≡ run X (frameOf 0 1 1) (layoutOf (0 ∷ []) [] (1 ∷ 1 ∷ [])) (nth (back ∷ p0 ∷ p0 ∷ p0 ∷ [])) 4
 unfolding eliminate branched rowsOfAll layoutOf
 p6 = refl
 
 -- P10: cleared blocks (1 2) and (3 4), W 1. Block (1, 0) of S has rows (3 6) and (4 8); S is 4 × 4, column by column.
-p10 : withViews true (frameOf 4 1 1) (layoutOf [] (0 ∷ 1 ∷ []) (2 ∷ 2 ∷ []))
-    (nth (likelihood (0 ∷ 1 ∷ []) 1 (one ∷ two ∷ three ∷ four ∷ []) (zer ∷ []) (one ∷ []) ∷ [])) (begun true (frameOf 4 1 1)) 1 .s
+p10 : withViews Z (frameOf 4 1 1) (layoutOf [] (0 ∷ 1 ∷ []) (2 ∷ 2 ∷ []))
+    (nth (likelihood (0 ∷ 1 ∷ []) 1 (one ∷ two ∷ three ∷ four ∷ []) (zer ∷ []) (one ∷ []) ∷ [])) (begun Z (frameOf 4 1 1)) 1 .s
     ≡ one ∷ two ∷ three ∷ four ∷ two ∷ four ∷ fin false 3 (pos 1) ∷ fin false 1 (pos 3) ∷ zer ∷ zer ∷ fin false 9 (pos 0) ∷ fin false 3 (pos 2) ∷ zer
     ∷ zer ∷ fin false 3 (pos 2) ∷ fin false 1 (pos 4) ∷ []
 unfolding computed

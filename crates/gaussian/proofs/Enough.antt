@@ -5,7 +5,6 @@ use mathlib.Core.Bool.{Bool, true, false, cond, _||_}
 use mathlib.Core.List.{List, []}
 use native.Mathlib.Decide.{decLt}
 use native.Mathlib.Omega.{arith}
-use lib.Dec.{leb}
 use lib.ListN.{length, getD}
 use lib.Ieee.{Float}
 use Rattle.matrix.specs.Views.{part}
@@ -16,11 +15,14 @@ use Rattle.slots.specs.Layouts.{member, dimOf, firstOf, layoutOf}
 use Rattle.slots.specs.Views.{FactorView, rowsOf, rowsOfAll}
 use Rattle.slots.specs.Tables.{headOf, keysAt, storeOf, numbersOf, viewAt, rowsBy, rowsByAll}
 use Rattle.slots.specs.Fitting.{KnownKey, Fitted, Ready}
+use Rattle.slots.specs.declared.Branch.{Branch}
+use Rattle.slots.specs.declared.Branch.the-variants.{Z, X}
 use Rattle.slots.specs.declared.layout.Layout.{Layout}
 use Rattle.slots.specs.declared.Head.{Head}
 use Rattle.slots.proofs.LayoutTables.{first-fits, getD-table}
 use Rattle.slots.proofs.Reading.{rows-bound}
 use Rattle.gaussian.proofs.Heads.{size-is, count-is, key-at, prior-size, counted-head, rows-are}
+use Rattle.gaussian.specs.Elimination.{branchOf}
 use Rattle.gaussian.specs.Asked.{KeyFits, HeadFits, Asked, Whole, frameFor}
 
 -- ---- a key
@@ -58,11 +60,11 @@ module _ (kept cleared sizes : List ℕ) (len : length sizes ≡ max-variables) 
   -- ---- a slot's head
 
   module _ (keys : List ℕ) (store : ℕ) (h : Head) (k : HeadFits kept cleared sizes keys store h) where
-    fitted : (z : Bool) (r row : ℕ) → (z ≡ false → r ≡ dimOf sizes kept) → (z ≡ true → row + rowsBy (layoutOf kept cleared sizes) keys h ≤ r)
-        → Fitted (frameOf (dimOf sizes cleared) r (dimOf sizes kept)) (layoutOf kept cleared sizes) z row (h .prior) (keysAt keys h) (h .rows)
+    fitted : (branch : Branch) (r row : ℕ) → (branch ≡ X → r ≡ dimOf sizes kept) → (branch ≡ Z → row + rowsBy (layoutOf kept cleared sizes) keys h ≤ r)
+        → Fitted (frameOf (dimOf sizes cleared) r (dimOf sizes kept)) (layoutOf kept cleared sizes) branch row (h .prior) (keysAt keys h) (h .rows)
         (h .width) scratch-numbers (numbersOf (h .rows) (h .width))
     unfolding frameOf
-    fitted z r row hx hz =
+    fitted branch r row hx hz =
         record {
           some = λ e. rw (count-is kept cleared sizes keys store h k) (k .of-prior e .0);
           known = λ j l. rw (key-at kept cleared sizes keys store h k j (rw (count-is kept cleared sizes keys store h k) at l))
@@ -137,7 +139,7 @@ module _ {kept cleared sizes : List ℕ} {factors messages : List Float} {work :
       ready : (i : ℕ) → i < length slots
           → Ready (frameFor (dimOf sizes cleared) (dimOf sizes kept) (rowsByAll (layoutOf kept cleared sizes) keys heads slots (length slots)))
           (layoutOf kept cleared sizes)
-          (leb (rowsByAll (layoutOf kept cleared sizes) keys heads slots (length slots)) (dimOf sizes kept))
+          (branchOf (rowsByAll (layoutOf kept cleared sizes) keys heads slots (length slots)) (dimOf sizes kept))
           (rowsOfAll (layoutOf kept cleared sizes) (viewAt factors messages keys heads slots) i) factors messages keys scratch-numbers
           (headOf heads (getD slots i 0))
       ready i h =

@@ -26,12 +26,15 @@ use Rattle.workspace.specs.declared.Part.the-variants.{S, H, G, A, Xi, W}
 use Rattle.slots.specs.Layouts.{dimOf, layoutOf, find}
 use Rattle.slots.specs.Views.{FactorView, prior, likelihood, rowsOfAll, withProduct, withProducts, withOwn, withKey, withKeys, withRows, withPrior}
 use Rattle.slots.specs.Views.{withView, withViews}
+use Rattle.slots.specs.declared.Branch.{Branch}
+use Rattle.slots.specs.declared.Branch.the-variants.{Z, X}
 use Rattle.slots.specs.declared.layout.Layout.{Layout}
 use Rattle.slots.specs.declared.layout.Spot.{Spot}
 use Rattle.slots.specs.declared.sums.Target.{Target}
 use Rattle.slots.specs.declared.sums.Target.the-variants.{Nowhere, At}
-use Rattle.gaussian.specs.Elimination.{begun, lost, ended, finished, Outcome, pivot, unbounded, message, outcome, run, branched, nth, eliminate}
-use Rattle.gaussian.specs.Asked.{messageRows, Sized}
+use Rattle.gaussian.specs.Elimination.{branchOf, rowsFor, messageRows, begun, lost, ended, finished, Outcome, pivot, unbounded, message}
+use Rattle.gaussian.specs.Elimination.{outcome, run, branched, nth, eliminate}
+use Rattle.gaussian.specs.Asked.{Sized}
 
 -- A, xi and W of r rows over d columns
 record Long (r d : ℕ) (σ : Sums) : Type 0 where
@@ -75,54 +78,52 @@ module _ (r d : ℕ) where
   of-product Nowhere s t y o n σ l = l
   of-product (At p v) s t y o n σ l = changed p _ σ (λ c. product-length _ _ _ _ _ _ _ _ c _) l
 
-  of-own : (z gone : Bool) (f : Frame) (row : ℕ) (k : Spot) (b xi w : List Float) (y : ℕ) (σ : Sums) → Long r d σ → Long r d (withOwn z gone f row k b xi w y σ)
+  of-own : (branch : Branch) (gone : Bool) (f : Frame) (row : ℕ) (k : Spot) (b xi w : List Float) (y : ℕ) (σ : Sums) → Long r d σ
+      → Long r d (withOwn branch gone f row k b xi w y σ)
   unfolding withOwn
-  of-own false true f row k b xi w y σ l = changed H _ σ (λ c. product-length _ _ _ _ _ _ _ _ c _) l
-  of-own false false f row k b xi w y σ l = changed Xi _ σ (λ c. product-length _ _ _ _ _ _ _ _ c _) l
-  of-own true true f row k b xi w y σ l = changed G _ _ (λ c. product-length _ _ _ _ _ _ _ _ c _) (changed H _ σ (λ c. product-length _ _ _ _ _ _ _ _ c _) l)
-  of-own true false f row k b xi w y σ l = changed A _ σ (λ c. stamp-length _ _ _ _ _ _ c) l
+  of-own X true f row k b xi w y σ l = changed H _ σ (λ c. product-length _ _ _ _ _ _ _ _ c _) l
+  of-own X false f row k b xi w y σ l = changed Xi _ σ (λ c. product-length _ _ _ _ _ _ _ _ c _) l
+  of-own Z true f row k b xi w y σ l = changed G _ _ (λ c. product-length _ _ _ _ _ _ _ _ c _) (changed H _ σ (λ c. product-length _ _ _ _ _ _ _ _ c _) l)
+  of-own Z false f row k b xi w y σ l = changed A _ σ (λ c. stamp-length _ _ _ _ _ _ c) l
 
-  of-key : (z : Bool) (f : Frame) (m : Layout) (row : ℕ) (keys : List ℕ) (y : ℕ) (a xi w : List Float) (k : Spot) (b : List Float) (σ : Sums)
-      → Long r d σ → Long r d (withKey z f m row keys y a xi w k b σ)
+  of-key : (branch : Branch) (f : Frame) (m : Layout) (row : ℕ) (keys : List ℕ) (y : ℕ) (a xi w : List Float) (k : Spot) (b : List Float) (σ : Sums)
+      → Long r d σ → Long r d (withKey branch f m row keys y a xi w k b σ)
   unfolding withKey withProducts
-  of-key z f m row keys y a xi w k b σ l = turned _ _ (length keys) (λ j σ h. of-product _ _ _ _ _ _ σ h) (of-own z (k .cleared) f row k b xi w y σ l)
+  of-key branch f m row keys y a xi w k b σ l = turned _ _ (length keys) (λ j σ h. of-product _ _ _ _ _ _ σ h) (of-own branch (k .cleared) f row k b xi w y σ l)
 
-  of-rows : (z : Bool) (f : Frame) (row y : ℕ) (xi w : List Float) (σ : Sums) → Long r d σ → Long r d (withRows z f row y xi w σ)
+  of-rows : (branch : Branch) (f : Frame) (row y : ℕ) (xi w : List Float) (σ : Sums) → Long r d σ → Long r d (withRows branch f row y xi w σ)
   unfolding withRows
-  of-rows false f row y xi w σ l = l
-  of-rows true f row y xi w σ l = changed W _ _ (λ c. stamp-length _ _ _ _ _ _ c) (changed Xi _ σ (λ c. stamp-length _ _ _ _ _ _ c) l)
+  of-rows X f row y xi w σ l = l
+  of-rows Z f row y xi w σ l = changed W _ _ (λ c. stamp-length _ _ _ _ _ _ c) (changed Xi _ σ (λ c. stamp-length _ _ _ _ _ _ c) l)
 
-  of-prior : (z gone : Bool) (f : Frame) (row : ℕ) (k : Spot) (xi w : List Float) (σ : Sums) → Long r d σ → Long r d (withPrior z gone f row k xi w σ)
+  of-prior : (branch : Branch) (gone : Bool) (f : Frame) (row : ℕ) (k : Spot) (xi w : List Float) (σ : Sums) → Long r d σ
+      → Long r d (withPrior branch gone f row k xi w σ)
   unfolding withPrior
-  of-prior z true f row k xi w σ l = changed S _ _ (λ c. stamp-length _ _ _ _ _ _ c) (changed H _ σ (λ c. stamp-length _ _ _ _ _ _ c) l)
-  of-prior false false f row k xi w σ l = changed W _ _ (λ c. stamp-length _ _ _ _ _ _ c) (changed Xi _ σ (λ c. stamp-length _ _ _ _ _ _ c) l)
-  of-prior true false f row k xi w σ l = changed A _ _ (λ c. diagonal-length _ _ c) (of-rows true f row (k .size) xi w σ l)
+  of-prior branch true f row k xi w σ l = changed S _ _ (λ c. stamp-length _ _ _ _ _ _ c) (changed H _ σ (λ c. stamp-length _ _ _ _ _ _ c) l)
+  of-prior X false f row k xi w σ l = changed W _ _ (λ c. stamp-length _ _ _ _ _ _ c) (changed Xi _ σ (λ c. stamp-length _ _ _ _ _ _ c) l)
+  of-prior Z false f row k xi w σ l = changed A _ _ (λ c. diagonal-length _ _ c) (of-rows Z f row (k .size) xi w σ l)
 
-  of-view : (z : Bool) (f : Frame) (m : Layout) (row : ℕ) (v : FactorView) (σ : Sums) → Long r d σ → Long r d (withView z f m row v σ)
+  of-view : (branch : Branch) (f : Frame) (m : Layout) (row : ℕ) (v : FactorView) (σ : Sums) → Long r d σ → Long r d (withView branch f m row v σ)
   unfolding withView withKeys
-  of-view z f m row (prior key xi w) σ l = of-prior z (find m key .cleared) f row (find m key) xi w σ l
-  of-view z f m row (likelihood keys y a xi w) σ l = turned _ _ (length keys) (λ i σ h. of-key z f m row keys y a xi w _ _ σ h) (of-rows z f row y xi w σ l)
+  of-view branch f m row (prior key xi w) σ l = of-prior branch (find m key .cleared) f row (find m key) xi w σ l
+  of-view branch f m row (likelihood keys y a xi w) σ l = turned _ _ (length keys) (λ i σ h. of-key branch f m row keys y a xi w _ _ σ h)
+      (of-rows branch f row y xi w σ l)
 
-  of-views : (z : Bool) (f : Frame) (m : Layout) (view : ℕ → FactorView) (σ : Sums) (n : ℕ) → Long r d σ → Long r d (withViews z f m view σ n)
+  of-views : (branch : Branch) (f : Frame) (m : Layout) (view : ℕ → FactorView) (σ : Sums) (n : ℕ) → Long r d σ → Long r d (withViews branch f m view σ n)
   unfolding withViews
-  of-views z f m view σ n l = turned _ σ n (λ i σ h. of-view z f m (rowsOfAll m view i) (view i) σ h) l
+  of-views branch f m view σ n l = turned _ σ n (λ i σ h. of-view branch f m (rowsOfAll m view i) (view i) σ h) l
 
 -- ---- the beginning and the end
 
-of-begun : (z : Bool) (f : Frame) → Long (f .rows) (f .kept) (begun z f)
+of-begun : (branch : Branch) (f : Frame) → Long (f .rows) (f .kept) (begun branch f)
 unfolding begun
-of-begun true f = record { of-a = length-replicate _ plus-zero; of-xi = length-replicate _ plus-zero; of-w = length-replicate _ plus-zero }
-of-begun false f = record {
-  of-a = diagonal-length _ _ _ ∙ length-replicate _ plus-zero;
-  of-xi = length-replicate _ plus-zero;
-  of-w = length-replicate
-      _ plus-zero;
-}
+of-begun Z f = record { of-a = length-replicate _ plus-zero; of-xi = length-replicate _ plus-zero; of-w = length-replicate _ plus-zero }
+of-begun X f = record { of-a = diagonal-length _ _ _ ∙ length-replicate _ plus-zero; of-xi = length-replicate _ plus-zero; of-w = length-replicate _ plus-zero }
 
-of-lost : (r d : ℕ) (z : Bool) (f : Frame) (σ : Sums) → Long r d σ → Long r d (lost z f σ)
+of-lost : (r d : ℕ) (branch : Branch) (f : Frame) (σ : Sums) → Long r d σ → Long r d (lost branch f σ)
 unfolding lost
-of-lost r d true f σ l = record { of-a = l .of-a; of-xi = product-length _ _ _ _ _ _ _ _ _ _ ∙ l .of-xi; of-w = product-length _ _ _ _ _ _ _ _ _ _ ∙ l .of-w }
-of-lost r d false f σ l =
+of-lost r d Z f σ l = record { of-a = l .of-a; of-xi = product-length _ _ _ _ _ _ _ _ _ _ ∙ l .of-xi; of-w = product-length _ _ _ _ _ _ _ _ _ _ ∙ l .of-w }
+of-lost r d X f σ l =
     record {
       of-a = l .of-a;
       of-xi = product-length _ _ _ _ _ _ _ _ _ _ ∙ l .of-xi;
@@ -144,22 +145,22 @@ of-message : (y d r : ℕ) (σ : Sums) → r ≡ messageRows y d → Long r d σ
 of-message y d r σ e l true = record { of-rows = e; of-a = l .of-a; of-xi = l .of-xi; of-w = l .of-w }
 of-message y d r σ e l false = refl
 
-of-ended : (y : ℕ) (z : Bool) (f : Frame) (σ : Sums) → f .rows ≡ messageRows y (f .kept) → Long (f .rows) (f .kept) σ → (F : Left)
-    → SizedIn y (f .kept) (outcome (f .rows) (ended z f σ F))
+of-ended : (y : ℕ) (branch : Branch) (f : Frame) (σ : Sums) → f .rows ≡ messageRows y (f .kept) → Long (f .rows) (f .kept) σ → (F : Left)
+    → SizedIn y (f .kept) (outcome (f .rows) (ended branch f σ F))
 unfolding ended outcome
-of-ended y z f σ e l (stuck t) = refl
-of-ended y z f σ e l (whole t) =
-    let ρ : Sums = lost z f (change S (λ c. t) σ) in
-    of-message y (f .kept) (f .rows) ρ e (of-lost (f .rows) (f .kept) z f _ (of-factor (f .rows) (f .kept) σ t l)) (allFinite (ρ .a ++ (ρ .xi ++ ρ .w)))
+of-ended y branch f σ e l (stuck t) = refl
+of-ended y branch f σ e l (whole t) =
+    let ρ : Sums = lost branch f (change S (λ c. t) σ) in
+    of-message y (f .kept) (f .rows) ρ e (of-lost (f .rows) (f .kept) branch f _ (of-factor (f .rows) (f .kept) σ t l)) (allFinite (ρ .a ++ (ρ .xi ++ ρ .w)))
 
-of-run : (y : ℕ) (z : Bool) (f : Frame) (m : Layout) (view : ℕ → FactorView) (n : ℕ) → f .rows ≡ messageRows y (f .kept)
-    → SizedIn y (f .kept) (run z f m view n)
+of-run : (y : ℕ) (branch : Branch) (f : Frame) (m : Layout) (view : ℕ → FactorView) (n : ℕ) → f .rows ≡ messageRows y (f .kept)
+    → SizedIn y (f .kept) (run branch f m view n)
 unfolding run finished
-of-run y z f m view n e = of-ended y z f _ e (of-views (f .rows) (f .kept) z f m view (begun z f) n (of-begun z f)) _
+of-run y branch f m view n e = of-ended y branch f _ e (of-views (f .rows) (f .kept) branch f m view (begun branch f) n (of-begun branch f)) _
 
 of-branched : (u d y : ℕ) (m : Layout) (view : ℕ → FactorView) (n : ℕ) → SizedIn y d (branched u d y m view n)
 unfolding branched frameOf
-of-branched u d y m view n = of-run y (leb y d) (frameOf u (messageRows y d) d) m view n refl
+of-branched u d y m view n = of-run y (branchOf y d) (frameOf u (messageRows y d) d) m view n refl
 
 of-eliminate : (views : List FactorView) (kept cleared sizes : List ℕ)
     → SizedIn (rowsOfAll (layoutOf kept cleared sizes) (nth views) (length views)) (dimOf sizes kept) (eliminate views kept cleared sizes)
@@ -175,6 +176,6 @@ message-sized views kept cleared sizes r a xi w e = subst (SizedIn _ _) e (of-el
 pub rows-few : (y d : ℕ) → messageRows y d ≤ d
 rows-few y d = go (leb y d) (leb-true y d)
   where
-    go : (b : Bool) → (b ≡ true → y ≤ d) → cond b y d ≤ d
+    go : (b : Bool) → (b ≡ true → y ≤ d) → rowsFor (cond b Z X) y d ≤ d
     go true h = h refl
     go false h = omega arith

@@ -1,10 +1,8 @@
 -- The factors read one by one are those of the list. Assumes nothing.
 use Prim.Native.Nat.{ℕ, zero, suc, _<_}
 use mathlib.Core.Path.{_≡_, refl, ap, _∙_, sym}
-use mathlib.Core.Bool.{Bool, cond}
 use mathlib.Core.List.{List, [], _∷_, map}
 use native.Mathlib.Omega.{arith}
-use lib.Dec.{leb}
 use lib.ListN.{length, getD, length-map}
 use lib.Ieee.{Float}
 use Rattle.workspace.specs.Sums.{Sums, turns}
@@ -13,8 +11,9 @@ use Rattle.workspace.specs.declared.Frame.{Frame}
 use Rattle.slots.specs.Layouts.{dimOf, layoutOf}
 use Rattle.slots.specs.Views.{FactorView, rowsOfAll, withViews}
 use Rattle.slots.specs.Tables.{headOf, readView, viewAt}
+use Rattle.slots.specs.declared.Branch.{Branch}
 use Rattle.slots.specs.declared.layout.Layout.{Layout}
-use Rattle.gaussian.specs.Elimination.{begun, finished, outcome, run, branched, nth, eliminate}
+use Rattle.gaussian.specs.Elimination.{branchOf, messageRows, begun, finished, outcome, run, branched, nth, eliminate}
 use Rattle.gaussian.specs.Answers.{answer, numbersIn, leftIn, viewsOf, branchedAt}
 use Rattle.gaussian.specs.declared.Eliminated.{Eliminated}
 use Rattle.gaussian.proofs.Branches.{left-same}
@@ -30,16 +29,16 @@ module _ (m : Layout) (s t : ℕ → FactorView) where
   rows-same zero h = refl
   rows-same (suc n) h = rw (rows-same n (λ i l. h i (omega arith)), h n (omega arith))
 
-  views-same : (z : Bool) (f : Frame) (σ : Sums) (n : ℕ) → ((i : ℕ) → i < n → s i ≡ t i) → withViews z f m s σ n ≡ withViews z f m t σ n
+  views-same : (branch : Branch) (f : Frame) (σ : Sums) (n : ℕ) → ((i : ℕ) → i < n → s i ≡ t i) → withViews branch f m s σ n ≡ withViews branch f m t σ n
   unfolding withViews turns
-  views-same z f σ zero h = refl
-  views-same z f σ (suc n) h = rw (views-same z f σ n (λ i l. h i (omega arith)), rows-same n (λ i l. h i (omega arith)), h n (omega arith))
+  views-same branch f σ zero h = refl
+  views-same branch f σ (suc n) h = rw (views-same branch f σ n (λ i l. h i (omega arith)), rows-same n (λ i l. h i (omega arith)), h n (omega arith))
 
   branched-same : (u d y n : ℕ) → ((i : ℕ) → i < n → s i ≡ t i) → branched u d y m s n ≡ branched u d y m t n
   unfolding branched run
   branched-same u d y n h =
-      let f : Frame = frameOf u (cond (leb y d) y d) d in
-      ap (λ (σ : Sums). outcome (f .rows) (finished (leb y d) f σ)) (views-same (leb y d) f (begun (leb y d) f) n h)
+      let f : Frame = frameOf u (messageRows y d) d in
+      ap (λ (σ : Sums). outcome (f .rows) (finished (branchOf y d) f σ)) (views-same (branchOf y d) f (begun (branchOf y d) f) n h)
 
 module _ (factors messages : List Float) (keys heads slots kept cleared sizes : List ℕ) where
   pub listed-is : branchedAt (dimOf sizes cleared) (dimOf sizes kept) (layoutOf kept cleared sizes) factors messages keys heads slots

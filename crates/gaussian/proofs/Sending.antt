@@ -15,27 +15,29 @@ use Rattle.workspace.specs.Frames.{cut, Laid, frameOf}
 use Rattle.workspace.specs.declared.Frame.{Frame}
 use Rattle.workspace.proofs.Parts.{part-join}
 use Rattle.slots.specs.Views.{FactorView, withViews}
+use Rattle.slots.specs.declared.Branch.{Branch}
 use Rattle.slots.specs.declared.layout.Layout.{Layout}
 use Rattle.gaussian.specs.Elimination.{refused, done, begun, finished, outcome, run}
 use Rattle.gaussian.specs.Answers.{endedAs, answer, numbersIn, leftIn}
 use Rattle.gaussian.specs.declared.Eliminated.the-variants.{Rows, Pivot, Unbounded}
 
 -- the sums from those before the first factor
-pub views-from : (z : Bool) (f : Frame) (m : Layout) (view : ℕ → FactorView) (n : ℕ) (σ₀ : Sums) → σ₀ ≡ begun z f → (σ₁ : Sums) → σ₁
-    ≡ withViews z f m view σ₀ n → σ₁ ≡ withViews z f m view (begun z f) n
-views-from z f m view n σ₀ e σ₁ g = rw e at g
+pub views-from : (branch : Branch) (f : Frame) (m : Layout) (view : ℕ → FactorView) (n : ℕ) (σ₀ : Sums) → σ₀ ≡ begun branch f → (σ₁ : Sums) → σ₁
+    ≡ withViews branch f m view σ₀ n → σ₁ ≡ withViews branch f m view (begun branch f) n
+views-from branch f m view n σ₀ e σ₁ g = rw e at g
 
-module _ (z : Bool) (f : Frame) (m : Layout) (view : ℕ → FactorView) (n : ℕ) (σ : Sums) (es : σ ≡ withViews z f m view (begun z f) n) (r : Factored) where
-  pub pivot-is : (t : List Float) → finished z f σ ≡ endedAs r (cut f t) → r ≡ Stopped
-      → (Pivot ≡ answer (run z f m view n)) × (leftIn (f .cleared) (f .kept) t (run z f m view n) ≡ numbersIn (run z f m view n))
+module _ (branch : Branch) (f : Frame) (m : Layout) (view : ℕ → FactorView) (n : ℕ) (σ : Sums) (es : σ ≡ withViews branch f m view (begun branch f) n)
+    (r : Factored) where
+  pub pivot-is : (t : List Float) → finished branch f σ ≡ endedAs r (cut f t) → r ≡ Stopped
+      → (Pivot ≡ answer (run branch f m view n)) × (leftIn (f .cleared) (f .kept) t (run branch f m view n) ≡ numbersIn (run branch f m view n))
   unfolding run outcome endedAs answer leftIn numbersIn
   pivot-is t ef er =
-      let g : finished z f (withViews z f m view (begun z f) n) ≡ refused = rw (← es, ef, er) in
+      let g : finished branch f (withViews branch f m view (begun branch f) n) ≡ refused = rw (← es, ef, er) in
       rw g (refl, refl)
 
-  module _ (t : List Float) (ld : Laid f (length t)) (ef : finished z f σ ≡ endedAs r (cut f t)) (er : r ≡ Done) (b : Bool)
+  module _ (t : List Float) (ld : Laid f (length t)) (ef : finished branch f σ ≡ endedAs r (cut f t)) (er : r ≡ Done) (b : Bool)
       (eb : b ≡ allFinite (part t (f .a) (f .end))) where
-    done-is : finished z f (withViews z f m view (begun z f) n) ≡ done (cut f t)
+    done-is : finished branch f (withViews branch f m view (begun branch f) n) ≡ done (cut f t)
     unfolding endedAs
     done-is = rw (← es, ef, er)
 
@@ -53,11 +55,12 @@ module _ (z : Bool) (f : Frame) (m : Layout) (view : ℕ → FactorView) (n : �
     unfolding frameOf
     end-at = omega arith
 
-    pub unbounded-is : b ≡ false → (Unbounded ≡ answer (run z f m view n)) × (leftIn (f .cleared) (f .kept) t (run z f m view n) ≡ numbersIn (run z f m view n))
+    pub unbounded-is : b ≡ false → (Unbounded ≡ answer (run branch f m view n)) ×
+        (leftIn (f .cleared) (f .kept) t (run branch f m view n) ≡ numbersIn (run branch f m view n))
     unfolding run outcome answer leftIn numbersIn
     unbounded-is h = rw (done-is, in-order, ← eb, h) (refl, refl)
 
-    pub message-is : b ≡ true → (Rows (f .rows) ≡ answer (run z f m view n)) ×
-        (leftIn (f .cleared) (f .kept) t (run z f m view n) ≡ numbersIn (run z f m view n))
+    pub message-is : b ≡ true → (Rows (f .rows) ≡ answer (run branch f m view n)) ×
+        (leftIn (f .cleared) (f .kept) t (run branch f m view n) ≡ numbersIn (run branch f m view n))
     unfolding run outcome answer leftIn numbersIn
     message-is h = rw (done-is, in-order, ← eb, h, in-order, a-at, end-at) (refl, refl)

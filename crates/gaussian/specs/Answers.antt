@@ -34,13 +34,13 @@ numbersIn unbounded = []
 numbersIn (message r a xi w) = a ++ (xi ++ w)
 
 -- where the work store t then holds them, for u cleared and d kept columns
-unfoldable pub leftIn : ℕ → ℕ → List Float → Outcome → List Float
+unfoldable pub leftIn : (u d : ℕ) (t : List Float) → Outcome → List Float
 leftIn u d t pivot = []
 leftIn u d t unbounded = []
 leftIn u d t (message r a xi w) = part t (frameOf u r d .a) (frameOf u r d .end)
 
 -- the factors of a list of slot numbers
-unfoldable pub viewsOf : List Float → List Float → List ℕ → List ℕ → List ℕ → List FactorView
+unfoldable pub viewsOf : (factors messages : List Float) (keys heads slots : List ℕ) → List FactorView
 viewsOf factors messages keys heads slots = map (λ number. readView factors messages keys (headOf heads number)) slots
 
 -- ---- between the functions
@@ -51,6 +51,6 @@ endedAs Done σ = done σ
 endedAs Stopped σ = refused
 
 -- the branch with the factors read one by one
-unfoldable pub branchedAt : ℕ → ℕ → Layout → List Float → List Float → List ℕ → List ℕ → List ℕ → Outcome
+unfoldable pub branchedAt : (u d : ℕ) (m : Layout) (factors messages : List Float) (keys heads slots : List ℕ) → Outcome
 branchedAt u d m factors messages keys heads slots =
     branched u d (rowsOfAll m (viewAt factors messages keys heads slots) (length slots)) m (viewAt factors messages keys heads slots) (length slots)

@@ -1,9 +1,8 @@
 -- What an elimination of slots asks of its tables and its stores.
 use Prim.Native.Nat.{ℕ, _+_, _*_, _≤_, _<_}
 use mathlib.Core.Path.{_≡_}
-use mathlib.Core.Bool.{true, false, cond, _||_}
+use mathlib.Core.Bool.{true, false, _||_}
 use mathlib.Core.List.{List}
-use lib.Dec.{leb}
 use lib.ListN.{length, getD}
 use lib.Ieee.{Float}
 use Rattle.blocks.specs.Blocks.{column}
@@ -17,6 +16,7 @@ use Rattle.slots.specs.Tables.{headOf, keysAt, storeOf, numbersOf, viewAt, rows
 use Rattle.slots.specs.Fitting.{Ready, Counted}
 use Rattle.slots.specs.declared.layout.Layout.{Layout}
 use Rattle.slots.specs.declared.Head.{Head}
+use Rattle.gaussian.specs.Elimination.{branchOf, messageRows}
 
 -- a key of a slot: it has a size from the table, and it is kept or cleared
 pub record KeyFits (kept cleared sizes : List ℕ) (key : ℕ) : Type 0 where
@@ -35,10 +35,6 @@ pub record HeadFits (kept cleared sizes keys : List ℕ) (len : ℕ) (h : Head) 
   pub of-likelihood : h .prior ≡ false → column sizes (keysAt keys h) (h .count) ≡ h .width
   pub known : (j : ℕ) → j < h .count → KeyFits kept cleared sizes (getD keys (h .first + j) 0)
 
--- how many rows a message has where y rows are summed over d kept columns
-abbrev pub messageRows : ℕ → ℕ → ℕ
-messageRows y d = cond (leb y d) y d
-
 -- what an elimination asks for: all of it is about the tables and the lengths, none about the numbers
 pub record Asked (kept cleared sizes : List ℕ) (factors messages : List Float) (work : ℕ) (keys heads slots : List ℕ) : Type 0 where
   pub kept-listed : Listed kept sizes
@@ -51,7 +47,7 @@ pub record Asked (kept cleared sizes : List ℕ) (factors messages : List Float)
   pub enough : work-numbers ≤ work
 
 -- the message has room from place `to` on in a store of length len
-abbrev pub Roomy : List ℕ → List ℕ → List ℕ → List ℕ → List ℕ → List ℕ → ℕ → ℕ → Type 0
+abbrev pub Roomy : (kept cleared sizes keys heads slots : List ℕ) (to len : ℕ) → Type 0
 Roomy kept cleared sizes keys heads slots to len =
     to + numbersOf (messageRows (rowsByAll (layoutOf kept cleared sizes) keys heads slots (length slots)) (dimOf sizes kept)) (dimOf sizes kept) ≤ len
 
@@ -74,6 +70,6 @@ pub record Whole (u d : ℕ) (m : Layout) (factors messages : List Float) (work 
   pub counted : Counted keys heads slots
   pub rows : rowsByAll m keys heads slots (length slots) ≡ rowsOfAll m (viewAt factors messages keys heads slots) (length slots)
   pub ready : (i : ℕ) → i < length slots
-      → Ready (frameFor u d (rowsByAll m keys heads slots (length slots))) m (leb (rowsByAll m keys heads slots (length slots)) d)
+      → Ready (frameFor u d (rowsByAll m keys heads slots (length slots))) m (branchOf (rowsByAll m keys heads slots (length slots)) d)
       (rowsOfAll m (viewAt factors messages keys heads slots) i) factors messages keys scratch-numbers (headOf heads (getD slots i 0))
   pub enough : work-numbers ≤ work

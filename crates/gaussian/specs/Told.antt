@@ -1,4 +1,5 @@
--- What an elimination and the making of a marginal tell in the numbers of document 01: 15 is a cleared block with a refused pivot, 16 a marginal with one, and 17 a message or marginal that is not finite. Definitions only.
+-- What an elimination and the making of a marginal tell in the numbers of document 01: 15 is a cleared block with a refused pivot, 16 a marginal with one, and
+-- 17 a message or marginal that is not finite. Definitions only.
 use mathlib.Core.List.{[], _∷_}
 use Prim.Native.Nat.{ℕ}
 use Rattle.cholesky.specs.Forms.{Form, form, noPivot, noNumber}

@@ -4,6 +4,7 @@ pub mod marginal;
 use cholesky::Factored;
 use factor::limits::VARIABLES;
 use matrix::View;
+use slots::Branch;
 use slots::add_slots;
 use slots::count_rows;
 use slots::layout::Layout;
@@ -21,11 +22,9 @@ use workspace::solve_at;
 use workspace::subtract_at;
 use workspace::zero;
 ghost use mathlib.Core.Path.{_≡_};
-ghost use mathlib.Core.Bool.{false, cond};
 ghost use Prim.Native.Nat.{ℕ, _+_, _-_, _<_, _≤_};
 ghost use lib.ListN.{length, getD};
-ghost use Rattle.matrix.specs.Views.{columns, part, splice};
-ghost use Rattle.matrix.specs.Triangles.{filledUpper};
+ghost use Rattle.matrix.specs.Views.{part, splice};
 ghost use Rattle.workspace.specs.Sums.{change};
 ghost use Rattle.workspace.specs.Frames.{cut, Laid, frameOf, work-numbers};
 ghost use Rattle.factor.specs.Limits.{max-total};
@@ -34,7 +33,7 @@ ghost use Rattle.slots.specs.Layouts.{dimOf};
 ghost use Rattle.slots.specs.Views.{rowsOfAll, withViews};
 ghost use Rattle.slots.specs.Tables.{headOf, numbersOf, viewAt};
 ghost use Rattle.slots.specs.Fitting.{Ready, Counted};
-ghost use Rattle.gaussian.specs.Elimination.{begun, lost, finished, run, eliminate};
+ghost use Rattle.gaussian.specs.Elimination.{branchOf, messageRows, begun, filled, lost, finished, run, eliminate};
 ghost use Rattle.gaussian.specs.Answers.{endedAs, answer, stored, numbersIn, leftIn, viewsOf, branchedAt};
 ghost use Rattle.gaussian.specs.Asked.{Asked, Roomy, Whole};
 ghost use Rattle.gaussian.specs.Told.{eliminatedTold, outcomeTold};
@@ -46,30 +45,49 @@ pub enum Eliminated {
     Unbounded,
 }
 
+// The branch of y rows over d kept columns: z where y is at most d, and x otherwise.
+fn branch_of(y: usize, d: usize) -> Branch
+    ensures { λ r. ⌜ r ≡ branchOf y d ⌝ }
+{
+    if y <= d { Branch::Z } else { Branch::X }
+}
+
+// How many rows its message has: in z all y, and in x as many as kept columns.
+pub fn message_rows(y: usize, d: usize) -> usize
+    ensures { λ r. ⌜ r ≡ messageRows y d ⌝ }
+{
+    match branch_of(y, d) {
+        Branch::Z => y,
+        Branch::X => d,
+    }
+}
+
 // All sums are zero; in x A is the identity. What the frame doesn't reach stays as it is.
-fn begin_sums(work: &mut [f64], f: Frame, z: bool)
-    requires { ⌜ Laid f (length (now work)) × (z ≡ false → f .rows ≡ f .kept) ⌝ }
-    ensures { λ _. ⌜ cut f (now (work .exit)) ≡ begun z f ⌝ }
+fn begin_sums(work: &mut [f64], f: Frame, branch: Branch)
+    requires { ⌜ Laid f (length (now work)) × (branch ≡ Branch.X → f .rows ≡ f .kept) ⌝ }
+    ensures { λ _. ⌜ cut f (now (work .exit)) ≡ begun branch f ⌝ }
 {
     let p = 0;
     let q = f.end;
     zero(&mut work[p..q]);
-    if z {
-        return;
+    match branch {
+        Branch::Z => {}
+        Branch::X => {
+            let v = View {
+                at: 0,
+                down: 1,
+                across: f.rows,
+            };
+            fill_diagonal_at(work, f, v, f.rows);
+        }
     }
-    let v = View {
-        at: 0,
-        down: 1,
-        across: f.rows,
-    };
-    fill_diagonal_at(work, f, v, f.rows);
 }
 
 // The sums over all slots.
 fn sum_up<'a>(
     work: &mut [f64],
     f: Frame,
-    z: bool,
+    branch: Branch,
     layout: Layout,
     factors: &'a [f64],
     messages: &'a [f64],
@@ -77,18 +95,22 @@ fn sum_up<'a>(
     heads: &[usize],
     slots: &[usize],
 )
-    requires { ⌜ Laid f (length (now work)) × (z ≡ false → f .rows ≡ f .kept) ⌝ }
+    requires { ⌜ Laid f (length (now work)) × (branch ≡ Branch.X → f .rows ≡ f .kept) ⌝ }
     requires { ⌜ Counted (now keys) (now heads) (now slots) ⌝ }
-    requires { ⌜ ((i : ℕ) → i < length (now slots) → Ready f layout z (rowsOfAll layout (viewAt (now factors) (now messages) (now keys) (now heads) (now slots)) i) (now factors) (now messages) (now keys) scratch-numbers (headOf (now heads) (getD (now slots) i 0))) ⌝ }
-    ensures { λ _. ⌜ cut f (now (work .exit)) ≡ withViews z f layout (viewAt (now (factors .entry)) (now (messages .entry)) (now (keys .entry)) (now (heads .entry)) (now (slots .entry))) (begun z f) (length (now (slots .entry))) ⌝ }
+    requires { ⌜ ((i : ℕ) → i < length (now slots)
+        → Ready f layout branch (rowsOfAll layout (viewAt (now factors) (now messages) (now keys) (now heads) (now slots)) i)
+        (now factors) (now messages) (now keys) scratch-numbers (headOf (now heads) (getD (now slots) i 0))) ⌝ }
+    ensures { λ _. ⌜ cut f (now (work .exit))
+        ≡ withViews branch f layout (viewAt (now (factors .entry)) (now (messages .entry)) (now (keys .entry)) (now (heads .entry)) (now (slots .entry)))
+        (begun branch f) (length (now (slots .entry))) ⌝ }
 {
     let mut t = [0.0; SCRATCH];
-    begin_sums(work, f, z);
+    begin_sums(work, f, branch);
     add_slots(
         work,
         &mut t,
         f,
-        z,
+        branch,
         layout,
         factors,
         messages,
@@ -99,36 +121,36 @@ fn sum_up<'a>(
 }
 
 // In x only the lower triangle of W has been summed: the upper one is filled from it.
-fn fill_upper_in_x(work: &mut [f64], f: Frame, z: bool)
+fn fill_upper_in_x(work: &mut [f64], f: Frame, branch: Branch)
     requires { ⌜ Laid f (length (now work)) ⌝ }
-    ensures { λ _. ⌜ cut f (now (work .exit)) ≡ change Part.W (λ c. cond z c (filledUpper (columns (f .rows)) c (f .rows))) (cut f (now (work .entry))) ⌝ }
+    ensures { λ _. ⌜ cut f (now (work .exit)) ≡ change Part.W (λ c. filled branch (f .rows) c) (cut f (now (work .entry))) ⌝ }
 {
-    if z {
-        return;
+    match branch {
+        Branch::Z => {}
+        Branch::X => fill_upper_at(work, f),
     }
-    fill_upper_at(work, f);
 }
 
 // With L in S: h and G are solved, and xi and W lose G'h and G'G.
-fn lose(work: &mut [f64], f: Frame, z: bool)
+fn lose(work: &mut [f64], f: Frame, branch: Branch)
     requires { ⌜ Laid f (length (now work)) ⌝ }
-    ensures { λ _. ⌜ cut f (now (work .exit)) ≡ lost z f (cut f (now (work .entry))) ⌝ }
+    ensures { λ _. ⌜ cut f (now (work .exit)) ≡ lost branch f (cut f (now (work .entry))) ⌝ }
 {
     solve_at(work, f, Part::H, 1);
     solve_at(work, f, Part::G, f.rows);
-    fill_upper_in_x(work, f, z);
+    fill_upper_in_x(work, f, branch);
     subtract_at(work, f, Part::Xi, Part::H, 1);
     subtract_at(work, f, Part::W, Part::G, f.rows);
 }
 
 // The cleared block is factored, and the cleared keys go.
-fn finish(work: &mut [f64], f: Frame, z: bool) -> Factored
+fn finish(work: &mut [f64], f: Frame, branch: Branch) -> Factored
     requires { ⌜ Laid f (length (now work)) ⌝ }
-    ensures { λ r. ⌜ finished z f (cut f (now (work .entry))) ≡ endedAs r (cut f (now (work .exit))) ⌝ }
+    ensures { λ r. ⌜ finished branch f (cut f (now (work .entry))) ≡ endedAs r (cut f (now (work .exit))) ⌝ }
 {
     match cholesky_at(work, f) {
         Factored::Done => {
-            lose(work, f, z);
+            lose(work, f, branch);
             Factored::Done
         }
         Factored::Stopped => Factored::Stopped,
@@ -141,20 +163,38 @@ fn eliminate_to<'a>(
     messages: &'a [f64],
     work: &mut [f64],
     f: Frame,
-    z: bool,
+    branch: Branch,
     layout: Layout,
     keys: &[usize],
     heads: &[usize],
     slots: &[usize],
 ) -> Eliminated
-    requires { ⌜ Laid f (length (now work)) × (z ≡ false → f .rows ≡ f .kept) ⌝ }
+    requires { ⌜ Laid f (length (now work)) × (branch ≡ Branch.X → f .rows ≡ f .kept) ⌝ }
     requires { ⌜ Counted (now keys) (now heads) (now slots) ⌝ }
-    requires { ⌜ ((i : ℕ) → i < length (now slots) → Ready f layout z (rowsOfAll layout (viewAt (now factors) (now messages) (now keys) (now heads) (now slots)) i) (now factors) (now messages) (now keys) scratch-numbers (headOf (now heads) (getD (now slots) i 0))) ⌝ }
-    ensures { λ r. ⌜ r ≡ answer (run z f layout (viewAt (now (factors .entry)) (now (messages .entry)) (now (keys .entry)) (now (heads .entry)) (now (slots .entry))) (length (now (slots .entry)))) ⌝ }
-    ensures { λ _. ⌜ leftIn (f .cleared) (f .kept) (now (work .exit)) (run z f layout (viewAt (now (factors .entry)) (now (messages .entry)) (now (keys .entry)) (now (heads .entry)) (now (slots .entry))) (length (now (slots .entry)))) ≡ numbersIn (run z f layout (viewAt (now (factors .entry)) (now (messages .entry)) (now (keys .entry)) (now (heads .entry)) (now (slots .entry))) (length (now (slots .entry)))) ⌝ }
+    requires { ⌜ ((i : ℕ) → i < length (now slots)
+        → Ready f layout branch (rowsOfAll layout (viewAt (now factors) (now messages) (now keys) (now heads) (now slots)) i)
+        (now factors) (now messages) (now keys) scratch-numbers (headOf (now heads) (getD (now slots) i 0))) ⌝ }
+    ensures { λ r. ⌜ r
+        ≡ answer (run branch f layout (viewAt (now (factors .entry)) (now (messages .entry)) (now (keys .entry)) (now (heads .entry)) (now (slots .entry)))
+        (length (now (slots .entry)))) ⌝ }
+    ensures { λ _. ⌜ leftIn (f .cleared) (f .kept) (now (work .exit))
+        (run branch f layout (viewAt (now (factors .entry)) (now (messages .entry)) (now (keys .entry)) (now (heads .entry)) (now (slots .entry)))
+        (length (now (slots .entry))))
+        ≡ numbersIn (run branch f layout (viewAt (now (factors .entry)) (now (messages .entry)) (now (keys .entry)) (now (heads .entry)) (now (slots .entry)))
+        (length (now (slots .entry)))) ⌝ }
 {
-    sum_up(work, f, z, layout, factors, messages, keys, heads, slots);
-    match finish(work, f, z) {
+    sum_up(
+        work,
+        f,
+        branch,
+        layout,
+        factors,
+        messages,
+        keys,
+        heads,
+        slots,
+    );
+    match finish(work, f, branch) {
         Factored::Done => {}
         Factored::Stopped => return Eliminated::Pivot,
     }
@@ -166,7 +206,7 @@ fn eliminate_to<'a>(
     Eliminated::Rows(f.rows)
 }
 
-// With the layout at hand: y rows at most the kept dimension d is the z branch, with y rows; otherwise the x branch, with d rows.
+// With the layout at hand: the rows of all slots choose the branch.
 fn eliminate_by<'a>(
     factors: &'a [f64],
     messages: &'a [f64],
@@ -179,21 +219,21 @@ fn eliminate_by<'a>(
     slots: &[usize],
 ) -> Eliminated
     requires { ⌜ Whole u d layout (now factors) (now messages) (length (now work)) (now keys) (now heads) (now slots) ⌝ }
-    ensures { λ r. ⌜ r ≡ answer (branchedAt u d layout (now (factors .entry)) (now (messages .entry)) (now (keys .entry)) (now (heads .entry)) (now (slots .entry))) ⌝ }
-    ensures { λ _. ⌜ leftIn u d (now (work .exit)) (branchedAt u d layout (now (factors .entry)) (now (messages .entry)) (now (keys .entry)) (now (heads .entry)) (now (slots .entry))) ≡ numbersIn (branchedAt u d layout (now (factors .entry)) (now (messages .entry)) (now (keys .entry)) (now (heads .entry)) (now (slots .entry))) ⌝ }
+    ensures { λ r. ⌜ r
+        ≡ answer (branchedAt u d layout (now (factors .entry)) (now (messages .entry)) (now (keys .entry)) (now (heads .entry)) (now (slots .entry))) ⌝ }
+    ensures { λ _. ⌜ leftIn u d (now (work .exit))
+        (branchedAt u d layout (now (factors .entry)) (now (messages .entry)) (now (keys .entry)) (now (heads .entry)) (now (slots .entry)))
+        ≡ numbersIn (branchedAt u d layout (now (factors .entry)) (now (messages .entry)) (now (keys .entry)) (now (heads .entry)) (now (slots .entry))) ⌝ }
 {
     let y = count_rows(layout, keys, heads, slots);
-    if y <= d {
-        let f = frame_of(u, y, d);
-        return eliminate_to(factors, messages, work, f, true, layout, keys, heads, slots);
-    }
-    let f = frame_of(u, d, d);
+    let branch = branch_of(y, d);
+    let f = frame_of(u, message_rows(y, d), d);
     eliminate_to(
         factors,
         messages,
         work,
         f,
-        false,
+        branch,
         layout,
         keys,
         heads,
@@ -201,7 +241,8 @@ fn eliminate_by<'a>(
     )
 }
 
-// The elimination of the slots of a list, in order; the message stays in the work store. Each slot is a number with a head in the table of heads; `keys` holds the keys of all heads, and `sizes` the size of each key.
+// The elimination of the slots of a list, in order; the message stays in the work store. Each slot is a number with a head in the table of heads; `keys` holds
+// the keys of all heads, and `sizes` the size of each key.
 pub fn eliminate_in<'a>(
     factors: &'a [f64],
     messages: &'a [f64],
@@ -214,8 +255,14 @@ pub fn eliminate_in<'a>(
     slots: &[usize],
 ) -> Eliminated
     requires { ⌜ Asked (now kept) (now cleared) sizes (now factors) (now messages) (length (now work)) (now keys) (now heads) (now slots) ⌝ }
-    ensures { λ r. ⌜ r ≡ answer (eliminate (viewsOf (now (factors .entry)) (now (messages .entry)) (now (keys .entry)) (now (heads .entry)) (now (slots .entry))) (now (kept .entry)) (now (cleared .entry)) sizes) ⌝ }
-    ensures { λ _. ⌜ leftIn (dimOf sizes (now (cleared .entry))) (dimOf sizes (now (kept .entry))) (now (work .exit)) (eliminate (viewsOf (now (factors .entry)) (now (messages .entry)) (now (keys .entry)) (now (heads .entry)) (now (slots .entry))) (now (kept .entry)) (now (cleared .entry)) sizes) ≡ numbersIn (eliminate (viewsOf (now (factors .entry)) (now (messages .entry)) (now (keys .entry)) (now (heads .entry)) (now (slots .entry))) (now (kept .entry)) (now (cleared .entry)) sizes) ⌝ }
+    ensures { λ r. ⌜ r
+        ≡ answer (eliminate (viewsOf (now (factors .entry)) (now (messages .entry)) (now (keys .entry)) (now (heads .entry)) (now (slots .entry)))
+        (now (kept .entry)) (now (cleared .entry)) sizes) ⌝ }
+    ensures { λ _. ⌜ leftIn (dimOf sizes (now (cleared .entry))) (dimOf sizes (now (kept .entry))) (now (work .exit))
+        (eliminate (viewsOf (now (factors .entry)) (now (messages .entry)) (now (keys .entry)) (now (heads .entry)) (now (slots .entry)))
+        (now (kept .entry)) (now (cleared .entry)) sizes)
+        ≡ numbersIn (eliminate (viewsOf (now (factors .entry)) (now (messages .entry)) (now (keys .entry)) (now (heads .entry)) (now (slots .entry)))
+        (now (kept .entry)) (now (cleared .entry)) sizes) ⌝ }
 {
     let layout = layout_of(kept, cleared, sizes);
     let u = dim_of(cleared, sizes);
@@ -227,7 +274,8 @@ pub fn eliminate_in<'a>(
 fn send(messages: &mut [f64], to: usize, work: &[f64], u: usize, rows: usize, d: usize)
     requires { ⌜ (u + d ≤ max-total) × (rows ≤ d) × (work-numbers ≤ length (now work)) ⌝ }
     requires { ⌜ to + numbersOf rows d ≤ length (now messages) ⌝ }
-    ensures { λ _. ⌜ now (messages .exit) ≡ splice (now (messages .entry)) to (to + numbersOf rows d) (part (now (work .entry)) (frameOf u rows d .a) (frameOf u rows d .end)) ⌝ }
+    ensures { λ _. ⌜ now (messages .exit)
+        ≡ splice (now (messages .entry)) to (to + numbersOf rows d) (part (now (work .entry)) (frameOf u rows d .a) (frameOf u rows d .end)) ⌝ }
 {
     let f = frame_of(u, rows, d);
     let p = f.a;
@@ -251,9 +299,16 @@ pub fn eliminate_slots(
 ) -> Eliminated
     requires { ⌜ Asked (now kept) (now cleared) sizes (now factors) (now messages) (length (now work)) (now keys) (now heads) (now slots) ⌝ }
     requires { ⌜ Roomy (now kept) (now cleared) sizes (now keys) (now heads) (now slots) to (length (now messages)) ⌝ }
-    ensures { λ r. ⌜ r ≡ answer (eliminate (viewsOf (now (factors .entry)) (now (messages .entry)) (now (keys .entry)) (now (heads .entry)) (now (slots .entry))) (now (kept .entry)) (now (cleared .entry)) sizes) ⌝ }
-    ensures { λ _. ⌜ now (messages .exit) ≡ stored (now (messages .entry)) to (eliminate (viewsOf (now (factors .entry)) (now (messages .entry)) (now (keys .entry)) (now (heads .entry)) (now (slots .entry))) (now (kept .entry)) (now (cleared .entry)) sizes) ⌝ }
-    ensures { λ r. ⌜ eliminatedTold r ≡ outcomeTold (eliminate (viewsOf (now (factors .entry)) (now (messages .entry)) (now (keys .entry)) (now (heads .entry)) (now (slots .entry))) (now (kept .entry)) (now (cleared .entry)) sizes) ⌝ }
+    ensures { λ r. ⌜ r
+        ≡ answer (eliminate (viewsOf (now (factors .entry)) (now (messages .entry)) (now (keys .entry)) (now (heads .entry)) (now (slots .entry)))
+        (now (kept .entry)) (now (cleared .entry)) sizes) ⌝ }
+    ensures { λ _. ⌜ now (messages .exit)
+        ≡ stored (now (messages .entry)) to
+        (eliminate (viewsOf (now (factors .entry)) (now (messages .entry)) (now (keys .entry)) (now (heads .entry)) (now (slots .entry)))
+        (now (kept .entry)) (now (cleared .entry)) sizes) ⌝ }
+    ensures { λ r. ⌜ eliminatedTold r
+        ≡ outcomeTold (eliminate (viewsOf (now (factors .entry)) (now (messages .entry)) (now (keys .entry)) (now (heads .entry)) (now (slots .entry)))
+        (now (kept .entry)) (now (cleared .entry)) sizes) ⌝ }
 {
     match eliminate_in(
         factors,

@@ -153,8 +153,14 @@ pub fn marginalize<'a>(
 ) -> Answer
     requires { ⌜ Asked (key ∷ []) (now cleared) sizes (now factors) (now messages) (length (now work)) (now keys) (now heads) (now slots) ⌝ }
     requires { ⌜ getD sizes key 0 ≤ max-size ⌝ }
-    ensures { λ r. ⌜ r ≡ marginalFrom key (getD sizes key 0) (eliminate (viewsOf (now (factors .entry)) (now (messages .entry)) (now (keys .entry)) (now (heads .entry)) (now (slots .entry))) (key ∷ []) (now (cleared .entry)) sizes) ⌝ }
-    ensures { λ r. ⌜ endingTold (r .ending) ≡ lastTold (getD sizes key 0) (eliminate (viewsOf (now (factors .entry)) (now (messages .entry)) (now (keys .entry)) (now (heads .entry)) (now (slots .entry))) (key ∷ []) (now (cleared .entry)) sizes) ⌝ }
+    ensures { λ r. ⌜ r
+        ≡ marginalFrom key (getD sizes key 0)
+        (eliminate (viewsOf (now (factors .entry)) (now (messages .entry)) (now (keys .entry)) (now (heads .entry)) (now (slots .entry)))
+        (key ∷ []) (now (cleared .entry)) sizes) ⌝ }
+    ensures { λ r. ⌜ endingTold (r .ending)
+        ≡ lastTold (getD sizes key 0)
+        (eliminate (viewsOf (now (factors .entry)) (now (messages .entry)) (now (keys .entry)) (now (heads .entry)) (now (slots .entry)))
+        (key ∷ []) (now (cleared .entry)) sizes) ⌝ }
 {
     let kept = [key];
     let size = dim_of(&kept, sizes);

@@ -2,14 +2,14 @@
 use mathlib.Core.Path.{_≡_, refl}
 use mathlib.Core.Bool.{false}
 use mathlib.Core.List.{List}
-use Prim.Native.Nat.{ℕ, _+_, _*_, _≤_, _<_}
+use Prim.Native.Nat.{ℕ, _+_, _*_, _≤_}
 use native.Mathlib.Nat.{mul-le-mul}
 use native.Mathlib.Omega.{arith}
-use borrow.Author.Tests.{le-leb, lt-leb}
 use lib.ListN.{length}
 use Rattle.slots.specs.Layouts.{dimOf, layoutOf, Listed}
 use Rattle.slots.specs.Tables.{rowsByAll, numbersOf}
 use Rattle.slots.specs.declared.layout.Layout.{Layout}
+use Rattle.gaussian.specs.Elimination.{messageRows}
 use Rattle.gaussian.proofs.Lengths.{rows-few}
 use Rattle.factor.specs.Factor.{lay}
 use Rattle.tables.specs.Originals.{withHead}
@@ -17,11 +17,8 @@ use Rattle.messages.specs.Asked.{rowsBy, firstOf}
 
 module _ (kept cleared slots sizes keys heads : List ℕ) (m : Layout) (y d : ℕ) (em : m ≡ layoutOf kept cleared sizes)
     (ey : y ≡ rowsByAll m keys heads slots (length slots)) (ed : d ≡ dimOf sizes kept) where
-  pub all-rows : y ≤ d → y ≡ rowsBy kept cleared slots sizes keys heads
-  all-rows h = rw (← em, ← ey, ← ed, le-leb y d h) refl
-
-  pub kept-rows : d < y → d ≡ rowsBy kept cleared slots sizes keys heads
-  kept-rows h = rw (← em, ← ey, ← ed, lt-leb y d h) refl
+  pub rows-are : (r : ℕ) → r ≡ messageRows y d → r ≡ rowsBy kept cleared slots sizes keys heads
+  rows-are r er = rw (← em, ← ey, ← ed) er
 
 -- products of rows and columns are small
 pub products : (r d : ℕ) → r ≤ 32 → d ≤ 32 → (r * d ≤ 1024) × (r * r ≤ 1024)

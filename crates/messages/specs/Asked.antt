@@ -7,7 +7,7 @@ use Rattle.slots.specs.Limits.{head-numbers, max-slots}
 use Rattle.slots.specs.Layouts.{dimOf, layoutOf, Listed}
 use Rattle.slots.specs.Tables.{rowsByAll}
 use Rattle.slots.specs.Fitting.{Counted}
-use Rattle.gaussian.specs.Asked.{messageRows}
+use Rattle.gaussian.specs.Elimination.{messageRows}
 use Rattle.lists.specs.declared.Lists.{Lists}
 use Rattle.messages.specs.Values.{Stop, none, stopped}
 use Rattle.messages.specs.declared.Carried.{Carried}

@@ -53,7 +53,7 @@ fn put_list(table: &mut [usize], first: usize, list: &[usize])
     }
 }
 
-// The rows of a message, by the heads of its slots: all their rows, but no more than it has kept columns.
+// The rows of a message, by the heads of its slots.
 fn message_rows(
     kept: &[usize],
     cleared: &[usize],
@@ -68,7 +68,7 @@ fn message_rows(
     let layout = layout_of(kept, cleared, sizes);
     let y = count_rows(layout, keys, heads, slots);
     let d = dim_of(kept, sizes);
-    if y <= d { y } else { d }
+    gaussian::message_rows(y, d)
 }
 
 // The head and the keys of a message go into the tables; the answer is where the next message's numbers begin.

@@ -1,5 +1,5 @@
 -- What the block columns of one factor add: each product fits its matrix, and a turn of each loop adds one. Assumes nothing.
-use Prim.Native.Nat.{ℕ, zero, suc, _+_, _-_, _*_, _≤_, _<_}
+use Prim.Native.Nat.{ℕ, zero, suc, _+_, _-_, _*_, _≤_, _<_, compare, Ordering, Ordering·lt, Ordering·eq, Ordering·gt}
 use mathlib.Core.Path.{_≡_, refl, ap, _∙_, sym, subst}
 use mathlib.Core.Bool.{Bool, true, false, cond}
 use mathlib.Core.List.{List}
@@ -8,7 +8,6 @@ use native.Mathlib.Omega.{arith}
 use native.Mathlib.Numerals.{add-one}
 use lib.ListN.{length, getD, replicate, length-replicate}
 use lib.Ieee.{Float}
-use lib.Dec.{leb}
 use Rattle.matrix.specs.Views.{entry, Inside, flip, columns, part}
 use Rattle.matrix.specs.Sums.{plus-zero, dotOf}
 use Rattle.matrix.specs.Products.{updated, productEntry, product}
@@ -26,6 +25,8 @@ use Rattle.workspace.specs.declared.Part.{Part}
 use Rattle.workspace.specs.declared.Part.the-variants.{S, H, G, A, Xi, W}
 use Rattle.workspace.proofs.Parts.{inner, length-part}
 use Rattle.workspace.proofs.InPlace.{dot-same}
+use Rattle.slots.specs.declared.Branch.{Branch}
+use Rattle.slots.specs.declared.Branch.the-variants.{Z, X}
 use Rattle.slots.specs.declared.layout.Layout.{Layout}
 use Rattle.slots.specs.Layouts.{find}
 use Rattle.slots.specs.Views.{target, targetOf, withProduct, withProducts, withOwn, withKey, withKeys}
@@ -51,54 +52,64 @@ corner-fits f p n m v i j a b e ev hi hj = rw (ev, e) (inner n m i j a b hi hj)
 pub dense-flip : (m n len : ℕ) → m * n ≤ len → Inside (flip (columns m)) n m len
 dense-flip m n len h i j hi hj = omega (arith, dense m n len h j i hj hi)
 
+-- a block of S for two cleared keys, and in x one of W for two kept keys
+in-s : (f : Frame) (len : ℕ) (k o : Spot) → Laid f len → k .at + k .size ≤ f .cleared → o .at + o .size ≤ f .cleared
+    → Inside (corner (f .cleared) (k .at) (o .at)) (k .size) (o .size) (to f S - from f S)
+in-s f len k o l hk ho = corner-fits f S (f .cleared) (f .cleared) (corner (f .cleared) (k .at) (o .at)) (k .at) (o .at) (k .size) (o .size)
+    (omega arith) refl hk ho
+
+in-w : (f : Frame) (len : ℕ) (k o : Spot) → Laid f len → f .rows ≡ f .kept → k .at + k .size ≤ f .kept → o .at + o .size ≤ f .kept
+    → Inside (corner (f .rows) (k .at) (o .at)) (k .size) (o .size) (to f W - from f W)
+in-w f len k o l e hk ho =
+    corner-fits f W (f .rows) (f .rows) (corner (f .rows) (k .at) (o .at)) (k .at) (o .at) (k .size) (o .size) (omega arith) refl (omega arith) (omega arith)
+
 abbrev Fits : Frame → ℕ → ℕ → Target → Type 0
 Fits f m n Nowhere = Unit
 Fits f m n (At p v) = Inside v m n (to f p - from f p)
 
-fits-of : (z kg og below above : Bool) (f : Frame) (len ka ks oa os : ℕ) → Laid f len → (z ≡ false → f .rows ≡ f .kept)
-    → ka + ks ≤ cond kg (f .cleared) (f .kept) → oa + os ≤ cond og (f .cleared) (f .kept)
-    → Fits f ks os (targetOf z kg og below above f ka oa)
+fits-of : (branch : Branch) (kg og : Bool) (order : Ordering) (f : Frame) (len : ℕ) (k o : Spot) → Laid f len → (branch ≡ X → f .rows ≡ f .kept)
+    → k .at + k .size ≤ cond kg (f .cleared) (f .kept) → o .at + o .size ≤ cond og (f .cleared) (f .kept)
+    → Fits f (k .size) (o .size) (targetOf branch kg og order f k o)
 unfolding targetOf
-fits-of false true true true above f len ka ks oa os l x hk ho = corner-fits f S (f .cleared) (f .cleared) (corner (f .cleared) ka oa) ka oa ks os
-    (omega arith) refl hk ho
-fits-of false true true false above f len ka ks oa os l x hk ho = tt
-fits-of false true false below above f len ka ks oa os l x hk ho = let e : f .rows
-    ≡ f .kept = x refl in corner-fits f G (f .cleared) (f .rows) (corner (f .cleared) ka oa) ka oa ks os (omega arith) refl hk (omega arith)
-fits-of false false true below above f len ka ks oa os l x hk ho = tt
-fits-of false false false true above f len ka ks oa os l x hk ho = let e : f .rows
-    ≡ f .kept = x refl in corner-fits f W (f .rows) (f .rows) (corner (f .rows) ka oa) ka oa ks os (omega arith) refl (omega arith) (omega arith)
-fits-of false false false false above f len ka ks oa os l x hk ho = tt
-fits-of true true true true true f len ka ks oa os l x hk ho = corner-fits f S (f .cleared) (f .cleared) (corner (f .cleared) ka oa) ka oa ks os
-    (omega arith) refl hk ho
-fits-of true true true false true f len ka ks oa os l x hk ho =
-    λ i j hi hj. omega (arith, corner-fits f S (f .cleared) (f .cleared) (corner (f .cleared) oa ka) oa ka os ks (omega arith) refl ho hk j i hj hi)
-fits-of true true true below false f len ka ks oa os l x hk ho = tt
-fits-of true true false below above f len ka ks oa os l x hk ho = tt
-fits-of true false og below above f len ka ks oa os l x hk ho = tt
+fits-of Z true true Ordering·lt f len k o l x hk ho = tt
+fits-of Z true true Ordering·eq f len k o l x hk ho = in-s f len k o l hk ho
+fits-of Z true true Ordering·gt f len k o l x hk ho = λ i j hi hj. omega (arith, in-s f len o k l ho hk j i hj hi)
+fits-of Z true false order f len k o l x hk ho = tt
+fits-of Z false og order f len k o l x hk ho = tt
+fits-of X true true Ordering·lt f len k o l x hk ho = in-s f len k o l hk ho
+fits-of X true true Ordering·eq f len k o l x hk ho = in-s f len k o l hk ho
+fits-of X true true Ordering·gt f len k o l x hk ho = tt
+fits-of X true false order f len k o l x hk ho =
+    let e : f .rows ≡ f .kept = x refl in
+    corner-fits f G (f .cleared) (f .rows) (corner (f .cleared) (k .at) (o .at)) (k .at) (o .at) (k .size) (o .size) (omega arith) refl hk (omega arith)
+fits-of X false true order f len k o l x hk ho = tt
+fits-of X false false Ordering·lt f len k o l x hk ho = in-w f len k o l (x refl) hk ho
+fits-of X false false Ordering·eq f len k o l x hk ho = in-w f len k o l (x refl) hk ho
+fits-of X false false Ordering·gt f len k o l x hk ho = tt
 
-pub goes-inside : (z : Bool) (f : Frame) (len : ℕ) (k o : Spot) (r : Target) (p : Part) (v : View) → Laid f len → (z ≡ false → f .rows ≡ f .kept)
-    → Sits f k → Sits f o
-    → r ≡ target z f k o → r ≡ At p v → Inside v (k .size) (o .size) (to f p - from f p)
-goes-inside z f len k o r p v l x hk ho er ea =
+pub goes-inside : (branch : Branch) (f : Frame) (len : ℕ) (k o : Spot) (r : Target) (p : Part) (v : View) → Laid f len
+    → (branch ≡ X → f .rows ≡ f .kept) → Sits f k → Sits f o
+    → r ≡ target branch f k o → r ≡ At p v → Inside v (k .size) (o .size) (to f p - from f p)
+goes-inside branch f len k o r p v l x hk ho er ea =
     subst (λ (t : Target). Fits f (k .size) (o .size) t) (sym er ∙ ea)
-    (fits-of z (k .cleared) (o .cleared) (leb (o .key) (k .key)) (leb (k .key) (o .key)) f len (k .at) (k .size) (o .at) (o .size) l x hk ho)
+    (fits-of branch (k .cleared) (o .cleared) (compare (o .key) (k .key)) f len k o l x hk ho)
 
 pub fits-part : (a : List Float) (p q n : ℕ) → q ≤ length a → q - p ≡ n → n ≤ length (part a p q)
 fits-part a p q n h e = omega (arith, length-part a p q h)
 
 -- ---- one pair
 
-pub no-product : (z : Bool) (f : Frame) (k o : Spot) (r : Target) (s : ℕ) (t : List Float) (y : ℕ) (b : List Float) (n : ℕ) (σ : Sums) → r
-    ≡ target z f k o → r ≡ Nowhere
-    → σ ≡ withProduct (target z f k o) s t y b n σ
+pub no-product : (branch : Branch) (f : Frame) (k o : Spot) (r : Target) (s : ℕ) (t : List Float) (y : ℕ) (b : List Float) (n : ℕ) (σ : Sums) → r
+    ≡ target branch f k o → r ≡ Nowhere
+    → σ ≡ withProduct (target branch f k o) s t y b n σ
 unfolding withProduct
-no-product z f k o r s t y b n σ er en = subst (λ (q : Target). σ ≡ withProduct q s t y b n σ) (sym en ∙ er) refl
+no-product branch f k o r s t y b n σ er en = subst (λ (q : Target). σ ≡ withProduct q s t y b n σ) (sym en ∙ er) refl
 
-pub product-at-target : (z : Bool) (f : Frame) (k o : Spot) (r : Target) (p : Part) (v : View) (s : ℕ) (t : List Float) (y : ℕ) (b : List Float)
-    (n : ℕ) (σ σ′ : Sums) → r ≡ target z f k o → r ≡ At p v
-    → σ′ ≡ change p (λ c. product Add v s t (columns s) b (columns y) y c n) σ → σ′ ≡ withProduct (target z f k o) s t y b n σ
+pub product-at-target : (branch : Branch) (f : Frame) (k o : Spot) (r : Target) (p : Part) (v : View) (s : ℕ) (t : List Float) (y : ℕ)
+    (b : List Float) (n : ℕ) (σ σ′ : Sums) → r ≡ target branch f k o → r ≡ At p v
+    → σ′ ≡ change p (λ c. product Add v s t (columns s) b (columns y) y c n) σ → σ′ ≡ withProduct (target branch f k o) s t y b n σ
 unfolding withProduct
-product-at-target z f k o r p v s t y b n σ σ′ er ea e = subst (λ (q : Target). σ′ ≡ withProduct q s t y b n σ) (sym ea ∙ er) e
+product-at-target branch f k o r p v s t y b n σ σ′ er ea e = subst (λ (q : Target). σ′ ≡ withProduct q s t y b n σ) (sym ea ∙ er) e
 
 -- ---- the columns of a factor
 
@@ -126,37 +137,38 @@ column-fits {sizes} {keys} {y} {len} {c} {s} i w h ec es =
 pub fits-block : (a b : List Float) (y c s : ℕ) → b ≡ blockColumnOf a y c s → (c + s) * y ≤ length a → y * s ≤ length b
 fits-block a b y c s e h = rw e (fits-part a (c * y) ((c + s) * y) (y * s) h (omega arith))
 
-pub products-more : (z : Bool) (f : Frame) (m : Layout) (keys : List ℕ) (y : ℕ) (a : List Float) (k o : Spot) (t b : List Float) (σ₀ σ σ′ : Sums) (j c : ℕ)
-    → σ ≡ withProducts z f m keys y a k t σ₀ j → c ≡ column (m .size) keys j → o ≡ find m (getD keys j 0) → b ≡ blockColumnOf a y c (o .size)
-    → σ′ ≡ withProduct (target z f k o) (k .size) t y b (o .size) σ
-    → σ′ ≡ withProducts z f m keys y a k t σ₀ (j + 1)
+pub products-more : (branch : Branch) (f : Frame) (m : Layout) (keys : List ℕ) (y : ℕ) (a : List Float) (k o : Spot) (t b : List Float)
+    (σ₀ σ σ′ : Sums) (j c : ℕ)
+    → σ ≡ withProducts branch f m keys y a k t σ₀ j → c ≡ column (m .size) keys j → o ≡ find m (getD keys j 0) → b ≡ blockColumnOf a y c (o .size)
+    → σ′ ≡ withProduct (target branch f k o) (k .size) t y b (o .size) σ
+    → σ′ ≡ withProducts branch f m keys y a k t σ₀ (j + 1)
 unfolding withProducts turns
-products-more z f m keys y a k o t b σ₀ σ σ′ j c es ec eo eb en = rw (en, eb, ec, eo, add-one j, es)
+products-more branch f m keys y a k o t b σ₀ σ σ′ j c es ec eo eb en = rw (en, eb, ec, eo, add-one j, es)
 
 -- ---- the block column of k itself
 
-module _ (z : Bool) (f : Frame) (row : ℕ) (k : Spot) (b xi w : List Float) (y : ℕ) (σ σ₁ : Sums) (v : View) where
-  pub own-cleared-x : k .cleared ≡ true → z ≡ false → v ≡ corner (f .cleared) (k .at) 0 → σ₁
+module _ (branch : Branch) (f : Frame) (row : ℕ) (k : Spot) (b xi w : List Float) (y : ℕ) (σ σ₁ : Sums) (v : View) where
+  pub own-cleared-x : k .cleared ≡ true → branch ≡ X → v ≡ corner (f .cleared) (k .at) 0 → σ₁
       ≡ change H (λ c. product Add v (k .size) b (flip (columns y)) xi (columns y) y c 1) σ
-      → σ₁ ≡ withOwn z (k .cleared) f row k b xi w y σ
+      → σ₁ ≡ withOwn branch (k .cleared) f row k b xi w y σ
   unfolding withOwn
   own-cleared-x g x ev e = rw (g, x, e, ev)
 
-  pub own-cleared-z : (σ₂ : Sums) (u : View) → k .cleared ≡ true → z ≡ true → v ≡ corner (f .cleared) (k .at) 0 → u ≡ corner (f .cleared) (k .at) row
+  pub own-cleared-z : (σ₂ : Sums) (u : View) → k .cleared ≡ true → branch ≡ Z → v ≡ corner (f .cleared) (k .at) 0 → u ≡ corner (f .cleared) (k .at) row
       → σ₁ ≡ change H (λ c. product Add v (k .size) b (flip (columns y)) xi (columns y) y c 1) σ
       → σ₂ ≡ change G (λ c. product Store u (k .size) b (flip (columns y)) w (columns y) y c y) σ₁
-      → σ₂ ≡ withOwn z (k .cleared) f row k b xi w y σ
+      → σ₂ ≡ withOwn branch (k .cleared) f row k b xi w y σ
   unfolding withOwn
   own-cleared-z σ₂ u g x ev eu e e′ = rw (g, x, e′, e, ev, eu)
 
-  pub own-kept-z : k .cleared ≡ false → z ≡ true → v ≡ corner (f .rows) row (k .at) → σ₁ ≡ change A (λ c. stamp Store v y b (columns y) c (k .size)) σ
-      → σ₁ ≡ withOwn z (k .cleared) f row k b xi w y σ
+  pub own-kept-z : k .cleared ≡ false → branch ≡ Z → v ≡ corner (f .rows) row (k .at) → σ₁ ≡ change A (λ c. stamp Store v y b (columns y) c (k .size)) σ
+      → σ₁ ≡ withOwn branch (k .cleared) f row k b xi w y σ
   unfolding withOwn
   own-kept-z g x ev e = rw (g, x, e, ev)
 
-  pub own-kept-x : k .cleared ≡ false → z ≡ false → v ≡ corner (f .rows) (k .at) 0 → σ₁
+  pub own-kept-x : k .cleared ≡ false → branch ≡ X → v ≡ corner (f .rows) (k .at) 0 → σ₁
       ≡ change Xi (λ c. product Add v (k .size) b (flip (columns y)) xi (columns y) y c 1) σ
-      → σ₁ ≡ withOwn z (k .cleared) f row k b xi w y σ
+      → σ₁ ≡ withOwn branch (k .cleared) f row k b xi w y σ
   unfolding withOwn
   own-kept-x g x ev e = rw (g, x, e, ev)
 
@@ -190,38 +202,38 @@ product-same (At p v) s t u y b n σ h =
     (λ i j hi hj x. ap (λ (d : Float). updated Add x d) (dot-same t u (columns s) (columns s) i b b (columns y) (columns y) j y (λ l hl. h i l hi hl)
     (λ l hl. refl))))
 
-products-same : (z : Bool) (f : Frame) (m : Layout) (keys : List ℕ) (y : ℕ) (a : List Float) (k : Spot) (t u : List Float) (σ : Sums) (n : ℕ)
+products-same : (branch : Branch) (f : Frame) (m : Layout) (keys : List ℕ) (y : ℕ) (a : List Float) (k : Spot) (t u : List Float) (σ : Sums) (n : ℕ)
     → Same t u (k .size) y
-    → withProducts z f m keys y a k t σ n ≡ withProducts z f m keys y a k u σ n
+    → withProducts branch f m keys y a k t σ n ≡ withProducts branch f m keys y a k u σ n
 unfolding withProducts turns
-products-same z f m keys y a k t u σ zero h = refl
-products-same z f m keys y a k t u σ (suc n) h =
-    rw (products-same z f m keys y a k t u σ n h)
-    (product-same (target z f k (find m (getD keys n 0))) (k .size) t u y (blockColumnOf a y (column (m .size) keys n) (find m (getD keys n 0) .size))
-    (find m (getD keys n 0) .size)
-    (withProducts z f m keys y a k u σ n) h)
+products-same branch f m keys y a k t u σ zero h = refl
+products-same branch f m keys y a k t u σ (suc n) h =
+    rw (products-same branch f m keys y a k t u σ n h)
+    (product-same (target branch f k (find m (getD keys n 0))) (k .size) t u y
+    (blockColumnOf a y (column (m .size) keys n) (find m (getD keys n 0) .size)) (find m (getD keys n 0) .size)
+    (withProducts branch f m keys y a k u σ n) h)
 
-pub key-is : (z : Bool) (f : Frame) (m : Layout) (row : ℕ) (keys : List ℕ) (y : ℕ) (a xi w : List Float) (k : Spot) (b t₀ t : List Float)
+pub key-is : (branch : Branch) (f : Frame) (m : Layout) (row : ℕ) (keys : List ℕ) (y : ℕ) (a xi w : List Float) (k : Spot) (b t₀ t : List Float)
     (σ σ₁ σ₂ : Sums) → k .size * y ≤ length t₀
-    → σ₁ ≡ withOwn z (k .cleared) f row k b xi w y σ
+    → σ₁ ≡ withOwn branch (k .cleared) f row k b xi w y σ
     → t ≡ product Store (columns (k .size)) (k .size) b (flip (columns y)) w (columns y) y t₀ y
-    → σ₂ ≡ withProducts z f m keys y a k t σ₁ (length keys)
-    → σ₂ ≡ withKey z f m row keys y a xi w k b σ
+    → σ₂ ≡ withProducts branch f m keys y a k t σ₁ (length keys)
+    → σ₂ ≡ withKey branch f m row keys y a xi w k b σ
 unfolding withKey transposedTimes
-key-is z f m row keys y a xi w k b t₀ t σ σ₁ σ₂ h e₁ et e₂ =
+key-is branch f m row keys y a xi w k b t₀ t σ σ₁ σ₂ h e₁ et e₂ =
     rw (e₂, ← e₁)
-    (products-same z f m keys y a k t (transposedTimes b (k .size) w y) σ₁ (length keys)
+    (products-same branch f m keys y a k t (transposedTimes b (k .size) w y) σ₁ (length keys)
     (λ i j hi hj. rw et (stored-at t₀ (k .size) y b (flip (columns y)) w (columns y) y h i j hi hj)
     ∙ sym (stored-at (replicate (k .size * y) plus-zero) (k .size) y b (flip (columns y)) w (columns y) y
     (rw (length-replicate (k .size * y) plus-zero) (omega arith)) i j hi hj)))
 
-pub keys-more : (z : Bool) (f : Frame) (m : Layout) (row : ℕ) (keys : List ℕ) (y : ℕ) (a xi w : List Float) (k : Spot) (b : List Float)
+pub keys-more : (branch : Branch) (f : Frame) (m : Layout) (row : ℕ) (keys : List ℕ) (y : ℕ) (a xi w : List Float) (k : Spot) (b : List Float)
     (σ₀ σ σ′ : Sums) (i c : ℕ)
-    → σ ≡ withKeys z f m row keys y a xi w σ₀ i → c ≡ column (m .size) keys i → k ≡ find m (getD keys i 0) → b ≡ blockColumnOf a y c (k .size)
-    → σ′ ≡ withKey z f m row keys y a xi w k b σ
-    → σ′ ≡ withKeys z f m row keys y a xi w σ₀ (i + 1)
+    → σ ≡ withKeys branch f m row keys y a xi w σ₀ i → c ≡ column (m .size) keys i → k ≡ find m (getD keys i 0) → b ≡ blockColumnOf a y c (k .size)
+    → σ′ ≡ withKey branch f m row keys y a xi w k b σ
+    → σ′ ≡ withKeys branch f m row keys y a xi w σ₀ (i + 1)
 unfolding withKeys turns
-keys-more z f m row keys y a xi w k b σ₀ σ σ′ i c es ec ek eb en = rw (en, eb, ec, ek, add-one i, es)
+keys-more branch f m row keys y a xi w k b σ₀ σ σ′ i c es ec ek eb en = rw (en, eb, ec, ek, add-one i, es)
 
 -- B'W of any key fits the slice that takes it
 pub scratch : (s y m n : ℕ) → s ≤ 6 → 6 * y ≤ n → m ≡ n → s * y ≤ m

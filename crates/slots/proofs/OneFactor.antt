@@ -16,65 +16,67 @@ use Rattle.workspace.specs.Blocks.{corner, stamp}
 use Rattle.workspace.specs.Sums.{Sums, change}
 use Rattle.workspace.specs.declared.Frame.{Frame}
 use Rattle.workspace.specs.declared.Part.the-variants.{S, H, A, Xi, W}
+use Rattle.slots.specs.declared.Branch.{Branch}
+use Rattle.slots.specs.declared.Branch.the-variants.{Z, X}
 use Rattle.slots.specs.declared.layout.Layout.{Layout}
 use Rattle.slots.specs.Layouts.{find}
 use Rattle.slots.specs.Views.{withKeys, withRows, withPrior, withView}
 use Rattle.slots.specs.Tables.{viewOf}
-use Rattle.slots.specs.Fitting.{Fitted, Branch, Wide}
+use Rattle.slots.specs.Fitting.{Fitted, BranchFits, Wide}
 use Rattle.slots.specs.declared.layout.Spot.{Spot}
 use Rattle.slots.proofs.Adding.{fits-part}
 
-module _ (z : Bool) (f : Frame) (row y : ℕ) (xi w : List Float) (σ : Sums) where
-  pub rows-x : z ≡ false → σ ≡ withRows z f row y xi w σ
+module _ (branch : Branch) (f : Frame) (row y : ℕ) (xi w : List Float) (σ : Sums) where
+  pub rows-x : branch ≡ X → σ ≡ withRows branch f row y xi w σ
   unfolding withRows
   rows-x e = rw e
 
-  pub rows-z : (σ₁ σ₂ : Sums) (u v : View) → z ≡ true → u ≡ corner (f .rows) row 0 → v ≡ corner (f .rows) row row → σ₁
+  pub rows-z : (σ₁ σ₂ : Sums) (u v : View) → branch ≡ Z → u ≡ corner (f .rows) row 0 → v ≡ corner (f .rows) row row → σ₁
       ≡ change Xi (λ c. stamp Store u y xi (columns y) c 1) σ
-      → σ₂ ≡ change W (λ c. stamp Store v y w (columns y) c y) σ₁ → σ₂ ≡ withRows z f row y xi w σ
+      → σ₂ ≡ change W (λ c. stamp Store v y w (columns y) c y) σ₁ → σ₂ ≡ withRows branch f row y xi w σ
   unfolding withRows
   rows-z σ₁ σ₂ u v e eu ev e₁ e₂ = rw (e, e₂, e₁, eu, ev)
 
-module _ (z : Bool) (f : Frame) (row : ℕ) (k : Spot) (xi w : List Float) (σ σ₁ σ₂ : Sums) where
+module _ (branch : Branch) (f : Frame) (row : ℕ) (k : Spot) (xi w : List Float) (σ σ₁ σ₂ : Sums) where
   pub prior-cleared : (u v : View) → k .cleared ≡ true → u ≡ corner (f .cleared) (k .at) 0 → v ≡ corner (f .cleared) (k .at) (k .at)
       → σ₁ ≡ change H (λ c. stamp Add u (k .size) xi (columns (k .size)) c 1) σ → σ₂
       ≡ change S (λ c. stamp Add v (k .size) w (columns (k .size)) c (k .size)) σ₁
-      → σ₂ ≡ withPrior z (k .cleared) f row k xi w σ
+      → σ₂ ≡ withPrior branch (k .cleared) f row k xi w σ
   unfolding withPrior
   prior-cleared u v g eu ev e₁ e₂ = rw (g, e₂, e₁, eu, ev)
 
-  pub prior-x : (u v : View) → k .cleared ≡ false → z ≡ false → u ≡ corner (f .rows) (k .at) 0 → v ≡ corner (f .rows) (k .at) (k .at)
+  pub prior-x : (u v : View) → k .cleared ≡ false → branch ≡ X → u ≡ corner (f .rows) (k .at) 0 → v ≡ corner (f .rows) (k .at) (k .at)
       → σ₁ ≡ change Xi (λ c. stamp Add u (k .size) xi (columns (k .size)) c 1) σ → σ₂
       ≡ change W (λ c. stamp Add v (k .size) w (columns (k .size)) c (k .size)) σ₁
-      → σ₂ ≡ withPrior z (k .cleared) f row k xi w σ
+      → σ₂ ≡ withPrior branch (k .cleared) f row k xi w σ
   unfolding withPrior
   prior-x u v g x eu ev e₁ e₂ = rw (g, x, e₂, e₁, eu, ev)
 
-  pub prior-z : (v : View) → k .cleared ≡ false → z ≡ true → v ≡ corner (f .rows) row (k .at) → σ₁ ≡ withRows z f row (k .size) xi w σ → σ₂
+  pub prior-z : (v : View) → k .cleared ≡ false → branch ≡ Z → v ≡ corner (f .rows) row (k .at) → σ₁ ≡ withRows branch f row (k .size) xi w σ → σ₂
       ≡ change A (λ c. filledDiagonal v one c (k .size)) σ₁
-      → σ₂ ≡ withPrior z (k .cleared) f row k xi w σ
+      → σ₂ ≡ withPrior branch (k .cleared) f row k xi w σ
   unfolding withPrior
   prior-z v g x ev e₁ e₂ = rw (g, x, e₂, e₁, ev, x)
 
-module _ (z : Bool) (f : Frame) (m : Layout) (row : ℕ) (p : Bool) (keys : List ℕ) (y d : ℕ) (t : List Float) (σ σ₁ : Sums) where
+module _ (branch : Branch) (f : Frame) (m : Layout) (row : ℕ) (p : Bool) (keys : List ℕ) (y d : ℕ) (t : List Float) (σ σ₁ : Sums) where
   pub view-prior : (k : Spot) → p ≡ true → k ≡ find m (getD keys 0 0)
-      → σ₁ ≡ withPrior z (k .cleared) f row k (part t (y * d) (y * d + y)) (part t (y * d + y) (y * d + y + y * y)) σ
-      → σ₁ ≡ withView z f m row (viewOf p keys y d t) σ
+      → σ₁ ≡ withPrior branch (k .cleared) f row k (part t (y * d) (y * d + y)) (part t (y * d + y) (y * d + y + y * y)) σ
+      → σ₁ ≡ withView branch f m row (viewOf p keys y d t) σ
   unfolding withView
   view-prior k ep ek e = rw (ep, e, ek)
 
-  pub view-other : (σ₂ : Sums) → p ≡ false → σ₁ ≡ withRows z f row y (part t (y * d) (y * d + y)) (part t (y * d + y) (y * d + y + y * y)) σ
-      → σ₂ ≡ withKeys z f m row keys y (part t 0 (y * d)) (part t (y * d) (y * d + y)) (part t (y * d + y) (y * d + y + y * y)) σ₁ (length keys)
-      → σ₂ ≡ withView z f m row (viewOf p keys y d t) σ
+  pub view-other : (σ₂ : Sums) → p ≡ false → σ₁ ≡ withRows branch f row y (part t (y * d) (y * d + y)) (part t (y * d + y) (y * d + y + y * y)) σ
+      → σ₂ ≡ withKeys branch f m row keys y (part t 0 (y * d)) (part t (y * d) (y * d + y)) (part t (y * d + y) (y * d + y + y * y)) σ₁ (length keys)
+      → σ₂ ≡ withView branch f m row (viewOf p keys y d t) σ
   unfolding withView
   view-other σ₂ ep e₁ e₂ = rw (ep, e₂, e₁)
 
 -- what the calls ask for
-module _ {f : Frame} {m : Layout} {z : Bool} {row : ℕ} {p : Bool} {keys : List ℕ} {y d tl len : ℕ} (h : Fitted f m z row p keys y d tl len) where
-  pub branch-prior : p ≡ true → Branch z f row (cond (find m (getD keys 0 0) .cleared) 0 (find m (getD keys 0 0) .size))
+module _ {f : Frame} {m : Layout} {branch : Branch} {row : ℕ} {p : Bool} {keys : List ℕ} {y d tl len : ℕ} (h : Fitted f m branch row p keys y d tl len) where
+  pub branch-prior : p ≡ true → BranchFits branch f row (cond (find m (getD keys 0 0) .cleared) 0 (find m (getD keys 0 0) .size))
   branch-prior e = record { square = h .square; inside = λ x. rw e at (h .inside x) }
 
-  pub branch-other : p ≡ false → Branch z f row y
+  pub branch-other : p ≡ false → BranchFits branch f row y
   branch-other e = record { square = h .square; inside = λ x. rw e at (h .inside x) }
 
   pub wide-other : (len : ℕ) → p ≡ false → y * d ≤ len → Wide (m .size) keys y len

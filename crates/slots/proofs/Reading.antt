@@ -15,16 +15,17 @@ use Rattle.workspace.proofs.Parts.{length-part}
 use Rattle.slots.specs.Views.{withView, withViews, rowsOf, rowsOfAll}
 use Rattle.slots.specs.Tables.{keysAt, viewOf, readView, viewAt, headOf, rowsBy, rowsByAll}
 use Rattle.slots.specs.Fitting.{Fitted, Ready}
+use Rattle.slots.specs.declared.Branch.{Branch}
 use Rattle.slots.specs.declared.layout.Layout.{Layout}
 use Rattle.slots.specs.declared.Head.{Head}
 
 -- the numbers that are read have the length that the head says
-pub refit : {f : Frame} {m : Layout} {z : Bool} {row : ℕ} {p : Bool} {keys : List ℕ} {y d t n : ℕ} (s u : List Float) (at : ℕ) → u
+pub refit : {f : Frame} {m : Layout} {branch : Branch} {row : ℕ} {p : Bool} {keys : List ℕ} {y d t n : ℕ} (s u : List Float) (at : ℕ) → u
     ≡ part s at (at + n) → at + n ≤ length s
-    → Fitted f m z row p keys y d t n → Fitted f m z row p keys y d t (length u)
-refit {f} {m} {z} {row} {p} {keys} {y} {d} {t} {n} s u at e h r =
+    → Fitted f m branch row p keys y d t n → Fitted f m branch row p keys y d t (length u)
+refit {f} {m} {branch} {row} {p} {keys} {y} {d} {t} {n} s u at e h r =
     let g : n ≡ length u = rw e (sym (length-part s at (at + n) h ∙ omega arith)) in
-    subst (λ (k : ℕ). Fitted f m z row p keys y d t k) g r
+    subst (λ (k : ℕ). Fitted f m branch row p keys y d t k) g r
 
 -- the first key of a slot
 first-key : (keys : List ℕ) (h : Head) → 0 < length (keysAt keys h) → getD (keysAt keys h) 0 0 ≡ getD keys (h .first) 0
@@ -40,29 +41,29 @@ rows-of-view m true keys key y d t h k = rw (← k refl, h refl)
 rows-of-view m false keys key y d t h k = refl
 
 -- the key of a prior is where its head says
-pub prior-key : {f : Frame} {m : Layout} {z : Bool} {row : ℕ} {factors messages : List Float} {keys : List ℕ} {t : ℕ} {h : Head}
-    → Ready f m z row factors messages keys t h → h .prior ≡ true
+pub prior-key : {f : Frame} {m : Layout} {branch : Branch} {row : ℕ} {factors messages : List Float} {keys : List ℕ} {t : ℕ} {h : Head}
+    → Ready f m branch row factors messages keys t h → h .prior ≡ true
     → (h .first < length keys) × (getD keys (h .first) 0 < 32)
 prior-key {keys = keys} {h = h} r e =
     let s = r .fitted .some e in
     (omega (arith, r .listed, length-take (h .first + h .count - h .first) (drop (h .first) keys)), rw (← first-key keys h s) (r .fitted .known 0 s .listed))
 
 -- the rows by a head alone are those of the factor
-pub rows-is : {f : Frame} {m : Layout} {z : Bool} {row : ℕ} {factors messages : List Float} {keys : List ℕ} {t : ℕ} {h : Head}
-    → Ready f m z row factors messages keys t h
+pub rows-is : {f : Frame} {m : Layout} {branch : Branch} {row : ℕ} {factors messages : List Float} {keys : List ℕ} {t : ℕ} {h : Head}
+    → Ready f m branch row factors messages keys t h
     → rowsBy m keys h ≡ rowsOf m (readView factors messages keys h)
 unfolding rowsBy
 rows-is {m = m} {keys = keys} {h = h} r =
     rows-of-view m (h .prior) (keysAt keys h) (getD keys (h .first) 0) (h .rows) (h .width) _ (r .fitted .of-prior) (λ e. first-key keys h (r .fitted .some e))
 
-pub view-read : (z : Bool) (f : Frame) (m : Layout) (row : ℕ) (p : Bool) (keys : List ℕ) (y d : ℕ) (t u : List Float) (σ σ′ : Sums) → t ≡ u → σ′
-    ≡ withView z f m row (viewOf p keys y d t) σ
-    → σ′ ≡ withView z f m row (viewOf p keys y d u) σ
-view-read z f m row p keys y d t u σ σ′ e g = rw e at g
+pub view-read : (branch : Branch) (f : Frame) (m : Layout) (row : ℕ) (p : Bool) (keys : List ℕ) (y d : ℕ) (t u : List Float) (σ σ′ : Sums) → t ≡ u
+    → σ′ ≡ withView branch f m row (viewOf p keys y d t) σ
+    → σ′ ≡ withView branch f m row (viewOf p keys y d u) σ
+view-read branch f m row p keys y d t u σ σ′ e g = rw e at g
 
-pub re-ready : {f : Frame} {m : Layout} {z : Bool} {row row′ : ℕ} {factors messages : List Float} {keys : List ℕ} {t t′ : ℕ} {h h′ : Head} → row′
-    ≡ row → t′ ≡ t → h′ ≡ h
-    → Ready f m z row factors messages keys t h → Ready f m z row′ factors messages keys t′ h′
+pub re-ready : {f : Frame} {m : Layout} {branch : Branch} {row row′ : ℕ} {factors messages : List Float} {keys : List ℕ} {t t′ : ℕ} {h h′ : Head}
+    → row′ ≡ row → t′ ≡ t → h′ ≡ h
+    → Ready f m branch row factors messages keys t h → Ready f m branch row′ factors messages keys t′ h′
 re-ready er et eh r = rw (er, et, eh) r
 
 -- ---- one slot more
@@ -88,8 +89,8 @@ module _ (m : Layout) (factors messages : List Float) (keys heads slots : List �
   unfolding rowsOfAll viewAt
   rows-more row′ e = rw (e, eh, er, add-one i)
 
-  pub views-more : (z : Bool) (f : Frame) (σ₀ σ σ′ : Sums) → σ ≡ withViews z f m (viewAt factors messages keys heads slots) σ₀ i → σ′
-      ≡ withView z f m row (readView factors messages keys h) σ
-      → σ′ ≡ withViews z f m (viewAt factors messages keys heads slots) σ₀ (i + 1)
+  pub views-more : (branch : Branch) (f : Frame) (σ₀ σ σ′ : Sums) → σ ≡ withViews branch f m (viewAt factors messages keys heads slots) σ₀ i → σ′
+      ≡ withView branch f m row (readView factors messages keys h) σ
+      → σ′ ≡ withViews branch f m (viewAt factors messages keys heads slots) σ₀ (i + 1)
   unfolding withViews turns viewAt
-  views-more z f σ₀ σ σ′ es e = rw (e, eh, er, add-one i, es)
+  views-more branch f σ₀ σ σ′ es e = rw (e, eh, er, add-one i, es)

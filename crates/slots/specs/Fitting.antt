@@ -12,6 +12,8 @@ use Rattle.slots.specs.Limits.{max-slots, head-numbers}
 use Rattle.slots.specs.Layouts.{find}
 use Rattle.slots.specs.Views.{rowsOf}
 use Rattle.slots.specs.Tables.{headOf, keysAt, storeOf, numbersOf, viewOf}
+use Rattle.slots.specs.declared.Branch.{Branch}
+use Rattle.slots.specs.declared.Branch.the-variants.{Z, X}
 use Rattle.slots.specs.declared.layout.Layout.{Layout}
 use Rattle.slots.specs.declared.layout.Spot.{Spot}
 use Rattle.slots.specs.declared.Head.{Head}
@@ -20,10 +22,10 @@ use Rattle.slots.specs.declared.Head.{Head}
 abbrev pub Sits : Frame → Spot → Type 0
 Sits f k = k .at + k .size ≤ cond (k .cleared) (f .cleared) (f .kept)
 
--- in x there are as many rows as kept columns; in z the rows of a factor are inside
-pub record Branch (z : Bool) (f : Frame) (row y : ℕ) : Type 0 where
-  pub square : z ≡ false → f .rows ≡ f .kept
-  pub inside : z ≡ true → row + y ≤ f .rows
+-- what a branch needs of the frame: in x there are as many rows as kept columns; in z the rows of a factor are inside
+pub record BranchFits (branch : Branch) (f : Frame) (row y : ℕ) : Type 0 where
+  pub square : branch ≡ X → f .rows ≡ f .kept
+  pub inside : branch ≡ Z → row + y ≤ f .rows
 
 -- a key has a place in the layout and a size within the limit
 pub record KnownKey (f : Frame) (m : Layout) (key : ℕ) : Type 0 where
@@ -42,25 +44,25 @@ pub record Wide (sizes keys : List ℕ) (y len : ℕ) : Type 0 where
   pub whole : column sizes keys (length keys) * y ≤ len
 
 -- what `add_view` asks for: p tells a prior, t and len are the lengths of its working slice and of its numbers
-pub record Fitted (f : Frame) (m : Layout) (z : Bool) (row : ℕ) (p : Bool) (keys : List ℕ) (y d t len : ℕ) : Type 0 where
+pub record Fitted (f : Frame) (m : Layout) (branch : Branch) (row : ℕ) (p : Bool) (keys : List ℕ) (y d t len : ℕ) : Type 0 where
   pub some : p ≡ true → 0 < length keys
   pub known : Known f m keys
   pub count : length keys ≤ max-variables
   pub narrow : d ≤ max-total
   pub rows : y ≤ max-total
-  pub square : z ≡ false → f .rows ≡ f .kept
-  pub inside : z ≡ true → row + rowsOf m (viewOf p keys y d []) ≤ f .rows
+  pub square : branch ≡ X → f .rows ≡ f .kept
+  pub inside : branch ≡ Z → row + rowsOf m (viewOf p keys y d []) ≤ f .rows
   pub of-prior : p ≡ true → getD (m .size) (getD keys 0 0) 0 ≡ y
   pub of-other : p ≡ false → column (m .size) keys (length keys) ≡ d
   pub scratch : max-size * y ≤ t
   pub whole : numbersOf y d ≤ len
 
 -- what `add_slot` asks for
-pub record Ready (f : Frame) (m : Layout) (z : Bool) (row : ℕ) (factors messages : List Float) (keys : List ℕ) (t : ℕ) (h : Head) : Type 0 where
+pub record Ready (f : Frame) (m : Layout) (branch : Branch) (row : ℕ) (factors messages : List Float) (keys : List ℕ) (t : ℕ) (h : Head) : Type 0 where
   pub listed : h .first + h .count ≤ length keys
   pub stored : h .at + numbersOf (h .rows) (h .width) ≤ length (storeOf (h .slot) factors messages)
   pub low : row ≤ 65536
-  pub fitted : Fitted f m z row (h .prior) (keysAt keys h) (h .rows) (h .width) t (numbersOf (h .rows) (h .width))
+  pub fitted : Fitted f m branch row (h .prior) (keysAt keys h) (h .rows) (h .width) t (numbersOf (h .rows) (h .width))
 
 -- what `count_rows` asks for: few slots, each with a head of few rows, and the key of a prior in its place
 pub record CountedHead (keys : List ℕ) (h : Head) : Type 0 where

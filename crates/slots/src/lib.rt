@@ -20,13 +20,20 @@ ghost use Rattle.slots.specs.Views.{rowsOf, rowsOfAll, withView, withVie
 ghost use Rattle.slots.specs.Tables.{slotOf, headOf, storeOf, readView, viewAt, rowsBy, rowsByAll};
 ghost use Rattle.slots.specs.Fitting.{Ready, Counted};
 
+// The two branches of an elimination: in z the message has the factors' own rows, in x as many rows as kept columns.
+pub enum Branch {
+    Z,
+    X,
+}
+
 // What a slot of an elimination is: an original factor, by its number, or a closed message, by its place among the messages.
 pub enum Slot {
     Original(usize),
     Closed(usize),
 }
 
-// What is known of a slot: whether it is a prior, where its numbers begin, its rows and its width, where its keys begin and how many they are. A prior has no A, so its width is 0.
+// What is known of a slot: whether it is a prior, where its numbers begin, its rows and its width, where its keys begin and how many they are.
+// A prior has no A, so its width is 0.
 pub struct Head {
     pub slot: Slot,
     pub prior: bool,
@@ -115,7 +122,7 @@ fn add_slot<'a>(
     work: &mut [f64],
     t: &mut [f64],
     f: Frame,
-    z: bool,
+    branch: Branch,
     row: usize,
     layout: Layout,
     factors: &'a [f64],
@@ -124,9 +131,10 @@ fn add_slot<'a>(
     h: Head,
 ) -> usize
     requires { ⌜ Laid f (length (now work)) ⌝ }
-    requires { ⌜ Ready f layout z row (now factors) (now messages) (now keys) (length (now t)) h ⌝ }
+    requires { ⌜ Ready f layout branch row (now factors) (now messages) (now keys) (length (now t)) h ⌝ }
     ensures { λ r. ⌜ r ≡ row + rowsOf layout (readView (now (factors .entry)) (now (messages .entry)) (now (keys .entry)) h) ⌝ }
-    ensures { λ _. ⌜ cut f (now (work .exit)) ≡ withView z f layout row (readView (now (factors .entry)) (now (messages .entry)) (now (keys .entry)) h) (cut f (now (work .entry))) ⌝ }
+    ensures { λ _. ⌜ cut f (now (work .exit))
+        ≡ withView branch f layout row (readView (now (factors .entry)) (now (messages .entry)) (now (keys .entry)) h) (cut f (now (work .entry))) ⌝ }
 {
     let p = h.first;
     let q = p + h.count;
@@ -138,7 +146,7 @@ fn add_slot<'a>(
         work,
         t,
         f,
-        z,
+        branch,
         row,
         layout,
         h.prior,
@@ -155,7 +163,7 @@ pub fn add_slots<'a>(
     work: &mut [f64],
     t: &mut [f64],
     f: Frame,
-    z: bool,
+    branch: Branch,
     layout: Layout,
     factors: &'a [f64],
     messages: &'a [f64],
@@ -165,12 +173,16 @@ pub fn add_slots<'a>(
 )
     requires { ⌜ Laid f (length (now work)) ⌝ }
     requires { ⌜ Counted (now keys) (now heads) (now slots) ⌝ }
-    requires { ⌜ ((i : ℕ) → i < length (now slots) → Ready f layout z (rowsOfAll layout (viewAt (now factors) (now messages) (now keys) (now heads) (now slots)) i) (now factors) (now messages) (now keys) (length (now t)) (headOf (now heads) (getD (now slots) i 0))) ⌝ }
-    ensures { λ _. ⌜ cut f (now (work .exit)) ≡ withViews z f layout (viewAt (now (factors .entry)) (now (messages .entry)) (now (keys .entry)) (now (heads .entry)) (now (slots .entry))) (cut f (now (work .entry))) (length (now (slots .entry))) ⌝ }
+    requires { ⌜ ((i : ℕ) → i < length (now slots)
+        → Ready f layout branch (rowsOfAll layout (viewAt (now factors) (now messages) (now keys) (now heads) (now slots)) i)
+        (now factors) (now messages) (now keys) (length (now t)) (headOf (now heads) (getD (now slots) i 0))) ⌝ }
+    ensures { λ _. ⌜ cut f (now (work .exit))
+        ≡ withViews branch f layout (viewAt (now (factors .entry)) (now (messages .entry)) (now (keys .entry)) (now (heads .entry)) (now (slots .entry)))
+        (cut f (now (work .entry))) (length (now (slots .entry))) ⌝ }
 {
     let mut row = 0;
     for i in 0..slots.len() {
         let h = head_at(heads, slots[i]);
-        row = add_slot(work, t, f, z, row, layout, factors, messages, keys, h);
+        row = add_slot(work, t, f, branch, row, layout, factors, messages, keys, h);
     }
 }

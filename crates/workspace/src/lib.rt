@@ -18,7 +18,8 @@ ghost use Rattle.workspace.specs.Frames.{from, to, cut, Laid, frameOf};
 // How many numbers a work store has at least: enough for every frame within the limits.
 pub const WORK: usize = 2304;
 
-// The matrices of an elimination, in the order in which they stand in the work store: the cleared block, the cleared xi, B'W or B'WA, and the message's A, xi and W.
+// The matrices of an elimination, in the order in which they stand in the work store: the cleared block, the cleared xi, B'W or B'WA, and the message's A, xi
+// and W.
 pub enum Part {
     S,
     H,
@@ -204,7 +205,8 @@ pub fn gemm_at(
     requires { ⌜ Inside cv m w (to f which - from f which) ⌝ }
     requires { ⌜ Inside av m n (length (now a)) ⌝ }
     requires { ⌜ Inside bv n w (length (now b)) ⌝ }
-    ensures { λ _. ⌜ cut f (now (work .exit)) ≡ change which (λ c. product how cv m (now (a .entry)) av (now (b .entry)) bv n c w) (cut f (now (work .entry))) ⌝ }
+    ensures { λ _. ⌜ cut f (now (work .exit))
+        ≡ change which (λ c. product how cv m (now (a .entry)) av (now (b .entry)) bv n c w) (cut f (now (work .entry))) ⌝ }
 {
     let p = begin(f, which);
     let q = end(f, which);
@@ -263,7 +265,8 @@ pub fn fill_upper_at(work: &mut [f64], f: Frame)
 pub fn cholesky_at(work: &mut [f64], f: Frame) -> Factored
     requires { ⌜ Laid f (length (now work)) ⌝ }
     ensures { λ r. ⌜ r ≡ answerOf (factor (columns (f .cleared)) (f .cleared) (cut f (now (work .entry)) .s) (f .cleared)) ⌝ }
-    ensures { λ _. ⌜ cut f (now (work .exit)) ≡ change Part.S (λ c. listOf (factor (columns (f .cleared)) (f .cleared) c (f .cleared))) (cut f (now (work .entry))) ⌝ }
+    ensures { λ _. ⌜ cut f (now (work .exit))
+        ≡ change Part.S (λ c. listOf (factor (columns (f .cleared)) (f .cleared) c (f .cleared))) (cut f (now (work .entry))) ⌝ }
 {
     let p = 0;
     let q = f.h;
@@ -279,7 +282,8 @@ pub fn cholesky_at(work: &mut [f64], f: Frame) -> Factored
 pub fn solve_at(work: &mut [f64], f: Frame, which: Part, m: usize)
     requires { ⌜ Laid f (length (now work)) ⌝ }
     requires { ⌜ (f .h ≤ from f which) × (f .cleared * m ≤ to f which - from f which) ⌝ }
-    ensures { λ _. ⌜ cut f (now (work .exit)) ≡ change which (λ c. solvedColumns (cut f (now (work .entry)) .s) (f .cleared) c m) (cut f (now (work .entry))) ⌝ }
+    ensures { λ _. ⌜ cut f (now (work .exit))
+        ≡ change which (λ c. solvedColumns (cut f (now (work .entry)) .s) (f .cleared) c m) (cut f (now (work .entry))) ⌝ }
 {
     let p = begin(f, which);
     let l = View {
@@ -300,7 +304,11 @@ pub fn subtract_at(work: &mut [f64], f: Frame, which: Part, right: Part, w: usiz
     requires { ⌜ Laid f (length (now work)) ⌝ }
     requires { ⌜ (f .a ≤ from f which) × (f .rows * w ≤ to f which - from f which) ⌝ }
     requires { ⌜ (to f right ≤ f .a) × (f .cleared * w ≤ to f right - from f right) ⌝ }
-    ensures { λ _. ⌜ cut f (now (work .exit)) ≡ change which (λ c. product Update.Subtract (columns (f .rows)) (f .rows) (cut f (now (work .entry)) .g) (flip (columns (f .cleared))) (pick right (cut f (now (work .entry)))) (columns (f .cleared)) (f .cleared) c w) (cut f (now (work .entry))) ⌝ }
+    ensures { λ _. ⌜ cut f (now (work .exit))
+        ≡ change which
+        (λ c. product Update.Subtract (columns (f .rows)) (f .rows) (cut f (now (work .entry)) .g) (flip (columns (f .cleared)))
+        (pick right (cut f (now (work .entry)))) (columns (f .cleared)) (f .cleared) c w)
+        (cut f (now (work .entry))) ⌝ }
 {
     let c = View {
         at: begin(f, which),

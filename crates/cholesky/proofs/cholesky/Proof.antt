@@ -79,9 +79,8 @@ columns-again c =
 
 returns : tie.Need-returns Inv-loop μ-loop Inv-columns μ-columns
 returns c =
-    let columns = c .before .columns in
-    let e : columns .j ≡ c .before .before .before .args .n = omega arith in
-    all-done _ _ _ _ _ _ e (columns .inv .2) (columns .inv .3)
+    let e : c .before .columns .j ≡ c .before .before .before .args .n = omega arith in
+    all-done _ _ _ _ _ _ e (c .before .columns .inv .2) (c .before .columns .inv .3)
 
 returns-2 : tie.Need-returns-2 Inv-loop μ-loop Inv-columns μ-columns
 returns-2 c =

@@ -9,29 +9,29 @@ use Rattle.gaussian.proofs.Beginning.{begun-z, begun-x, begun-long}
 use Rattle.gaussian.proofs.begin_sums.Statement.{statement}
 use Rattle.gaussian.proofs.begin_sums.Tie as tie
 
-returns : tie.Need-returns
-returns c =
-    let entry = c .before .before .before .before .before .before in
-    let args = entry .args in
-    begun-z (args .f) (args .work .now) _ (entry .pre .0) (c .before .before .before .zero .ensures) _ (c .if1 .taken)
-
 fill-diagonal-at-requires : tie.Need-fill-diagonal-at-requires
 fill-diagonal-at-requires c κs =
-    let entry = c .before .before .before .before .before .before .before in
+    let entry = c .before .before .before .before .before .before .before .before in
     let args = entry .args in
     let pre = entry .pre in
     let f = args .f in
-    let e = pre .1 (c .before .if1 .left) in (
-      relaid f (begun-long f (args .work .now) _ (pre .0) (c .before .before .before .before .zero .ensures)) (pre .0),
+    let e = pre .1 (c .before .enum-told2 .given .1) in (
+      relaid f (begun-long f (args .work .now) _ (pre .0) (c .before .before .before .before .before .zero .ensures)) (pre .0),
       λ i j hi hj. dense (f .rows) (f .rows) _ (omega (arith, pre .0, ap (λ (k : ℕ). f .rows * k) e)) i j hi hj,
     )
 
+returns : tie.Need-returns
+returns c =
+    let entry = c .before .before .before .before .before .before .before in
+    let args = entry .args in
+    begun-z (args .f) (args .work .now) _ (entry .pre .0) (c .before .before .before .before .zero .ensures) _ (c .enum-told .given .1)
+
 returns-2 : tie.Need-returns-2
 returns-2 c =
-    let entry = c .before .before .before .before .before .before .before .before .before .before in
+    let entry = c .before .before .before .before .before .before .before .before .before .before .before in
     let args = entry .args in
-    begun-x (args .f) (args .work .now) _ (entry .pre .0) (c .before .before .before .before .before .before .before .zero .ensures) _ _
-    (c .before .before .before .before .if1 .left) (c .before .before .fill-diagonal-at .ensures)
+    begun-x (args .f) (args .work .now) _ (entry .pre .0) (c .before .before .before .before .before .before .before .before .zero .ensures) _ _
+    (c .before .before .before .before .enum-told2 .given .1) (c .before .before .fill-diagonal-at .ensures)
 
 pub begin-sums-spec : {M : Type 1} → statement M
 begin-sums-spec =
@@ -41,7 +41,10 @@ begin-sums-spec =
     (λ c. omega arith)  -- part-zero-start
     (λ c. c .before .pre .0 .fits)  -- part-zero-end
     (λ c κs. search needs)  -- zero-requires
+    (λ c. search needs)  -- enum-told
+    (λ c. search needs)  -- enum-told-2
+    fill-diagonal-at-requires
     (λ c. search needs)  -- same-length
-    returns fill-diagonal-at-requires
+    returns
     (λ c. search needs)  -- same-length-2
     returns-2)

@@ -18,7 +18,7 @@ returns : tie.Need-returns
 returns c =
     let finish = c .before .before .before .before .finish in
     let args = c .before .before .before .before .before .before .before .before .before .before .before .before .before .before .before .before .args in
-    pivot-is (args .z) (args .f) (args .layout) (viewAt (args .factors .now) (args .messages .now) (args .keys .now) (args .heads .now)
+    pivot-is (args .branch) (args .f) (args .layout) (viewAt (args .factors .now) (args .messages .now) (args .keys .now) (args .heads .now)
     (args .slots .now)) (length (args .slots .now)) _ (c .before .before .before .before .before .before .before .before .sum-up .ensures) _
     (finish .last .0) (finish .ensures) (c .enum-told2 .given .1)
 
@@ -29,7 +29,7 @@ returns-2 c =
     let args = entry .args in
     let sum-up = c .before .before .before .before .before .before .before .before .before .before .before .before .sum-up in
     let finish = c .before .before .before .before .before .before .before .before .finish in
-    unbounded-is (args .z) (args .f) (args .layout) (viewAt (args .factors .now) (args .messages .now) (args .keys .now) (args .heads .now)
+    unbounded-is (args .branch) (args .f) (args .layout) (viewAt (args .factors .now) (args .messages .now) (args .keys .now) (args .heads .now)
     (args .slots .now)) (length (args .slots .now)) _ (sum-up .ensures) _ (finish .last .0)
     (relaid (args .f) (finish .kept .0 ∙ sum-up .kept .0) (entry .pre .0 .0)) (finish .ensures)
     (c .before .before .before .before .enum-told .given .1) _ (c .before .finite .ensures) (not-true _ (c .if1 .taken))
@@ -41,7 +41,7 @@ returns-3 c =
     let args = entry .args in
     let sum-up = c .before .before .before .before .before .before .before .before .before .before .before .before .sum-up in
     let finish = c .before .before .before .before .before .before .before .before .finish in
-    message-is (args .z) (args .f) (args .layout) (viewAt (args .factors .now) (args .messages .now) (args .keys .now) (args .heads .now)
+    message-is (args .branch) (args .f) (args .layout) (viewAt (args .factors .now) (args .messages .now) (args .keys .now) (args .heads .now)
     (args .slots .now)) (length (args .slots .now)) _ (sum-up .ensures) _ (finish .last .0)
     (relaid (args .f) (finish .kept .0 ∙ sum-up .kept .0) (entry .pre .0 .0)) (finish .ensures)
     (c .before .before .before .before .enum-told .given .1) _ (c .before .finite .ensures) (not-false _ (c .if1 .left))

@@ -18,7 +18,7 @@ add-slots-requires c κs =
 returns : tie.Need-returns
 returns c =
     let args = c .before .before .before .before .before .before .before .before .before .before .before .before .before .before .before .before .args in
-    views-from (args .z) (args .f) (args .layout) (viewAt (args .factors .now) (args .messages .now) (args .keys .now) (args .heads .now)
+    views-from (args .branch) (args .f) (args .layout) (viewAt (args .factors .now) (args .messages .now) (args .keys .now) (args .heads .now)
     (args .slots .now)) (length (args .slots .now)) _ (c .before .before .before .before .before .before .before .before .begin-sums .ensures) _
     (c .before .before .before .add-slots .ensures)
 

@@ -35,11 +35,10 @@ loop-again c =
 
 returns : tie.Need-returns Inv-loop μ-loop
 returns c =
-    let loop = c .before .loop in
     let args = c .before .before .before .before .args in
-    let e : loop .i ≡ args .to = omega arith in (
-      subst (λ (i : ℕ). take (args .at + (i - args .from)) (loop .list)
-          ≡ take (args .at) (args .list .now) ++ map (raised (args .shift)) (drop (args .from) (take i (args .slots .now)))) e (loop .inv .3),
+    let e : c .before .loop .i ≡ args .to = omega arith in (
+      subst (λ (i : ℕ). take (args .at + (i - args .from)) (c .before .loop .list)
+          ≡ take (args .at) (args .list .now) ++ map (raised (args .shift)) (drop (args .from) (take i (args .slots .now)))) e (c .before .loop .inv .3),
       refl,
     )
 

@@ -64,8 +64,8 @@ returns c =
     .before .before .before in
     let args = entry .args in (
       ap (λ (k : ℕ). args .row + k) (c .rows-of .ensures ∙ rows-is (entry .pre .1)),
-      view-read (args .z) (args .f) (args .layout) (args .row) (args .h .prior) (keysAt (args .keys .now) (args .h)) (args .h .rows) (args .h .width)
-          _ _ _ _ (c .before .before .before .before .before .before .before .before .numbers .ensures)
+      view-read (args .branch) (args .f) (args .layout) (args .row) (args .h .prior) (keysAt (args .keys .now) (args .h)) (args .h .rows)
+          (args .h .width) _ _ _ _ (c .before .before .before .before .before .before .before .before .numbers .ensures)
           (c .before .before .before .before .before .add-view .ensures),
     )
 

@@ -14,13 +14,13 @@ use Rattle.slots.proofs.add_slots.Statement.{statement}
 use Rattle.slots.proofs.add_slots.Tie as tie
 
 abbrev Inv-loop : tie.InvT-loop
-Inv-loop work₀ t₀ f z layout factors messages keys heads slots row₀ i₀ i-end work t row i =
+Inv-loop work₀ t₀ f branch layout factors messages keys heads slots row₀ i₀ i-end work t row i =
     (i ≤ i-end) × (i-end ≡ length slots) × (length work ≡ length work₀) × (length t ≡ length t₀) ×
     (row ≡ rowsOfAll layout (viewAt factors messages keys heads slots) i)
-    × (cut f work ≡ withViews z f layout (viewAt factors messages keys heads slots) (cut f work₀) i)
+    × (cut f work ≡ withViews branch f layout (viewAt factors messages keys heads slots) (cut f work₀) i)
 
 abbrev μ-loop : tie.MeasureT-loop
-μ-loop work₀ t₀ f z layout factors messages keys heads slots row₀ i₀ i-end work t row i = i-end - i
+μ-loop work₀ t₀ f branch layout factors messages keys heads slots row₀ i₀ i-end work t row i = i-end - i
 
 loop-holds : tie.Need-loop-holds Inv-loop μ-loop
 unfolding rowsOfAll withViews turns
@@ -65,7 +65,7 @@ loop-again c =
       rows-more (args .layout) (args .factors .now) (args .messages .now) (args .keys .now) (args .heads .now) (args .slots .now) (loop .i) _ _
           (head-at .ensures) (loop .inv .4) _ (add-slot .ensures .0),
       views-more (args .layout) (args .factors .now) (args .messages .now) (args .keys .now) (args .heads .now) (args .slots .now) (loop .i) _ _
-          (head-at .ensures) (loop .inv .4) (args .z) (args .f) _ _ _ (loop .inv .5) (add-slot .ensures .1),
+          (head-at .ensures) (loop .inv .4) (args .branch) (args .f) _ _ _ (loop .inv .5) (add-slot .ensures .1),
     )
 
 returns : tie.Need-returns Inv-loop μ-loop

@@ -45,9 +45,8 @@ loop-again c =
 returns-2 : tie.Need-returns-2 Inv-loop μ-loop
 unfolding factorsFit
 returns-2 c =
-    let loop = c .before .loop in
-    let e : loop .number ≡ max-factors = omega arith in
-    (sym (rw e at (loop .inv .1)), λ _ i l. loop .inv .2 i (omega arith))
+    let e : c .before .loop .number ≡ max-factors = omega arith in
+    (sym (rw e at (c .before .loop .inv .1)), λ _ i l. c .before .loop .inv .2 i (omega arith))
 
 pub factors-fit-spec : {M : Type 1} → statement M
 factors-fit-spec =

@@ -47,11 +47,10 @@ loop-again c =
 returns : tie.Need-returns Inv-loop μ-loop
 unfolding offset
 returns c =
-    let loop = c .before .loop in
     let args = c .before .before .before .args in
-    let e : loop .i ≡ args .number = omega arith in (
-      loop .inv .2 ∙ ap (counting.sum (λ k. numbers (args .t1 .sizes) (factorAt (args .t1) k))) e,
-      omega (arith, loop .inv .1, valid-count (args .t1) (c .before .before .before .pre .0)),
+    let e : c .before .loop .i ≡ args .number = omega arith in (
+      c .before .loop .inv .2 ∙ ap (counting.sum (λ k. numbers (args .t1 .sizes) (factorAt (args .t1) k))) e,
+      omega (arith, c .before .loop .inv .1, valid-count (args .t1) (c .before .before .before .pre .0)),
     )
 
 pub offset-spec : {M : Type 1} → statement M

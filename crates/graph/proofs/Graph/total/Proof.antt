@@ -42,9 +42,8 @@ loop-again c =
 
 returns : tie.Need-returns Inv-loop μ-loop
 returns c =
-    let loop = c .before .loop in
-    let e : loop .key ≡ max-variables = omega arith in
-    summed (c .before .before .args .t1) (loop .key) e (loop .inv .2)
+    let e : c .before .loop .key ≡ max-variables = omega arith in
+    summed (c .before .before .args .t1) (c .before .loop .key) e (c .before .loop .inv .2)
 
 pub total-spec : {M : Type 1} → statement M
 total-spec =

@@ -37,7 +37,7 @@ returns c =
     let entry = c .before .before .before .before .before .before .before .before .before .before .before .before .before .before .before .before
     .before .before .before .before in
     let args = entry .args in
-    key-is (args .z) (args .f) (args .layout) (args .row) (args .keys .now) (args .y) (args .a .now) (args .xi .now) (args .w .now) (args .k)
+    key-is (args .branch) (args .f) (args .layout) (args .row) (args .keys .now) (args .y) (args .a .now) (args .xi .now) (args .w .now) (args .k)
     (args .b .now) (args .t .now) _ _ _ _ (entry .pre .1 .0 .2) (c .before .before .before .before .before .before .before .before .before .before
     .before .add-own .ensures) (c .before .before .before .before .before .before .before .gemm .ensures) (c .before .before .add-products .ensures)
 

@@ -15,12 +15,12 @@ use Rattle.slots.proofs.sums.add_keys.Statement.{statement}
 use Rattle.slots.proofs.sums.add_keys.Tie as tie
 
 abbrev Inv-loop : tie.InvT-loop
-Inv-loop work₀ t₀ f z row layout keys y a xi w column₀ i₀ i-end work t col i =
+Inv-loop work₀ t₀ f branch row layout keys y a xi w column₀ i₀ i-end work t col i =
     (i ≤ i-end) × (i-end ≡ length keys) × (length work ≡ length work₀) × (col ≡ column (layout .size) keys i) ×
-    (cut f work ≡ withKeys z f layout row keys y a xi w (cut f work₀) i) × (length t ≡ length t₀)
+    (cut f work ≡ withKeys branch f layout row keys y a xi w (cut f work₀) i) × (length t ≡ length t₀)
 
 abbrev μ-loop : tie.MeasureT-loop
-μ-loop work₀ t₀ f z row layout keys y a xi w column₀ i₀ i-end work t col i = i-end - i
+μ-loop work₀ t₀ f branch row layout keys y a xi w column₀ i₀ i-end work t col i = i-end - i
 
 loop-holds : tie.Need-loop-holds Inv-loop μ-loop
 unfolding withKeys turns column
@@ -90,8 +90,8 @@ loop-again c =
       add-key .kept .0 ∙ loop .inv .2,
       column-fits (loop .i) (entry .pre .1 .1 .1 .1) (omega (arith, loop-test .taken, loop .inv .1)) (loop .inv .3)
           (ap (λ (s : Spot). s .size) (find .ensures)) .0,
-      keys-more (args .z) (args .f) (args .layout) (args .row) (args .keys .now) (args .y) (args .a .now) (args .xi .now) (args .w .now) _ _ _ _ _
-          (loop .i) (loop .column) (loop .inv .4) (loop .inv .3) (find .ensures)
+      keys-more (args .branch) (args .f) (args .layout) (args .row) (args .keys .now) (args .y) (args .a .now) (args .xi .now) (args .w .now) _ _ _ _
+          _ (loop .i) (loop .column) (loop .inv .4) (loop .inv .3) (find .ensures)
           (c .before .before .before .before .before .before .before .before .block-at .ensures) (add-key .ensures),
       add-key .kept .1 .0 ∙ loop .inv .5,
     )

@@ -21,7 +21,7 @@ target-of-requires c κs =
 returns : tie.Need-returns
 returns c =
     let args = c .before .before .before .before .before .before .args in
-    no-product (args .z) (args .f) (args .k) (args .o) _ (args .k .size) (args .t .now) (args .y) (args .b .now) (args .o .size) _
+    no-product (args .branch) (args .f) (args .k) (args .o) _ (args .k .size) (args .t .now) (args .y) (args .b .now) (args .o .size) _
     (c .before .before .target-of .ensures) (c .enum-told .given .1)
 
 gemm-at-requires : tie.Need-gemm-at-requires
@@ -31,7 +31,7 @@ gemm-at-requires c κs =
     let pre = entry .pre in (
       pre .0,
       (
-        goes-inside (args .z) (args .f) (length (args .work .now)) (args .k) (args .o) _ _ _ (pre .0) (pre .1 .0 .0) (pre .1 .0 .1) (pre .1 .0 .2)
+        goes-inside (args .branch) (args .f) (length (args .work .now)) (args .k) (args .o) _ _ _ (pre .0) (pre .1 .0 .0) (pre .1 .0 .1) (pre .1 .0 .2)
             (c .before .before .before .before .target-of .ensures) (c .before .before .p .given .1),
         (λ i j hi hj. dense _ _ _ (pre .1 .1 .0) i j hi hj, λ i j hi hj. dense _ _ _ (pre .1 .1 .1) i j hi hj),
       ),
@@ -40,7 +40,7 @@ gemm-at-requires c κs =
 returns-2 : tie.Need-returns-2
 returns-2 c =
     let args = c .before .before .before .before .before .before .before .before .before .before .before .args in
-    product-at-target (args .z) (args .f) (args .k) (args .o) _ _ _ (args .k .size) (args .t .now) (args .y) (args .b .now) (args .o .size) _ _
+    product-at-target (args .branch) (args .f) (args .k) (args .o) _ _ _ (args .k .size) (args .t .now) (args .y) (args .b .now) (args .o .size) _ _
     (c .before .before .before .before .before .before .before .target-of .ensures) (c .before .before .before .before .before .p .given .1)
     (c .before .before .gemm-at .ensures)
 

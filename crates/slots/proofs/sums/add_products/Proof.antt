@@ -15,12 +15,12 @@ use Rattle.slots.proofs.sums.add_products.Statement.{statement}
 use Rattle.slots.proofs.sums.add_products.Tie as tie
 
 abbrev Inv-loop : tie.InvT-loop
-Inv-loop work₀ f z layout keys y a k t column₀ j₀ j-end work col j =
+Inv-loop work₀ f branch layout keys y a k t column₀ j₀ j-end work col j =
     (j ≤ j-end) × (j-end ≡ length keys) × (length work ≡ length work₀) × (col ≡ column (layout .size) keys j) ×
-    (cut f work ≡ withProducts z f layout keys y a k t (cut f work₀) j)
+    (cut f work ≡ withProducts branch f layout keys y a k t (cut f work₀) j)
 
 abbrev μ-loop : tie.MeasureT-loop
-μ-loop work₀ f z layout keys y a k t column₀ j₀ j-end work col j = j-end - j
+μ-loop work₀ f branch layout keys y a k t column₀ j₀ j-end work col j = j-end - j
 
 loop-holds : tie.Need-loop-holds Inv-loop μ-loop
 unfolding withProducts turns column
@@ -82,7 +82,7 @@ loop-again c =
       add-product .kept .0 ∙ loop .inv .2,
       column-fits (loop .j) (entry .pre .1 .1 .1) (omega (arith, loop-test .taken, loop .inv .1)) (loop .inv .3)
           (ap (λ (s : Spot). s .size) (find .ensures)) .0,
-      products-more (args .z) (args .f) (args .layout) (args .keys .now) (args .y) (args .a .now) (args .k) _ (args .t .now) _ _ _ _ (loop .j)
+      products-more (args .branch) (args .f) (args .layout) (args .keys .now) (args .y) (args .a .now) (args .k) _ (args .t .now) _ _ _ _ (loop .j)
           (loop .column) (loop .inv .4) (loop .inv .3) (find .ensures) (c .before .before .before .before .before .block-at .ensures) (add-product .ensures),
     )
 

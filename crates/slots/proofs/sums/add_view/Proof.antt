@@ -59,7 +59,7 @@ add-prior-requires c κs =
 returns : tie.Need-returns
 returns c =
     let args = c .before .before .before .before .before .before .before .before .before .before .before .before .before .args in
-    view-prior (args .z) (args .f) (args .layout) (args .row) (args .prior) (args .keys .now) (args .y) (args .d) (args .nums .now) _ _ _
+    view-prior (args .branch) (args .f) (args .layout) (args .row) (args .prior) (args .keys .now) (args .y) (args .d) (args .nums .now) _ _ _
     (c .before .before .before .before .before .before .before .before .if1 .taken)
     (c .before .before .before .before .before .before .find .ensures) (c .before .before .add-prior .ensures)
 
@@ -117,7 +117,7 @@ returns-2 : tie.Need-returns-2
 returns-2 c =
     let args = c .before .before .before .before .before .before .before .before .before .before .before .before .before .before .before .before
     .before .before .before .before .before .args in
-    view-other (args .z) (args .f) (args .layout) (args .row) (args .prior) (args .keys .now) (args .y) (args .d) (args .nums .now) _ _ _
+    view-other (args .branch) (args .f) (args .layout) (args .row) (args .prior) (args .keys .now) (args .y) (args .d) (args .nums .now) _ _ _
     (c .before .before .before .before .before .before .before .before .before .before .before .before .before .before .before .before .if1 .left)
     (c .before .before .before .before .before .before .before .before .before .before .before .before .copy-rows .ensures)
     (c .before .before .before .before .add-keys .ensures)
