@@ -10,9 +10,10 @@ use borrow.Author.Tests.{le-ltb, lt-ltb}
 use lib.Ieee.{Float}
 use lib.ListN.{length, getD}
 use denote.Ref.{RefT, now}
-use Rattle.blocks.specs.Blocks.{column, blockColumnOf, blocksFrom, blocksOf, keyAt, turned}
+use Rattle.blocks.specs.Blocks.{column, blockColumnOf}
 use Rattle.blocks.specs.declared.Blocks.{Blocks}
 use Rattle.blocks.specs.declared.NextKey.the-variants.{Key, End}
+use Rattle.blocks.specs.Reader.{blocksFrom, blocksOf, keyAt, turned}
 
 -- ---- where the reader stands
 

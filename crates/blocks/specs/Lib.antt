@@ -1,2 +1,3 @@
 -- The definitions that the contracts of `blocks` cite.
 pub mod Blocks
+pub mod Reader

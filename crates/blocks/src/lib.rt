@@ -3,7 +3,8 @@
 ghost use mathlib.Core.Path.{_≡_};
 ghost use Prim.Native.Nat.{_+_, _*_, _≤_, _<_, _^_};
 ghost use lib.ListN.{length};
-ghost use Rattle.blocks.specs.Blocks.{keyAt, blockColumnOf, started, passed};
+ghost use Rattle.blocks.specs.Blocks.{blockColumnOf};
+ghost use Rattle.blocks.specs.Reader.{keyAt, passed, started};
 
 // A, the place of the next key, and the column at which its block begins.
 pub struct Blocks<'a> {

@@ -12,13 +12,14 @@ use Rattle.matrix.specs.Finite.{allFinite}
 use Rattle.matrix.specs.Triangles.{identityOf}
 use Rattle.matrix.specs.declared.View.{View}
 use Rattle.matrix.proofs.Entries.{steps-length, sweep-length}
-use Rattle.cholesky.specs.Factor.{Left, whole, stuck, factor, answerOf, listOf}
+use Rattle.cholesky.specs.Factor.{Left, whole, stuck, factor}
 use Rattle.cholesky.specs.Solve.{solveLower, solveUpper, solved, unitColumn, inverted}
-use Rattle.cholesky.specs.Forms.{form, noPivot, noNumber, bounded, exchangedBy, exchanged, told}
+use Rattle.cholesky.specs.Forms.{form, noPivot, noNumber, bounded, exchangedBy, exchanged}
 use Rattle.cholesky.specs.declared.Factored.{Factored}
 use Rattle.cholesky.specs.declared.Factored.the-variants as factored
 use Rattle.cholesky.specs.declared.exchange.Exchanged.the-variants.{Done, Pivot, Unbounded}
 use Rattle.cholesky.proofs.Identity.{identity-factor, identity-solve, identity-inverse, identity-finite, zeros-finite}
+use Rattle.cholesky.specs.Answers.{answerOf, listOf, told}
 
 -- ---- the ways out
 

@@ -14,7 +14,8 @@ use Rattle.matrix.specs.Sums.{terms, deductOf}
 use Rattle.matrix.specs.Stores.{steps}
 use Rattle.matrix.specs.declared.View.{View}
 use Rattle.matrix.proofs.Agreement.{deduct-same}
-use Rattle.cholesky.specs.Factor.{pivotOf, Left, whole, stuck, below, rooted, column, factor, reduced, answerOf, listOf}
+use Rattle.cholesky.specs.Factor.{pivotOf, Left, whole, stuck, below, rooted, column, factor, reduced}
+use Rattle.cholesky.specs.Answers.{answerOf, listOf}
 
 -- two lists that hold the same lower triangle, and hold it whole
 pub record Alike (v : View) (n : ℕ) (s t : List Float) : Type 0 where

@@ -12,9 +12,10 @@ use Rattle.root.specs.declared.Pivot.the-variants.{Root, Refused}
 use Rattle.matrix.specs.Views.{place, entry}
 use Rattle.matrix.specs.Stores.{steps}
 use Rattle.matrix.specs.declared.View.{View}
-use Rattle.cholesky.specs.Factor.{pivotOf, whole, stuck, below, rooted, column, factor, reduced, answerOf, listOf}
+use Rattle.cholesky.specs.Factor.{pivotOf, whole, stuck, below, rooted, column, factor, reduced}
 use Rattle.cholesky.specs.declared.Factored.{Factored}
 use Rattle.cholesky.specs.declared.Factored.the-variants.{Done, Stopped}
+use Rattle.cholesky.specs.Answers.{answerOf, listOf}
 
 -- column j of t after row i
 row : List Float → View → ℕ → ℕ → List Float

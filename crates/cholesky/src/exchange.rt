@@ -5,7 +5,8 @@ use crate::inverse;
 use crate::solve;
 use matrix::View;
 ghost use mathlib.Core.Path.{_≡_};
-ghost use Rattle.cholesky.specs.Forms.{Lent, exchanged, told};
+ghost use Rattle.cholesky.specs.Forms.{exchanged};
+ghost use Rattle.cholesky.specs.Answers.{Lent, told};
 
 // How an exchange ended: with the other form, at a refused pivot of the matrix, or with a number that is not finite.
 pub enum Exchanged {

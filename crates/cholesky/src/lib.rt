@@ -7,8 +7,9 @@ ghost use mathlib.Core.Path.{_≡_};
 ghost use Prim.Native.Nat.{ℕ, _+_, _<_, _≤_, _^_};
 ghost use lib.ListN.{length};
 ghost use Rattle.matrix.specs.Views.{place, Inside};
-ghost use Rattle.cholesky.specs.Factor.{pivotOf, reduced, factor, answerOf, listOf};
+ghost use Rattle.cholesky.specs.Factor.{pivotOf, reduced, factor};
 ghost use Rattle.cholesky.specs.Solve.{solvedRow, solveLower, solveLowerIn, solveUpper, solved, unitColumn, inverted};
+ghost use Rattle.cholesky.specs.Answers.{answerOf, listOf};
 
 // Whether every pivot had a root.
 pub enum Factored {

@@ -11,7 +11,7 @@ use lib.ListN.{length, take}
 use lib.Seq.{getD-set-same, getD-set-other}
 use Rattle.factor.specs.Factor.{past}
 use Rattle.factor.specs.declared.Factor.{Factor}
-use Rattle.graph.specs.Record.{factorAt, fresh}
+use Rattle.graph.specs.Record.{factorAt, fresh, keysOf}
 use Rattle.graph.specs.Registration.{withVariable, withFactor}
 use Rattle.graph.specs.Reached.{Call, answered, lent, storeAfter, given, after, yields, Reached}
 use Rattle.graph.specs.declared.Symbol.{Symbol}
@@ -21,7 +21,6 @@ use Rattle.graph.proofs.Calls.{Comes, turned, named, taken, comes, fresh-reache
 use Rattle.graph.proofs.Keeping.{good-of}
 use Rattle.graph.proofs.Validity.{valid-count}
 use Rattle.schedule.specs.Count.{from}
-use Rattle.messages.specs.Tables.{keysOf}
 use Rattle.claims.specs.Demand3.{Accepted, keyIn, factorIn, registered, accepted, numbers}
 
 -- ---- the calls of a list

@@ -10,18 +10,18 @@ use Rattle.graph.specs.declared.Graph.{Graph}
 use Rattle.graph.proofs.Computing.{computedCall}
 use Rattle.schedule.specs.Count as counts
 use Rattle.schedule.specs.Plan as lists
-use Rattle.gaussian.specs.Answers.{numbersIn}
 use Rattle.gaussian.specs.Marginals.{momentsOf}
 use Rattle.gaussian.proofs.Computing.{computed}
 use Rattle.tables.specs.Originals.{originalView}
 use Rattle.messages.specs.Values as values
 use Rattle.messages.specs.Figure.{slotRows, rowsIn, rowsTo, needTo, need}
-use Rattle.messages.specs.Tables.{keysOf}
 use Rattle.solver.specs.Plan.{graphPlan, planned}
 use Rattle.marginals.specs.Marginals as found
 use Rattle.solver.specs.Run as runs
 use Rattle.solver.specs.Run.{Verdict, run}
 use Rattle.claims.specs.Pairs.{Lent, next, lentTo, made}
+use Rattle.graph.specs.Record.{keysOf}
+use Rattle.gaussian.specs.Elimination.{numbersIn}
 
 -- the graph and the store that calls make
 unfoldable pub computedCalls : ℕ → List (List Float → Call) → Lent

@@ -6,7 +6,7 @@ use mathlib.Core.List.{List, [], _∷_, List·Memᴰ, List·Memᴰ·head, List·
 use Prim.Native.Nat.{ℕ, _+_, _<_}
 use native.Mathlib.Omega.{arith}
 use lib.ListN.{length, getD}
-use Rattle.graph.specs.Record.{fresh, valid}
+use Rattle.graph.specs.Record.{fresh, valid, keysOf}
 use Rattle.graph.specs.Reached.{Call, yields}
 use Rattle.graph.specs.declared.Graph.{Graph}
 use Rattle.graph.proofs.Keeping.{good-of}
@@ -18,7 +18,6 @@ use Rattle.schedule.proofs.Counts.{hit-same, hit-other, count-cons}
 use Rattle.schedule.proofs.Runs.{from-lt}
 use Rattle.schedule.proofs.Sums.{length-from}
 use Rattle.schedule.proofs.Demand3.{from-once}
-use Rattle.messages.specs.Tables.{keysOf}
 use Rattle.solver.specs.Plan.{graphPlan, Answer, planned}
 use Rattle.solver.specs.Run.{run}
 use Rattle.solver.specs.Stages.{Runnable}

@@ -25,8 +25,7 @@ use Rattle.slots.specs.Layouts.{layoutOf}
 use Rattle.slots.specs.declared.Branch.the-variants.{X}
 use Rattle.slots.specs.Views.{FactorView, prior, likelihood, rowsOfAll, withViews}
 use Rattle.gaussian.specs.Elimination as gaussian
-use Rattle.gaussian.specs.Elimination.{message, nth}
-use Rattle.gaussian.specs.Answers.{numbersIn}
+use Rattle.gaussian.specs.Elimination.{message, nth, numbersIn}
 use Rattle.gaussian.proofs.Computing.{computed}
 use Rattle.tables.specs.Originals.{originalView}
 use Rattle.messages.specs.Values.{values, slotView, messageView, stopFrom, finished}

@@ -9,7 +9,7 @@ use Rattle.root.specs.Root.{rootOf}
 use Rattle.root.specs.declared.Pivot.the-variants.{Root}
 use Rattle.factor.specs.Limits.{max-size}
 use Rattle.graph.specs.Refusals.{numberOf}
-use Rattle.graph.specs.Record.{fresh, valid}
+use Rattle.graph.specs.Record.{fresh, valid, keysOf}
 use Rattle.graph.specs.Reached.{Call, prior, observation, variable, register, answered, after, storeAfter}
 use Rattle.graph.specs.declared.Graph.{Graph}
 use Rattle.graph.specs.declared.Outcome.the-variants as outcome
@@ -26,7 +26,6 @@ use Rattle.slots.specs.declared.Branch.the-variants.{Z, X}
 use Rattle.slots.specs.Views.{FactorView, likelihood, rowsOfAll, withViews}
 use Rattle.gaussian.specs.Elimination as gaussian
 use Rattle.gaussian.specs.Elimination.{nth, begun, message}
-use Rattle.messages.specs.Tables.{keysOf}
 use Rattle.messages.specs.Values.{values}
 use Rattle.solver.specs.Plan.{planned}
 use Rattle.marginals.specs.Marginals.{gatheredViews}

@@ -16,8 +16,8 @@ use Rattle.graph.specs.declared.Graph.{Graph}
 use Rattle.graph.proofs.Validity.{valid-count}
 use Rattle.slots.specs.Limits.{max-slots, head-numbers}
 use Rattle.slots.specs.Layouts.{member, dimOf, layoutOf, Listed}
-use Rattle.slots.specs.Views.{rowsOf, rowsOfAll}
-use Rattle.slots.specs.Tables.{headOf, storeOf, numbersOf, readView, rowsByAll}
+use Rattle.slots.specs.Views.{rowsOf, rowsOfAll, numbersOf}
+use Rattle.slots.specs.Tables.{headOf, storeOf, readView, rowsByAll}
 use Rattle.slots.specs.Fitting.{Counted}
 use Rattle.slots.specs.declared.layout.Layout.{Layout}
 use Rattle.slots.specs.declared.Head.{Head}
@@ -26,11 +26,12 @@ use Rattle.gaussian.specs.Answers.{viewsOf}
 use Rattle.gaussian.specs.Asked.{HeadFits, Asked, Roomy}
 use Rattle.gaussian.proofs.Heads.{counted-head, rows-are}
 use Rattle.gaussian.proofs.Listing.{getD-map}
-use Rattle.tables.specs.Originals.{originalView, Originals}
+use Rattle.tables.specs.Originals.{originalView}
 use Rattle.tables.proofs.OriginalsRead.{original-view, original-fits}
 use Rattle.tables.proofs.Dimensions.{Below, Once, total-within, cleared-listed, kept-listed, known-below, rising-once}
 use Rattle.direct.specs.Direct.{countsFit, disjoint, listsFit, allKnown, factorPlaced, allPlaced, views, need}
 use Rattle.direct.specs.Between.{Admitted}
+use Rattle.tables.specs.Heads.{Originals}
 
 -- ---- lists
 

@@ -9,10 +9,11 @@ use lib.ListN.{length}
 use Rattle.factor.specs.Limits.{max-total}
 use Rattle.factor.specs.Counting.{every}
 use Rattle.slots.specs.Layouts.{member}
-use Rattle.slots.specs.Tables.{numbersOf, rowsByAll}
+use Rattle.slots.specs.Tables.{rowsByAll}
 use Rattle.slots.specs.declared.layout.Layout.{Layout}
 use Rattle.gaussian.specs.Elimination.{messageRows}
 use Rattle.gaussian.proofs.Lengths.{rows-few}
+use Rattle.slots.specs.Views.{numbersOf}
 
 module _ (a b c : Bool) where
   pub first-fails : a ≡ false → false ≡ every (a ∷ b ∷ c ∷ [])

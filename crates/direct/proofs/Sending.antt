@@ -9,20 +9,20 @@ use Rattle.graph.specs.declared.refusal.Refusal.{Refusal}
 use Rattle.graph.specs.declared.refusal.Refusal.the-variants.{StoreShort, ClearedPivot, ResultNotFinite}
 use Rattle.workspace.specs.Frames.{work-numbers}
 use Rattle.slots.specs.Layouts.{dimOf, layoutOf}
-use Rattle.slots.specs.Views.{FactorView}
-use Rattle.slots.specs.Tables.{numbersOf, rowsByAll}
+use Rattle.slots.specs.Views.{FactorView, numbersOf}
+use Rattle.slots.specs.Tables.{rowsByAll}
 use Rattle.gaussian.specs.Elimination.{messageRows, Outcome, pivot, unbounded, message, eliminate}
 use Rattle.gaussian.specs.Answers as gaussian
 use Rattle.gaussian.specs.Answers.{viewsOf}
 use Rattle.gaussian.specs.declared.Eliminated.{Eliminated}
 use Rattle.gaussian.specs.declared.Eliminated.the-variants as eliminated
 use Rattle.graph.specs.declared.Graph.{Graph}
-use Rattle.tables.specs.Originals.{Originals}
 use Rattle.direct.specs.Direct.{views, need, Verdict, refuse, sent, verdict, answerOf, storeOf}
 use Rattle.direct.specs.Between.{Admitted}
 use Rattle.direct.proofs.Verdicts.{no-room, no-work, sends}
 use Rattle.direct.proofs.Asking.{need-is, views-are}
 use Rattle.direct.specs.declared.Direct.the-variants.{Rows, Refused}
+use Rattle.tables.specs.Heads.{Originals}
 
 -- a refusal leaves the store
 pub turned-back : (v : Verdict) (why : Refusal) (store : List Float) → v ≡ refuse why → (Refused why ≡ answerOf v) × (store ≡ storeOf store v)

@@ -17,8 +17,7 @@ use Rattle.graph.specs.declared.refusal.Refusal.the-variants.{StoreShort, Clear
 use Rattle.workspace.specs.Frames.{work-numbers}
 use Rattle.slots.specs.Limits.{max-slots}
 use Rattle.slots.specs.Layouts.{member, dimOf, layoutOf}
-use Rattle.slots.specs.Views.{FactorView, rowsOfAll}
-use Rattle.slots.specs.Tables.{numbersOf}
+use Rattle.slots.specs.Views.{FactorView, rowsOfAll, numbersOf}
 use Rattle.gaussian.specs.Elimination.{messageRows, Outcome, pivot, unbounded, message, nth, eliminate}
 use Rattle.tables.specs.Originals.{originalView}
 use Rattle.direct.specs.declared.Direct.{Direct}

@@ -26,13 +26,14 @@ ghost use Rattle.factor.specs.Factor.{known};
 ghost use Rattle.graph.specs.Record.{valid};
 ghost use Rattle.slots.specs.Layouts as of;
 ghost use Rattle.slots.specs.Layouts.{dimOf, layoutOf, Listed};
-ghost use Rattle.slots.specs.Tables.{numbersOf, rowsByAll};
+ghost use Rattle.slots.specs.Tables.{rowsByAll};
 ghost use Rattle.slots.specs.Fitting.{Counted};
 ghost use Rattle.gaussian.specs.Elimination.{messageRows};
-ghost use Rattle.tables.specs.Originals.{Originals};
 ghost use Rattle.direct.specs.Direct as spec;
 ghost use Rattle.direct.specs.Between.{early, Admitted};
 ghost use Rattle.direct.specs.Told.{directTold, verdictTold};
+ghost use Rattle.slots.specs.Views.{numbersOf};
+ghost use Rattle.tables.specs.Heads.{Originals};
 
 // How long the tables of the originals are.
 const ALL_KEYS: usize = KEYS * FACTORS;

@@ -6,11 +6,12 @@ use native.Mathlib.Omega.{arith}
 use lib.Ieee.{Float}
 use lib.ListN.{length, length-append}
 use Rattle.factor.specs.Factor.{lay}
-use Rattle.cholesky.specs.Forms.{exchanged, told, endOf}
+use Rattle.cholesky.specs.Forms.{exchanged}
 use Rattle.cholesky.specs.declared.exchange.Exchanged.{Exchanged}
 use Rattle.cholesky.specs.declared.exchange.Exchanged.the-variants.{Done, Pivot, Unbounded}
 use Rattle.factor.specs.Storing.{Room, laid}
 use Rattle.factor.proofs.Laying.{lay-whole, two-laid}
+use Rattle.cholesky.specs.Answers.{endOf, told}
 
 -- A, xi and W laid one after the other
 three : (st a xi w s₁ s₂ s₃ : List Float) (at n : ℕ) → at ≤ length st → length xi ≡ n → s₁ ≡ lay st at a → s₂ ≡ lay s₁ (at + length a) xi → s₃

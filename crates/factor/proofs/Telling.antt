@@ -1,8 +1,9 @@
 -- An answer that is the definition's tells the definition's number. Assumes nothing.
 use mathlib.Core.Path.{_≡_, refl, ap, _∙_}
-use Rattle.cholesky.specs.Forms.{Form, form, noPivot, noNumber, endOf}
+use Rattle.cholesky.specs.Forms.{Form, form, noPivot, noNumber}
 use Rattle.cholesky.specs.declared.exchange.Exchanged.{Exchanged}
 use Rattle.factor.specs.Told.{weighedTold, weightTold}
+use Rattle.cholesky.specs.Answers.{endOf}
 
 answers : (w : Form) → weighedTold (endOf w) ≡ weightTold w
 unfolding endOf weighedTold weightTold

@@ -6,9 +6,10 @@ use cholesky::exchange::Exchanged;
 use cholesky::exchange::exchange;
 ghost use mathlib.Core.Path.{_≡_};
 ghost use Rattle.factor.specs.Factor as spec;
-ghost use Rattle.cholesky.specs.Forms.{Lent, exchanged, endOf};
+ghost use Rattle.cholesky.specs.Forms.{exchanged};
 ghost use Rattle.factor.specs.Storing.{Room, laid};
 ghost use Rattle.factor.specs.Told.{weighedTold, weightTold};
+ghost use Rattle.cholesky.specs.Answers.{Lent, endOf};
 
 // All numbers given for a factor are finite.
 pub fn given_finite(a: &[f64], mean: &[f64], variance: &[f64]) -> bool

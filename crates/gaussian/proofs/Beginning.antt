@@ -12,13 +12,13 @@ use Rattle.matrix.specs.Sums.{plus-zero, one}
 use Rattle.matrix.specs.Triangles.{filledDiagonal}
 use Rattle.workspace.specs.Blocks.{zeroed}
 use Rattle.workspace.specs.Sums.{Sums, change}
-use Rattle.workspace.specs.Frames.{cut, Laid}
 use Rattle.workspace.specs.declared.Frame.{Frame}
 use Rattle.workspace.specs.declared.Part.the-variants.{A}
 use Rattle.workspace.proofs.Parts.{length-part, getD-part, length-splice, splice-in, zeroed-is}
 use Rattle.slots.specs.declared.Branch.{Branch}
 use Rattle.slots.specs.declared.Branch.the-variants.{Z, X}
 use Rattle.gaussian.specs.Elimination.{begun}
+use Rattle.workspace.specs.Parts.{Laid, cut}
 
 module _ (f : Frame) (w x : List Float) (l : Laid f (length w)) (e : x ≡ zeroed (part w 0 (f .end)) (length (part w 0 (f .end)))) where
   abbrev t : List Float

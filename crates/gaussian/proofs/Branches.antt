@@ -11,14 +11,14 @@ use Rattle.workspace.specs.declared.Frame.{Frame}
 use Rattle.workspace.proofs.Cuts.{frame-laid}
 use Rattle.factor.specs.Limits.{max-total}
 use Rattle.slots.specs.Limits.{scratch-numbers}
-use Rattle.slots.specs.Views.{rowsOfAll}
-use Rattle.slots.specs.Tables.{headOf, numbersOf, viewAt, rowsByAll}
+use Rattle.slots.specs.Views.{rowsOfAll, numbersOf}
+use Rattle.slots.specs.Tables.{headOf, viewAt, rowsByAll}
 use Rattle.slots.specs.Fitting.{Ready}
 use Rattle.slots.specs.declared.Branch.{Branch}
 use Rattle.slots.specs.declared.Branch.the-variants.{X}
 use Rattle.slots.specs.declared.layout.Layout.{Layout}
-use Rattle.gaussian.specs.Elimination.{branchOf, rowsFor, messageRows, Outcome, run, branched}
-use Rattle.gaussian.specs.Answers.{answer, numbersIn, leftIn, branchedAt}
+use Rattle.gaussian.specs.Elimination.{branchOf, rowsFor, messageRows, Outcome, run, branched, numbersIn}
+use Rattle.gaussian.specs.Answers.{answer, leftIn, branchedAt}
 use Rattle.gaussian.specs.Asked.{Whole, frameFor}
 use Rattle.gaussian.specs.declared.Eliminated.{Eliminated}
 

@@ -3,7 +3,7 @@ use mathlib.Core.Path.{_≡_, refl, _∙_, sym}
 use Rattle.matrix.specs.Views.{flip, columns}
 use Rattle.matrix.specs.Products.{product}
 use Rattle.matrix.specs.declared.Update.the-variants.{Subtract}
-use Rattle.cholesky.specs.Factor.{Left, whole, stuck, factor, answerOf, listOf}
+use Rattle.cholesky.specs.Factor.{Left, whole, stuck, factor}
 use Rattle.cholesky.specs.declared.Factored.{Factored}
 use Rattle.cholesky.specs.declared.Factored.the-variants.{Done, Stopped}
 use Rattle.workspace.specs.Blocks.{solvedColumns}
@@ -13,6 +13,7 @@ use Rattle.workspace.specs.declared.Part.the-variants.{S, H, G, Xi, W}
 use Rattle.slots.specs.declared.Branch.{Branch}
 use Rattle.gaussian.specs.Elimination.{refused, done, filled, lost, ended, finished}
 use Rattle.gaussian.specs.Answers.{endedAs}
+use Rattle.cholesky.specs.Answers.{answerOf, listOf}
 
 module _ (branch : Branch) (f : Frame) where
   pub lose-is : (σ σ₁ σ₂ σ₃ σ₄ σ₅ : Sums) → σ₁ ≡ change H (λ c. solvedColumns (σ .s) (f .cleared) c 1) σ → σ₂

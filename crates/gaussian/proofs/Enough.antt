@@ -12,8 +12,8 @@ use Rattle.factor.specs.Limits.{max-variables, max-total}
 use Rattle.workspace.specs.Frames.{frameOf}
 use Rattle.slots.specs.Limits.{scratch-numbers}
 use Rattle.slots.specs.Layouts.{member, dimOf, firstOf, layoutOf}
-use Rattle.slots.specs.Views.{FactorView, rowsOf, rowsOfAll}
-use Rattle.slots.specs.Tables.{headOf, keysAt, storeOf, numbersOf, viewAt, rowsBy, rowsByAll}
+use Rattle.slots.specs.Views.{FactorView, rowsOf, rowsOfAll, numbersOf}
+use Rattle.slots.specs.Tables.{headOf, keysAt, storeOf, viewAt, rowsBy, rowsByAll}
 use Rattle.slots.specs.Fitting.{KnownKey, Fitted, Ready}
 use Rattle.slots.specs.declared.Branch.{Branch}
 use Rattle.slots.specs.declared.Branch.the-variants.{Z, X}

@@ -9,8 +9,8 @@ use lib.Seq.{getD-take, getD-drop}
 use lib.Ieee.{Float}
 use Rattle.factor.specs.Limits.{max-variables}
 use Rattle.slots.specs.Layouts.{layoutOf}
-use Rattle.slots.specs.Views.{rowsOf}
-use Rattle.slots.specs.Tables.{keysAt, viewOf, rowsBy}
+use Rattle.slots.specs.Views.{rowsOf, viewOf}
+use Rattle.slots.specs.Tables.{keysAt, rowsBy}
 use Rattle.slots.specs.Fitting.{CountedHead}
 use Rattle.slots.specs.declared.Head.{Head}
 use Rattle.slots.proofs.Reading.{rows-of-view}

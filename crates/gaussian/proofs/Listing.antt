@@ -13,8 +13,8 @@ use Rattle.slots.specs.Views.{FactorView, rowsOfAll, withViews}
 use Rattle.slots.specs.Tables.{headOf, readView, viewAt}
 use Rattle.slots.specs.declared.Branch.{Branch}
 use Rattle.slots.specs.declared.layout.Layout.{Layout}
-use Rattle.gaussian.specs.Elimination.{branchOf, messageRows, begun, finished, outcome, run, branched, nth, eliminate}
-use Rattle.gaussian.specs.Answers.{answer, numbersIn, leftIn, viewsOf, branchedAt}
+use Rattle.gaussian.specs.Elimination.{branchOf, messageRows, begun, finished, outcome, run, branched, nth, eliminate, numbersIn}
+use Rattle.gaussian.specs.Answers.{answer, leftIn, viewsOf, branchedAt}
 use Rattle.gaussian.specs.declared.Eliminated.{Eliminated}
 use Rattle.gaussian.proofs.Branches.{left-same}
 

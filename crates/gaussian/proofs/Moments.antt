@@ -9,12 +9,13 @@ use Rattle.matrix.specs.Views.{part, splice}
 use Rattle.matrix.specs.Sums.{plus-zero}
 use Rattle.factor.specs.Limits.{max-size}
 use Rattle.factor.proofs.Laying.{front-replicate}
-use Rattle.cholesky.specs.Forms.{told}
 use Rattle.cholesky.specs.declared.exchange.Exchanged.{Exchanged}
 use Rattle.cholesky.specs.declared.exchange.Exchanged.the-variants.{Done, Pivot, Unbounded}
-use Rattle.gaussian.specs.Marginals.{momentsOf, padded, marginalAt, refusedAs, answerOf, marginalOf}
+use Rattle.gaussian.specs.Marginals.{momentsOf}
 use Rattle.gaussian.specs.declared.marginal.Answer.{Answer}
 use Rattle.gaussian.specs.declared.marginal.Ending.the-variants as ending
+use Rattle.cholesky.specs.Answers.{told}
+use Rattle.gaussian.specs.Answers.{answerOf, marginalAt, marginalOf, padded, refusedAs}
 
 drop-replicate : (n k : ℕ) → drop k (replicate n plus-zero) ≡ replicate (n - k) plus-zero
 drop-replicate n zero = let e : n ≡ n - 0 = omega arith in ap (λ (k : ℕ). replicate k plus-zero) e

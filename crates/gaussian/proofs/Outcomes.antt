@@ -12,11 +12,10 @@ use Rattle.workspace.specs.Frames.{frameOf}
 use Rattle.workspace.specs.declared.Frame.{Frame}
 use Rattle.factor.specs.Limits.{max-variables}
 use Rattle.slots.specs.Layouts.{dimOf, layoutOf}
-use Rattle.slots.specs.Tables.{numbersOf, rowsByAll}
-use Rattle.gaussian.specs.Elimination.{Outcome, pivot, unbounded, message, eliminate}
-use Rattle.gaussian.specs.Answers.{answer, stored, numbersIn, leftIn, viewsOf}
+use Rattle.slots.specs.Tables.{rowsByAll}
+use Rattle.gaussian.specs.Elimination.{Outcome, pivot, unbounded, message, eliminate, numbersIn}
+use Rattle.gaussian.specs.Answers.{answer, stored, leftIn, viewsOf, marginalFrom, marginalOf, refusedAs}
 use Rattle.gaussian.specs.Asked.{Asked, Roomy, Sized}
-use Rattle.gaussian.specs.Marginals.{refusedAs, marginalOf, marginalFrom}
 use Rattle.gaussian.specs.declared.Eliminated.{Eliminated}
 use Rattle.gaussian.specs.declared.Eliminated.the-variants.{Rows, Pivot, Unbounded}
 use Rattle.gaussian.specs.declared.marginal.Answer.{Answer}
@@ -24,6 +23,7 @@ use Rattle.gaussian.specs.declared.marginal.Ending.the-variants as endin
 use Rattle.gaussian.proofs.Enough.{enough}
 use Rattle.gaussian.proofs.Listing.{rows-listed}
 use Rattle.gaussian.proofs.Lengths.{message-sized, rows-few}
+use Rattle.slots.specs.Views.{numbersOf}
 
 -- ---- the answer
 

@@ -11,15 +11,16 @@ use Rattle.matrix.specs.Finite.{allFinite}
 use Rattle.cholesky.specs.declared.Factored.{Factored}
 use Rattle.cholesky.specs.declared.Factored.the-variants.{Done, Stopped}
 use Rattle.workspace.specs.Sums.{Sums}
-use Rattle.workspace.specs.Frames.{cut, Laid, frameOf}
+use Rattle.workspace.specs.Frames.{frameOf}
 use Rattle.workspace.specs.declared.Frame.{Frame}
 use Rattle.workspace.proofs.Parts.{part-join}
 use Rattle.slots.specs.Views.{FactorView, withViews}
 use Rattle.slots.specs.declared.Branch.{Branch}
 use Rattle.slots.specs.declared.layout.Layout.{Layout}
-use Rattle.gaussian.specs.Elimination.{refused, done, begun, finished, outcome, run}
-use Rattle.gaussian.specs.Answers.{endedAs, answer, numbersIn, leftIn}
+use Rattle.gaussian.specs.Elimination.{refused, done, begun, finished, outcome, run, numbersIn}
+use Rattle.gaussian.specs.Answers.{endedAs, answer, leftIn}
 use Rattle.gaussian.specs.declared.Eliminated.the-variants.{Rows, Pivot, Unbounded}
+use Rattle.workspace.specs.Parts.{Laid, cut}
 
 -- the sums from those before the first factor
 pub views-from : (branch : Branch) (f : Frame) (m : Layout) (view : ℕ → FactorView) (n : ℕ) (σ₀ : Sums) → σ₀ ≡ begun branch f → (σ₁ : Sums) → σ₁

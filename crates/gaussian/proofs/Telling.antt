@@ -4,14 +4,15 @@ use mathlib.Core.Path.{_≡_, refl, sym, ap, _∙_}
 use mathlib.Core.List.{List}
 use lib.Ieee.{Float}
 use Rattle.gaussian.specs.Elimination.{Outcome, pivot, unbounded, message}
-use Rattle.gaussian.specs.Answers.{answer, stored}
-use Rattle.cholesky.specs.Forms.{Form, form, noPivot, noNumber, told}
+use Rattle.gaussian.specs.Answers.{answer, stored, answerOf, marginalFrom, marginalOf, momentsIn, refusedAs}
+use Rattle.cholesky.specs.Forms.{Form, form, noPivot, noNumber}
 use Rattle.cholesky.specs.declared.exchange.Exchanged.{Exchanged}
 use Rattle.cholesky.specs.declared.exchange.Exchanged.the-variants as exchanged
-use Rattle.gaussian.specs.Marginals.{momentsOf, momentsIn, refusedAs, answerOf, marginalOf, marginalFrom}
+use Rattle.gaussian.specs.Marginals.{momentsOf}
 use Rattle.gaussian.specs.Told.{eliminatedTold, solvedTold, endingTold, outcomeTold, momentsTold, lastTold}
 use Rattle.gaussian.specs.declared.Eliminated.{Eliminated}
 use Rattle.gaussian.specs.declared.marginal.Answer.{Answer}
+use Rattle.cholesky.specs.Answers.{told}
 
 -- an elimination's answer with the message store, and what the answer tells
 pub stored-tells : (r : Eliminated) (o : Outcome) (l s : List Float) (to : ℕ) → (r ≡ answer o) × (s ≡ stored l to o)

@@ -1,7 +1,7 @@
 -- What the code answers for an outcome, and what the message store then holds. Definitions only.
-use Prim.Native.Nat.{ℕ, _+_}
+use Prim.Native.Nat.{ℕ, _+_, _-_, _*_}
 use mathlib.Core.List.{List, [], _++_, map}
-use lib.ListN.{length}
+use lib.ListN.{length, replicate}
 use lib.Ieee.{Float}
 use Rattle.matrix.specs.Views.{part, splice}
 use Rattle.cholesky.specs.declared.Factored.{Factored}
@@ -14,6 +14,14 @@ use Rattle.slots.specs.declared.layout.Layout.{Layout}
 use Rattle.gaussian.specs.Elimination.{Ended, refused, done, Outcome, pivot, unbounded, message, branched}
 use Rattle.gaussian.specs.declared.Eliminated.{Eliminated}
 use Rattle.gaussian.specs.declared.Eliminated.the-variants.{Rows, Pivot, Unbounded}
+use Rattle.matrix.specs.Sums.{plus-zero}
+use Rattle.factor.specs.Limits.{max-size}
+use Rattle.cholesky.specs.Forms.{Form, form, noPivot, noNumber}
+use Rattle.gaussian.specs.declared.marginal.Marginal.{Marginal}
+use Rattle.gaussian.specs.declared.marginal.Ending.{Ending}
+use Rattle.gaussian.specs.declared.marginal.Ending.the-variants.{Done, Cleared, Pivot, Unbounded}
+use Rattle.gaussian.specs.declared.marginal.Answer.{Answer}
+use Rattle.gaussian.specs.Marginals.{momentsOf}
 
 -- 15 is `Pivot` and 17 is `Unbounded`
 unfoldable pub answer : Outcome → Eliminated
@@ -26,12 +34,6 @@ unfoldable pub stored : List Float → ℕ → Outcome → List Float
 stored l to pivot = l
 stored l to unbounded = l
 stored l to (message r a xi w) = splice l to (to + length (a ++ (xi ++ w))) (a ++ (xi ++ w))
-
--- the numbers of a message: A, xi and W one after the other; a refusal has none
-unfoldable pub numbersIn : Outcome → List Float
-numbersIn pivot = []
-numbersIn unbounded = []
-numbersIn (message r a xi w) = a ++ (xi ++ w)
 
 -- where the work store t then holds them, for u cleared and d kept columns
 unfoldable pub leftIn : (u d : ℕ) (t : List Float) → Outcome → List Float
@@ -54,3 +56,32 @@ endedAs Stopped σ = refused
 unfoldable pub branchedAt : (u d : ℕ) (m : Layout) (factors messages : List Float) (keys heads slots : List ℕ) → Outcome
 branchedAt u d m factors messages keys heads slots =
     branched u d (rowsOfAll m (viewAt factors messages keys heads slots) (length slots)) m (viewAt factors messages keys heads slots) (length slots)
+
+-- n places, of which the first hold a list and the others zeros
+abbrev pub padded : ℕ → List Float → List Float
+padded n l = l ++ replicate (n - length l) plus-zero
+
+abbrev pub marginalAt : (key s : ℕ) (mean covariance : List Float) → Marginal
+marginalAt key s mean covariance = record { key = key; size = s; mean = mean; covariance = covariance }
+
+unfoldable pub refusedAs : ℕ → ℕ → Ending → Answer
+refusedAs key s ending = record { ending = ending; marginal = marginalAt key s (replicate max-size plus-zero) (replicate (max-size * max-size) plus-zero) }
+
+-- 16 is `Pivot` and 17 is `Unbounded`
+unfoldable pub answerOf : ℕ → ℕ → Form → Answer
+answerOf key s (form mean covariance) = record { ending = Done; marginal = marginalAt key s (padded max-size mean) (padded (max-size * max-size) covariance) }
+answerOf key s noPivot = refusedAs key s Pivot
+answerOf key s noNumber = refusedAs key s Unbounded
+
+-- A, xi and W of the message stand one after the other at the start of t
+abbrev pub momentsIn : ℕ → ℕ → List Float → Form
+momentsIn y s t = momentsOf y s (part t 0 (y * s)) (part t (y * s) (y * s + y)) (part t (y * s + y) (y * s + y + y * y))
+
+unfoldable pub marginalOf : (key s y : ℕ) (t : List Float) → Answer
+marginalOf key s y t = answerOf key s (momentsIn y s t)
+
+-- from the last elimination, which keeps the key alone; 15 is `Cleared`
+unfoldable pub marginalFrom : ℕ → ℕ → Outcome → Answer
+marginalFrom key s pivot = refusedAs key s Cleared
+marginalFrom key s unbounded = refusedAs key s Unbounded
+marginalFrom key s (message r a xi w) = answerOf key s (momentsOf r s a xi w)

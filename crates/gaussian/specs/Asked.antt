@@ -11,8 +11,8 @@ use Rattle.workspace.specs.declared.Frame.{Frame}
 use Rattle.factor.specs.Limits.{max-variables, max-size, max-total}
 use Rattle.slots.specs.Limits.{max-slots, head-numbers, scratch-numbers}
 use Rattle.slots.specs.Layouts.{member, dimOf, layoutOf, Listed}
-use Rattle.slots.specs.Views.{rowsOfAll}
-use Rattle.slots.specs.Tables.{headOf, keysAt, storeOf, numbersOf, viewAt, rowsByAll}
+use Rattle.slots.specs.Views.{rowsOfAll, numbersOf}
+use Rattle.slots.specs.Tables.{headOf, keysAt, storeOf, viewAt, rowsByAll}
 use Rattle.slots.specs.Fitting.{Ready, Counted}
 use Rattle.slots.specs.declared.layout.Layout.{Layout}
 use Rattle.slots.specs.declared.Head.{Head}

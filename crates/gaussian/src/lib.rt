@@ -26,17 +26,18 @@ ghost use Prim.Native.Nat.{ℕ, _+_, _-_, _<_, _≤_};
 ghost use lib.ListN.{length, getD};
 ghost use Rattle.matrix.specs.Views.{part, splice};
 ghost use Rattle.workspace.specs.Sums.{change};
-ghost use Rattle.workspace.specs.Frames.{cut, Laid, frameOf, work-numbers};
+ghost use Rattle.workspace.specs.Frames.{frameOf, work-numbers};
 ghost use Rattle.factor.specs.Limits.{max-total};
 ghost use Rattle.slots.specs.Limits.{scratch-numbers};
 ghost use Rattle.slots.specs.Layouts.{dimOf};
-ghost use Rattle.slots.specs.Views.{rowsOfAll, withViews};
-ghost use Rattle.slots.specs.Tables.{headOf, numbersOf, viewAt};
+ghost use Rattle.slots.specs.Views.{rowsOfAll, withViews, numbersOf};
+ghost use Rattle.slots.specs.Tables.{headOf, viewAt};
 ghost use Rattle.slots.specs.Fitting.{Ready, Counted};
-ghost use Rattle.gaussian.specs.Elimination.{branchOf, messageRows, begun, filled, lost, finished, run, eliminate};
-ghost use Rattle.gaussian.specs.Answers.{endedAs, answer, stored, numbersIn, leftIn, viewsOf, branchedAt};
+ghost use Rattle.gaussian.specs.Elimination.{branchOf, messageRows, begun, filled, lost, finished, run, eliminate, numbersIn};
+ghost use Rattle.gaussian.specs.Answers.{endedAs, answer, stored, leftIn, viewsOf, branchedAt};
 ghost use Rattle.gaussian.specs.Asked.{Asked, Roomy, Whole};
 ghost use Rattle.gaussian.specs.Told.{eliminatedTold, outcomeTold};
+ghost use Rattle.workspace.specs.Parts.{Laid, cut};
 
 // How an elimination ended: with a message of so many rows, at a refused pivot of the cleared block, or with a message that is not finite.
 pub enum Eliminated {

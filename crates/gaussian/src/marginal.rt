@@ -15,14 +15,14 @@ ghost use mathlib.Core.List.{[], _∷_};
 ghost use Prim.Native.Nat.{_+_, _*_, _≤_};
 ghost use lib.ListN.{length, getD, replicate};
 ghost use Rattle.matrix.specs.Sums.{plus-zero};
-ghost use Rattle.cholesky.specs.Forms.{told};
 ghost use Rattle.factor.specs.Limits.{max-size, max-total};
-ghost use Rattle.slots.specs.Tables.{numbersOf};
 ghost use Rattle.gaussian.specs.Elimination.{eliminate};
-ghost use Rattle.gaussian.specs.Answers.{viewsOf};
+ghost use Rattle.gaussian.specs.Answers.{viewsOf, marginalFrom, marginalOf, momentsIn, refusedAs};
 ghost use Rattle.gaussian.specs.Asked.{Asked};
-ghost use Rattle.gaussian.specs.Marginals.{momentsOf, momentsIn, refusedAs, marginalOf, marginalFrom};
+ghost use Rattle.gaussian.specs.Marginals.{momentsOf};
 ghost use Rattle.gaussian.specs.Told.{solvedTold, endingTold, momentsTold, lastTold};
+ghost use Rattle.slots.specs.Views.{numbersOf};
+ghost use Rattle.cholesky.specs.Answers.{told};
 
 // The numbers of a matrix of as many rows and columns as the largest variable has.
 const SQUARE: usize = SIZE * SIZE;

@@ -8,7 +8,7 @@ use lib.Ieee.{Float}
 use lib.ListN.{length}
 use Rattle.factor.specs.Limits.{max-factors, max-rows}
 use Rattle.factor.specs.Factor.{numbers, lengthsFit, givenFinite}
-use Rattle.cholesky.specs.Forms.{Form, form, noPivot, noNumber, exchanged, endOf}
+use Rattle.cholesky.specs.Forms.{Form, form, noPivot, noNumber, exchanged}
 use Rattle.factor.specs.Storing.{laid, Room}
 use Rattle.factor.specs.declared.Factor.{Factor}
 use Rattle.cholesky.specs.declared.exchange.Exchanged.{Exchanged}
@@ -21,6 +21,7 @@ use Rattle.graph.specs.declared.Outcome.the-variants.{Number}
 use Rattle.graph.specs.declared.refusal.Refusal.{Refusal}
 use Rattle.graph.specs.declared.refusal.Refusal.the-variants.{NotFinite, VariancePivot}
 use Rattle.graph.proofs.Checking.{Passed, checks, weighs, a-long, mean-long, variance-long}
+use Rattle.cholesky.specs.Answers.{endOf}
 
 -- a refusal answers the graph as it came, and leaves the store
 pub turned-back : (g : Graph) (f : Factor) (store s : List Float) (v : Verdict) (why : Refusal) (r : Added) → v ≡ refuse why → r ≡ refused g why → s ≡ store

@@ -20,8 +20,7 @@ use Rattle.records.specs.declared.answer.Read.{Read}
 use Rattle.records.specs.declared.answer.Ended.the-variants as reading
 use Rattle.workspace.specs.Frames.{work-numbers}
 use Rattle.marginals.proofs.Rooms.{numbers-most}
-use Rattle.solver.specs.Run.{run}
-use Rattle.solver.specs.Stages.{verdict}
+use Rattle.solver.specs.Run.{run, verdict}
 use Rattle.solver.specs.declared.run.Ran.{Ran}
 use Rattle.solver.specs.declared.run.Ended.the-variants as ending
 use Rattle.graph.specs.Moments.{startOf}

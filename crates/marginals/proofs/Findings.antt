@@ -13,10 +13,10 @@ use Rattle.schedule.specs.Gather.{Gathered}
 use Rattle.plan.specs.Gather.{gatheredOf}
 use Rattle.plan.specs.declared.gather.Gathered as arrays
 use Rattle.gaussian.specs.Elimination.{Outcome, pivot, unbounded, message, eliminate}
-use Rattle.gaussian.specs.Answers.{viewsOf}
+use Rattle.gaussian.specs.Answers.{viewsOf, answerOf, marginalFrom, refusedAs}
 use Rattle.gaussian.specs.Asked.{Asked}
 use Rattle.cholesky.specs.Forms.{Form, form, noPivot, noNumber}
-use Rattle.gaussian.specs.Marginals.{momentsOf, refusedAs, answerOf, marginalFrom}
+use Rattle.gaussian.specs.Marginals.{momentsOf}
 use Rattle.gaussian.specs.declared.marginal.Answer.{Answer}
 use Rattle.gaussian.specs.declared.marginal.Ending.{Ending}
 use Rattle.gaussian.specs.declared.marginal.Ending.the-variants as ending

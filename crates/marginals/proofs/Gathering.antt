@@ -34,13 +34,13 @@ use Rattle.tables.specs.Originals.{originalView}
 use Rattle.tables.proofs.Dimensions.{total-within, kept-listed, cleared-listed}
 use Rattle.lists.specs.Lists.{backward-shift, messageNumber, numberOf, gatheredNumbers}
 use Rattle.messages.specs.Figure.{need}
-use Rattle.messages.specs.Tables.{keysOf}
 use Rattle.messages.specs.Values.{slotView, values}
 use Rattle.messages.proofs.Members.{at-in, at-map, below-cleared, below-kept, once, kept-length}
 use Rattle.messages.proofs.Slots.{slot-fits}
 use Rattle.messages.proofs.Reading.{slot-view}
 use Rattle.marginals.specs.Marginals.{marginalNumbers, gatheredViews, marginal, marginalsFrom}
 use Rattle.marginals.specs.Asked.{foundAt, foundFrom, AskedAt, Findable, Gatherable}
+use Rattle.graph.specs.Record.{keysOf}
 
 -- ---- lists, entry by entry
 

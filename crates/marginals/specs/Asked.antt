@@ -5,7 +5,7 @@ use mathlib.Core.List.{List, [], _∷_, map}
 use Prim.Native.Nat.{ℕ, _+_, _≤_, _<_}
 use lib.Ieee.{Float}
 use lib.ListN.{length, getD, take}
-use Rattle.graph.specs.Record.{offset, valid}
+use Rattle.graph.specs.Record.{offset, valid, keysOf}
 use Rattle.graph.specs.declared.Graph.{Graph}
 use Rattle.graph.specs.declared.refusal.Refusal.the-variants.{CountedTwice}
 use Rattle.schedule.specs.Count.{from}
@@ -20,7 +20,7 @@ use Rattle.gaussian.specs.Answers.{viewsOf}
 use Rattle.gaussian.specs.Asked.{Asked}
 use Rattle.lists.specs.Lists.{backward-shift, gatheredNumbers}
 use Rattle.messages.specs.Figure.{need}
-use Rattle.messages.specs.Tables.{keysOf, Carriable, PlacedTo, Tables, Stored}
+use Rattle.messages.specs.Tables.{Carriable, PlacedTo, Tables, Stored}
 use Rattle.messages.specs.Values.{values, overlaid}
 use Rattle.messages.specs.Asked.{stopOf}
 use Rattle.messages.specs.Told.{carriedTold, stopTold}

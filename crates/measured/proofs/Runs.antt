@@ -24,12 +24,14 @@ use Rattle.direct.specs.declared.Direct.{Direct}
 use Rattle.direct.specs.declared.Direct.the-variants.{Rows, Refused}
 use Rattle.plan.specs.Plan.{planOf}
 use Rattle.plan.proofs.Sending.{messages-length}
-use Rattle.solver.specs.Plan.{Answer, planned, read}
+use Rattle.solver.specs.Plan.{Answer, planned}
 use Rattle.solver.specs.declared.Arranged.{Arranged}
 use Rattle.solver.specs.Run as solver
 use Rattle.solver.specs.Stages as stages
 use Rattle.solver.specs.declared.run.Ran.{Ran}
 use Rattle.measured.specs.Measured.{readJob, refused-mark, numberIn, eliminated, Stores, stores, storesIn, again, repeated, replanned, rootIn}
+use Rattle.solver.specs.Run.{verdict}
+use Rattle.solver.specs.Stages.{read}
 
 -- no refusal's number is above 30
 pub few : (r : ℕ) (why : Refusal) → r ≡ numberOf why → r ≤ 30
@@ -51,7 +53,7 @@ no-run g factors s = refl
 
 pub one-run : (g : Graph) (factors : List Float) (s : Stores) (n : ℕ) (messages marginals : List Float) (work : ℕ) (r : Ran)
     (messages′ marginals′ : List Float) → work ≡ work-numbers
-    → stores messages marginals ≡ again g factors s n → stages.verdict r messages′ marginals′ ≡ solver.run g factors messages work marginals
+    → stores messages marginals ≡ again g factors s n → verdict r messages′ marginals′ ≡ solver.run g factors messages work marginals
     → stores messages′ marginals′ ≡ again g factors s (n + 1)
 unfolding again
 one-run g factors s n messages marginals work r messages′ marginals′ ew es e =

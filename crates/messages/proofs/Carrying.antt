@@ -19,11 +19,11 @@ use Rattle.graph.specs.declared.refusal.Refusal.{Refusal}
 use Rattle.graph.specs.declared.refusal.Refusal.the-variants.{ClearedPivot, ResultNotFinite}
 use Rattle.schedule.specs.Pass.{Slot, ClosedFactor, at}
 use Rattle.slots.specs.Limits.{max-slots}
-use Rattle.slots.specs.Views.{FactorView}
+use Rattle.slots.specs.Views.{FactorView, numbersOf}
 use Rattle.slots.specs.Layouts.{layoutOf}
-use Rattle.slots.specs.Tables.{headOf, numbersOf, readView, rowsByAll}
-use Rattle.gaussian.specs.Elimination.{Outcome, pivot, unbounded, message, eliminate}
-use Rattle.gaussian.specs.Answers.{answer, stored, numbersIn, viewsOf}
+use Rattle.slots.specs.Tables.{headOf, readView, rowsByAll}
+use Rattle.gaussian.specs.Elimination.{Outcome, pivot, unbounded, message, eliminate, numbersIn}
+use Rattle.gaussian.specs.Answers.{answer, stored, viewsOf}
 use Rattle.gaussian.specs.Asked.{Asked, Roomy, Sized}
 use Rattle.gaussian.specs.declared.Eliminated.{Eliminated}
 use Rattle.gaussian.specs.declared.Eliminated.the-variants.{Rows, Pivot, Unbounded}

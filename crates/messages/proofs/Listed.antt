@@ -8,15 +8,15 @@ use lib.Ieee.{Float}
 use lib.ListN.{length, take}
 use Rattle.factor.specs.Factor.{lay}
 use Rattle.slots.specs.Layouts.{dimOf}
-use Rattle.slots.specs.Tables.{numbersOf}
 use Rattle.gaussian.specs.Elimination.{eliminate}
 use Rattle.gaussian.specs.Answers.{answer, stored, viewsOf}
 use Rattle.gaussian.specs.declared.Eliminated.{Eliminated}
-use Rattle.tables.specs.Originals.{withHead}
 use Rattle.schedule.specs.Pass.{ClosedFactor}
 use Rattle.lists.specs.Lists.{Holds}
 use Rattle.lists.specs.declared.Lists.{Lists}
 use Rattle.messages.specs.Asked.{keptOf, clearedOf, slotsOf, firstOf, rowsBy, Within}
+use Rattle.slots.specs.Views.{numbersOf}
+use Rattle.tables.specs.Heads.{withHead}
 
 -- whatever holds of the three lists holds of the parts, and the other way round
 module _ (l : Lists) (P : List ℕ → List ℕ → List ℕ → Type 0) where

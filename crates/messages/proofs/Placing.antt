@@ -26,14 +26,13 @@ use Rattle.schedule.proofs.Runs.{msgs-in, from-lt}
 use Rattle.plan.specs.Limits.{pass-slots}
 use Rattle.slots.specs.Limits.{max-slots}
 use Rattle.slots.specs.Layouts.{member, layoutOf}
-use Rattle.slots.specs.Tables.{headOf, slotOf, numbersOf, storeOf, rowsBy, rowsByAll}
+use Rattle.slots.specs.Tables.{headOf, slotOf, storeOf, rowsBy, rowsByAll}
 use Rattle.slots.specs.Fitting.{Counted}
 use Rattle.slots.specs.declared.layout.Layout.{Layout}
 use Rattle.slots.specs.declared.Slot.the-variants.{Closed}
 use Rattle.gaussian.specs.Asked.{HeadFits}
 use Rattle.gaussian.proofs.Heads.{counted-head}
 use Rattle.gaussian.proofs.Enough.{cleared-at}
-use Rattle.tables.specs.Originals.{withHead}
 use Rattle.tables.proofs.Heads.{head-length, head-put, head-else}
 use Rattle.factor.proofs.Laying.{lay-length, lay-in, lay-before}
 use Rattle.tables.proofs.OriginalsRead.{originals-stay}
@@ -47,6 +46,8 @@ use Rattle.messages.proofs.Rows.{products}
 use Rattle.messages.proofs.Listed.{PlacedBy}
 use Rattle.messages.proofs.Members.{at-mem, at-map}
 use Rattle.messages.proofs.Slots.{need-more, message-kept, message-cleared, message-few, message-rows-most, Known, slot-fits}
+use Rattle.slots.specs.Views.{numbersOf}
+use Rattle.tables.specs.Heads.{withHead}
 
 -- the rows of an earlier message
 rows-length : (g : Graph) (ms : List ClosedFactor) (n : ℕ) → length (rowsTo g ms n) ≡ n

@@ -10,9 +10,8 @@ use lib.ListN.{length, getD, length-append, List·getD-append}
 use lib.Seq.{getD-append-seam}
 use Rattle.graph.specs.declared.Graph.{Graph}
 use Rattle.schedule.specs.Pass.{Slot, original, closed, ClosedFactor, at}
-use Rattle.slots.specs.Tables.{headOf, viewOf, readView}
-use Rattle.gaussian.specs.Elimination.{pivot, message}
-use Rattle.gaussian.specs.Answers.{numbersIn}
+use Rattle.slots.specs.Tables.{headOf, readView}
+use Rattle.gaussian.specs.Elimination.{pivot, message, numbersIn}
 use Rattle.gaussian.proofs.Outcomes.{first-part, second-part, third-part}
 use Rattle.tables.proofs.OriginalsRead.{original-view}
 use Rattle.lists.specs.Lists.{backward-shift, numberOf}
@@ -20,6 +19,7 @@ use Rattle.messages.specs.Values.{messageView, slotView, valuesTo, value
 use Rattle.messages.specs.Figure.{widthAt}
 use Rattle.messages.specs.Tables.{Carriable, PlacedTo, Tables, Stored}
 use Rattle.messages.proofs.Slots.{Known, keys-are}
+use Rattle.slots.specs.Views.{viewOf}
 
 -- what the first n messages came to, by their places
 pub values-length : (g : Graph) (factors : List Float) (ms : List ClosedFactor) (n : ℕ) → length (valuesTo g factors ms n) ≡ n

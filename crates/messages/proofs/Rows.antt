@@ -7,13 +7,14 @@ use native.Mathlib.Nat.{mul-le-mul}
 use native.Mathlib.Omega.{arith}
 use lib.ListN.{length}
 use Rattle.slots.specs.Layouts.{dimOf, layoutOf, Listed}
-use Rattle.slots.specs.Tables.{rowsByAll, numbersOf}
+use Rattle.slots.specs.Tables.{rowsByAll}
 use Rattle.slots.specs.declared.layout.Layout.{Layout}
 use Rattle.gaussian.specs.Elimination.{messageRows}
 use Rattle.gaussian.proofs.Lengths.{rows-few}
 use Rattle.factor.specs.Factor.{lay}
-use Rattle.tables.specs.Originals.{withHead}
 use Rattle.messages.specs.Asked.{rowsBy, firstOf}
+use Rattle.slots.specs.Views.{numbersOf}
+use Rattle.tables.specs.Heads.{withHead}
 
 module _ (kept cleared slots sizes keys heads : List ℕ) (m : Layout) (y d : ℕ) (em : m ≡ layoutOf kept cleared sizes)
     (ey : y ≡ rowsByAll m keys heads slots (length slots)) (ed : d ≡ dimOf sizes kept) where

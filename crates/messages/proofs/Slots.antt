@@ -13,7 +13,7 @@ use lib.ListN.{length, getD, take, drop, length-drop}
 use lib.Seq.{length-take-le, getD-take, getD-drop, ext-getD}
 use Rattle.factor.specs.Limits.{max-variables, max-total}
 use Rattle.factor.specs.Factor.{keyAt}
-use Rattle.graph.specs.Record.{factorAt, offset}
+use Rattle.graph.specs.Record.{factorAt, offset, keysOf}
 use Rattle.graph.specs.declared.Graph.{Graph}
 use Rattle.graph.proofs.Validity.{size-most, valid-variables, valid-size, valid-touched}
 use Rattle.schedule.specs.Count.{count, In, from}
@@ -21,16 +21,17 @@ use Rattle.schedule.specs.Pass as pass
 use Rattle.schedule.specs.Pass.{Slot, original, closed, ClosedFactor, at}
 use Rattle.schedule.specs.Messages.{Tidy}
 use Rattle.slots.specs.Layouts.{dimOf, Listed}
-use Rattle.slots.specs.Tables.{headOf, keysAt, numbersOf, storeOf}
+use Rattle.slots.specs.Tables.{headOf, keysAt, storeOf}
 use Rattle.slots.specs.declared.Head.{Head}
 use Rattle.gaussian.specs.Asked.{KeyFits, HeadFits}
 use Rattle.tables.proofs.Dimensions.{total-within, kept-listed, cleared-listed}
 use Rattle.tables.proofs.OriginalsRead.{original-fits}
 use Rattle.lists.specs.Lists.{backward-shift, numberOf}
 use Rattle.messages.specs.Figure.{slotRows, rowsTo, rowsAt, widthAt, needTo}
-use Rattle.messages.specs.Tables.{keysOf, Carriable, firstKey, messageHead, PlacedTo, Tables}
+use Rattle.messages.specs.Tables.{Carriable, firstKey, messageHead, PlacedTo, Tables}
 use Rattle.gaussian.proofs.Lengths.{rows-few}
 use Rattle.messages.proofs.Members.{at-in, placed-in, below-cleared, below-kept, once, kept-length, column-all}
+use Rattle.slots.specs.Views.{numbersOf}
 
 -- ---- the figure grows by one message at a time
 

@@ -1,32 +1,27 @@
 -- The messages of a pass in the tables of an elimination: their heads and keys follow those of the originals, the forward pass first. Definitions only.
 use mathlib.Core.Path.{_≡_}
-use mathlib.Core.Bool.{true, false, cond}
-use mathlib.Core.List.{List, []}
+use mathlib.Core.Bool.{true, false}
+use mathlib.Core.List.{List}
 use Prim.Native.Nat.{ℕ, _+_, _*_, _≤_, _<_}
-use lib.Dec.{ltb}
-use lib.ListN.{length, getD, take}
+use lib.ListN.{length, getD}
 use lib.Ieee.{Float}
 use Rattle.matrix.specs.Views.{part}
 use Rattle.factor.specs.Limits.{max-variables, max-factors, max-keys}
-use Rattle.graph.specs.Record.{factorAt, valid}
+use Rattle.graph.specs.Record.{valid, keysOf}
 use Rattle.graph.specs.declared.Graph.{Graph}
 use Rattle.schedule.specs.Count.{from}
 use Rattle.schedule.specs.Pass.{ClosedFactor, at}
 use Rattle.schedule.specs.Messages.{Older, Tidy}
 use Rattle.slots.specs.Limits.{head-numbers}
-use Rattle.slots.specs.Tables.{headOf, numbersOf}
+use Rattle.slots.specs.Tables.{headOf}
 use Rattle.slots.specs.declared.Head.{Head}
 use Rattle.slots.specs.declared.Slot.the-variants.{Closed}
-use Rattle.gaussian.specs.Elimination.{message}
-use Rattle.gaussian.specs.Answers.{numbersIn}
-use Rattle.tables.specs.Originals.{Originals}
+use Rattle.gaussian.specs.Elimination.{message, numbersIn}
 use Rattle.lists.specs.Lists.{backward-shift, messageNumber}
 use Rattle.messages.specs.Values.{valueAt, values, finished}
 use Rattle.messages.specs.Figure.{rowsAt, widthAt, needTo, need}
-
--- the keys of the factor i of a graph; there are none past the last factor
-unfoldable pub keysOf : Graph → ℕ → List ℕ
-keysOf g i = cond (ltb i (g .count)) (take (factorAt g i .touched) (factorAt g i .keys)) []
+use Rattle.slots.specs.Views.{numbersOf}
+use Rattle.tables.specs.Heads.{Originals}
 
 -- what is asked of a pass: the plan of a valid graph gives it
 pub record Carriable (g : Graph) (ms : List ClosedFactor) : Type 0 where

@@ -22,20 +22,20 @@ ghost use Rattle.factor.specs.Limits.{max-variables};
 ghost use Rattle.factor.specs.Factor.{lay};
 ghost use Rattle.plan.specs.Pass.{Ready, messagesOf};
 ghost use Rattle.slots.specs.Layouts.{dimOf, Listed};
-ghost use Rattle.slots.specs.Tables.{numbersOf};
 ghost use Rattle.slots.specs.Fitting.{Counted};
 ghost use Rattle.workspace.specs.Frames.{work-numbers};
 ghost use Rattle.graph.specs.Record.{offset};
 ghost use Rattle.gaussian.specs.Elimination.{eliminate};
 ghost use Rattle.gaussian.specs.Answers.{answer, stored, viewsOf};
 ghost use Rattle.gaussian.specs.Asked.{Asked, Roomy};
-ghost use Rattle.tables.specs.Originals.{withHead};
 ghost use Rattle.lists.specs.Lists.{backward-shift};
 ghost use Rattle.messages.specs.Figure.{need};
 ghost use Rattle.messages.specs.Tables.{Carriable, PlacedTo, Tables, Before, AllStored};
 ghost use Rattle.messages.specs.Values.{values, stopFrom, finished};
 ghost use Rattle.messages.specs.Asked.{firstOf, rowsBy, Placeable, Within, keptOf, clearedOf, slotsOf, most-start, stopOf};
 ghost use Rattle.messages.specs.Told.{carriedTold, stopTold};
+ghost use Rattle.slots.specs.Views.{numbersOf};
+ghost use Rattle.tables.specs.Heads.{withHead};
 
 // How a pass ended: with all its messages, or at the message of a place, for a reason.
 pub enum Carried {

@@ -11,7 +11,7 @@ use Rattle.records.specs.Records.{readAll}
 use Rattle.records.specs.declared.answer.Read.{Read}
 use Rattle.records.specs.declared.answer.Ended.the-variants as reading
 use Rattle.plan.specs.Plan.{planOf}
-use Rattle.solver.specs.Plan.{Answer, graphPlan, planned, read}
+use Rattle.solver.specs.Plan.{Answer, graphPlan, planned}
 use Rattle.solver.specs.declared.Arranged.{Arranged}
 use Rattle.solver.specs.declared.Outcome.the-variants.{Made, Refused}
 use Rattle.lines.specs.Lines.{refusalText, written, laidIn}
@@ -21,6 +21,7 @@ use Rattle.job.proofs.Endings.{Lays}
 use Rattle.plan_text.specs.Text.{planText}
 use Rattle.plan_text.specs.declared.Shown.the-variants as shows
 use Rattle.plan_text.specs.Shown.{endedAs, leftAs, shownOf, leftOf, shown, shownIn, readText, showText}
+use Rattle.solver.specs.Stages.{read}
 
 -- the text of a plan in arrays
 abbrev pub arraysText : Arranged → List ℕ

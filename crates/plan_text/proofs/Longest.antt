@@ -9,7 +9,7 @@ use borrow.Author.Tests.{ltb-true, ltb-false}
 use lib.Dec.{ltb}
 use lib.ListN.{length, getD, take, drop, length-append, length-map, length-reverse}
 use Rattle.factor.specs.Limits.{max-variables, max-factors}
-use Rattle.graph.specs.Record.{valid}
+use Rattle.graph.specs.Record.{valid, keysOf}
 use Rattle.graph.specs.Refusals.{numberOf}
 use Rattle.graph.specs.declared.Graph.{Graph}
 use Rattle.graph.specs.declared.refusal.Refusal.{Refusal}
@@ -31,8 +31,7 @@ use Rattle.plan.specs.declared.gather.Gathered.{Gathered}
 use Rattle.plan.specs.declared.plan.Plan.{Plan}
 use Rattle.plan.proofs.Stepping.{ready-later}
 use Rattle.plan.proofs.Unions.{slot-low, slot-high, at-msg, joined-zero}
-use Rattle.messages.specs.Tables.{keysOf}
-use Rattle.solver.specs.Plan.{Answer, graphPlan, planned, read}
+use Rattle.solver.specs.Plan.{Answer, graphPlan, planned}
 use Rattle.solver.specs.declared.Arranged.{Arranged}
 use Rattle.solver.specs.declared.Outcome.the-variants.{Made}
 use Rattle.text.specs.Decimals.{space, fieldText}
@@ -49,6 +48,7 @@ use Rattle.plan_text.specs.Text.{lastWord, slotText, namedText, listText
 use Rattle.plan_text.proofs.Answers.{arraysText}
 use Rattle.plan_text.proofs.Growing.{joined-nil, joined-one, joined-map, member-more, part-none, part-more, given-none, given-more, taken-none}
 use Rattle.plan_text.proofs.Growing.{taken-more}
+use Rattle.solver.specs.Stages.{read}
 
 -- a text that grows by a piece a turn
 grown-most : (t s : ℕ → List ℕ) (most n : ℕ) → [] ≡ t 0 → ((k : ℕ) → k < n → t k ++ s k ≡ t (k + 1)) → ((k : ℕ) → k < n → length (s k) ≤ most)

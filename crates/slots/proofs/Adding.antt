@@ -19,7 +19,6 @@ use Rattle.matrix.proofs.Agreement.{block-same}
 use Rattle.blocks.specs.Blocks.{column, blockColumnOf}
 use Rattle.workspace.specs.Blocks.{corner, stamp, transposedTimes}
 use Rattle.workspace.specs.Sums.{Sums, change, turns}
-use Rattle.workspace.specs.Frames.{from, to, Laid}
 use Rattle.workspace.specs.declared.Frame.{Frame}
 use Rattle.workspace.specs.declared.Part.{Part}
 use Rattle.workspace.specs.declared.Part.the-variants.{S, H, G, A, Xi, W}
@@ -34,6 +33,7 @@ use Rattle.slots.specs.Fitting.{Sits, Wide}
 use Rattle.slots.specs.declared.layout.Spot.{Spot}
 use Rattle.slots.specs.declared.sums.Target.{Target}
 use Rattle.slots.specs.declared.sums.Target.the-variants.{Nowhere, At}
+use Rattle.workspace.specs.Parts.{Laid, from, to}
 
 -- ---- places
 

@@ -20,8 +20,7 @@ use Rattle.slots.specs.declared.Branch.{Branch}
 use Rattle.slots.specs.declared.Branch.the-variants.{Z, X}
 use Rattle.slots.specs.declared.layout.Layout.{Layout}
 use Rattle.slots.specs.Layouts.{find}
-use Rattle.slots.specs.Views.{withKeys, withRows, withPrior, withView}
-use Rattle.slots.specs.Tables.{viewOf}
+use Rattle.slots.specs.Views.{withKeys, withRows, withPrior, withView, viewOf}
 use Rattle.slots.specs.Fitting.{Fitted, BranchFits, Wide}
 use Rattle.slots.specs.declared.layout.Spot.{Spot}
 use Rattle.slots.proofs.Adding.{fits-part}

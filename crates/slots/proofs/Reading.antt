@@ -12,8 +12,8 @@ use Rattle.matrix.specs.Views.{part}
 use Rattle.workspace.specs.Sums.{Sums, turns}
 use Rattle.workspace.specs.declared.Frame.{Frame}
 use Rattle.workspace.proofs.Parts.{length-part}
-use Rattle.slots.specs.Views.{withView, withViews, rowsOf, rowsOfAll}
-use Rattle.slots.specs.Tables.{keysAt, viewOf, readView, viewAt, headOf, rowsBy, rowsByAll}
+use Rattle.slots.specs.Views.{withView, withViews, rowsOf, rowsOfAll, viewOf}
+use Rattle.slots.specs.Tables.{keysAt, readView, viewAt, headOf, rowsBy, rowsByAll}
 use Rattle.slots.specs.Fitting.{Fitted, Ready}
 use Rattle.slots.specs.declared.Branch.{Branch}
 use Rattle.slots.specs.declared.layout.Layout.{Layout}

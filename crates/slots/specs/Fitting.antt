@@ -10,8 +10,8 @@ use Rattle.workspace.specs.declared.Frame.{Frame}
 use Rattle.factor.specs.Limits.{max-variables, max-size, max-total}
 use Rattle.slots.specs.Limits.{max-slots, head-numbers}
 use Rattle.slots.specs.Layouts.{find}
-use Rattle.slots.specs.Views.{rowsOf}
-use Rattle.slots.specs.Tables.{headOf, keysAt, storeOf, numbersOf, viewOf}
+use Rattle.slots.specs.Views.{rowsOf, numbersOf, viewOf}
+use Rattle.slots.specs.Tables.{headOf, keysAt, storeOf}
 use Rattle.slots.specs.declared.Branch.{Branch}
 use Rattle.slots.specs.declared.Branch.the-variants.{Z, X}
 use Rattle.slots.specs.declared.layout.Layout.{Layout}

@@ -13,12 +13,12 @@ ghost use mathlib.Core.Bool.{true};
 ghost use Prim.Native.Nat.{ℕ, _+_, _*_, _<_, _≤_};
 ghost use lib.ListN.{length, getD};
 ghost use Rattle.matrix.specs.Views.{part};
-ghost use Rattle.workspace.specs.Frames.{cut, Laid};
 ghost use Rattle.factor.specs.Limits.{max-variables};
 ghost use Rattle.slots.specs.Limits.{head-numbers};
 ghost use Rattle.slots.specs.Views.{rowsOf, rowsOfAll, withView, withViews};
 ghost use Rattle.slots.specs.Tables.{slotOf, headOf, storeOf, readView, viewAt, rowsBy, rowsByAll};
 ghost use Rattle.slots.specs.Fitting.{Ready, Counted};
+ghost use Rattle.workspace.specs.Parts.{Laid, cut};
 
 // The two branches of an elimination: in z the message has the factors' own rows, in x as many rows as kept columns.
 pub enum Branch {

@@ -18,10 +18,9 @@ ghost use lib.ListN.{length};
 ghost use Rattle.matrix.specs.Views.{Inside, flip, columns};
 ghost use Rattle.matrix.specs.Products.{product};
 ghost use Rattle.workspace.specs.Sums.{change};
-ghost use Rattle.workspace.specs.Frames.{from, to, cut, Laid};
-ghost use Rattle.slots.specs.Views.{target, withProduct, withProducts, withOwn, withKey, withKeys, withRows, withPrior, withView};
-ghost use Rattle.slots.specs.Tables.{viewOf};
+ghost use Rattle.slots.specs.Views.{target, withProduct, withProducts, withOwn, withKey, withKeys, withRows, withPrior, withView, viewOf};
 ghost use Rattle.slots.specs.Fitting.{Sits, BranchFits, Known, Wide, Fitted};
+ghost use Rattle.workspace.specs.Parts.{Laid, cut, from, to};
 
 // Where a product goes.
 pub enum Target {

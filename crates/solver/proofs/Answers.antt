@@ -19,12 +19,13 @@ use Rattle.plan.specs.declared.plan.Plan.{Plan}
 use Rattle.plan.proofs.Rising.{take-from}
 use Rattle.plan_answer.specs.Answer.{answerOf}
 use Rattle.plan_answer.specs.declared.Plan as struct
-use Rattle.solver.specs.Plan.{graphPlan, noPlan, Answer, planned, answer, read}
+use Rattle.solver.specs.Plan.{graphPlan, noPlan, Answer, planned, answer}
 use Rattle.solver.specs.declared.Arranged.{Arranged}
 use Rattle.solver.specs.declared.Planned.{Planned}
 use Rattle.solver.specs.declared.Outcome.the-variants.{Made, Refused}
 use Rattle.solver.specs.Told.{outcomeTold, planTold}
 use Rattle.solver.proofs.Tables.{same-keys}
+use Rattle.solver.specs.Stages.{read}
 
 -- all originals and all keys in their order, as the plan's code is given them: the plan is the graph's
 pub graph-plan : (g : Graph) (live order : List ℕ) → valid g ≡ true → live ≡ from 0 max-factors

@@ -6,7 +6,7 @@ use mathlib.Core.List.{List, reverse}
 use Prim.Native.Nat.{ℕ, _-_, _≤_, _<_}
 use native.Mathlib.Omega.{arith}
 use lib.ListN.{length, length-map, length-reverse}
-use Rattle.graph.specs.Record.{valid}
+use Rattle.graph.specs.Record.{valid, keysOf}
 use Rattle.graph.specs.declared.Graph.{Graph}
 use Rattle.graph.proofs.Validity.{valid-variables}
 use Rattle.schedule.specs.Count.{count, In, from}
@@ -18,7 +18,7 @@ use Rattle.schedule.proofs.Runs.{from-lt}
 use Rattle.schedule.proofs.Messages.{tidy, tidy-more, older, steps, few-messages, settled, settled-more}
 use Rattle.schedule.proofs.Demand3.{from-once, long, gathered-at, demand3}
 use Rattle.schedule.proofs.Sums.{length-from}
-use Rattle.messages.specs.Tables.{keysOf, Carriable}
+use Rattle.messages.specs.Tables.{Carriable}
 use Rattle.solver.specs.Plan.{graphPlan}
 use Rattle.solver.specs.Stages.{Runnable}
 use Rattle.solver.proofs.GraphOnce.{low}

@@ -10,7 +10,7 @@ use lib.Dec.{ltb}
 use lib.ListN.{getD, take, length-take}
 use lib.Seq.{getD-take}
 use Rattle.factor.proofs.Fitting.{fits-key}
-use Rattle.graph.specs.Record.{factorAt, valid}
+use Rattle.graph.specs.Record.{factorAt, valid, keysOf}
 use Rattle.graph.specs.declared.Graph.{Graph}
 use Rattle.graph.proofs.Validity.{valid-factor}
 use Rattle.schedule.specs.Count.{count, In, from}
@@ -19,7 +19,6 @@ use Rattle.schedule.specs.Once.{Once}
 use Rattle.schedule.proofs.Counts.{from-in}
 use Rattle.schedule.proofs.Demand3 as schedule
 use Rattle.schedule.proofs.Demand3.{from-once, demand3}
-use Rattle.messages.specs.Tables.{keysOf}
 use Rattle.solver.specs.Plan.{graphPlan}
 use Rattle.solver.proofs.Tables.{bounded}
 

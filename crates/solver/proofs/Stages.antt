@@ -29,7 +29,6 @@ use Rattle.plan.specs.declared.pass.Pass.{Pass}
 use Rattle.plan.proofs.Unions.{at-msg}
 use Rattle.plan.specs.Gather.{gatheredOf}
 use Rattle.plan.specs.Plan.{planOf, noGathered, Bounded}
-use Rattle.tables.specs.Originals.{Originals}
 use Rattle.lists.specs.Lists.{messageNumber, backward-shift}
 use Rattle.plan.specs.declared.gather.Gathered as arrays
 use Rattle.plan.specs.declared.plan.Plan.{Plan}
@@ -55,18 +54,19 @@ use Rattle.marginals.specs.Marginals.{marginalNumbers, missingFrom, marginalsIn
 use Rattle.marginals.proofs.Rooms.{numbers-most}
 use Rattle.marginals.proofs.Gathering.{findable}
 use Rattle.factor.proofs.Laying.{lay-lay}
-use Rattle.solver.specs.Plan.{graphPlan, read}
+use Rattle.solver.specs.Plan.{graphPlan}
 use Rattle.solver.specs.Plan as spec
 use Rattle.solver.specs.declared.Arranged as calls
 use Rattle.solver.specs.declared.Outcome.the-variants.{Made}
-use Rattle.solver.specs.Run.{Verdict, refusal, refuse, first, second, third, carried, checked, figureOf, run}
-use Rattle.solver.specs.Stages.{verdict, Planned, Ready, Enough, storesOf, ThirdPlanned}
+use Rattle.solver.specs.Run.{Verdict, refusal, refuse, first, second, third, carried, checked, figureOf, run, verdict}
+use Rattle.solver.specs.Stages.{Planned, Ready, Enough, storesOf, ThirdPlanned, read}
 use Rattle.solver.specs.declared.run.Places.{Places}
 use Rattle.solver.specs.declared.run.Ran.{Ran}
 use Rattle.solver.specs.declared.run.Ended.the-variants.{Done}
 use Rattle.solver.specs.declared.run.Stores.the-variants as stores
 use Rattle.solver.proofs.Answers.{made-valid}
 use Rattle.solver.proofs.Carriable.{graph-runnable}
+use Rattle.tables.specs.Heads.{Originals}
 
 -- ---- leaves
 

@@ -8,14 +8,13 @@ use native.Mathlib.Omega.{arith}
 use lib.ListN.{length, getD, take, length-take}
 use lib.Seq.{getD-take}
 use Rattle.factor.proofs.Fitting.{fits-key}
-use Rattle.graph.specs.Record.{factorAt, valid}
+use Rattle.graph.specs.Record.{factorAt, valid, keysOf}
 use Rattle.graph.specs.declared.Graph.{Graph}
 use Rattle.graph.proofs.Validity.{valid-variables, valid-count, valid-factor, valid-touched}
 use Rattle.schedule.specs.Count.{count, In}
 use Rattle.schedule.proofs.Counts.{hit-cases}
 use Rattle.plan.specs.Factors.{keysAt}
 use Rattle.plan.specs.Plan.{Registered}
-use Rattle.messages.specs.Tables.{keysOf}
 
 -- a number that stands in a list is below what bounds its elements
 pub bounded : (l : List ℕ) (n : ℕ) → ((i : ℕ) → i < length l → getD l i 0 < n) → (j : ℕ) → In j l → j < n

@@ -2,8 +2,7 @@
 use mathlib.Core.Path.{_≡_, ap}
 use mathlib.Core.List.{List}
 use lib.Ieee.{Float}
-use Rattle.solver.specs.Run.{Verdict}
-use Rattle.solver.specs.Stages.{verdict}
+use Rattle.solver.specs.Run.{Verdict, verdict}
 use Rattle.solver.specs.Told.{ranTold}
 use Rattle.solver.specs.declared.run.Ran.{Ran}
 

@@ -2,15 +2,12 @@
 use mathlib.Core.Bool.{cond}
 use mathlib.Core.List.{[]}
 use Prim.Native.Nat.{ℕ}
-use Rattle.graph.specs.Record.{valid}
+use Rattle.graph.specs.Record.{valid, keysOf}
 use Rattle.graph.specs.declared.Graph.{Graph}
 use Rattle.graph.specs.declared.refusal.Refusal.the-variants.{NoSuchGraph}
 use Rattle.schedule.specs.Count.{from}
 use Rattle.schedule.specs.Plan as lists
-use Rattle.plan.specs.Plan.{planOf}
 use Rattle.plan_answer.specs.Answer.{answerOf}
-use Rattle.messages.specs.Tables.{keysOf}
-use Rattle.solver.specs.declared.Arranged.{Arranged}
 use Rattle.solver.specs.declared.Planned.{Planned}
 use Rattle.solver.specs.declared.Outcome.{Outcome}
 use Rattle.solver.specs.declared.Outcome.the-variants.{Made, Refused}
@@ -38,7 +35,3 @@ planned g =
 -- the same with the plan in its struct: what the call `plan` answers
 unfoldable pub answer : Graph → Planned
 answer g = let a = planned g in record { outcome = a .outcome; keys = a .keys; plan = answerOf (a .plan) }
-
--- what the arrays of an answer hold
-unfoldable pub read : Arranged → Answer
-read r = record { outcome = r .outcome; keys = r .keys; plan = planOf (r .keys) (r .plan) }

@@ -7,7 +7,7 @@ use lib.Dec.{leb}
 use lib.ListN.{length, getD}
 use lib.Ieee.{Float}
 use Rattle.factor.specs.Counting.{every}
-use Rattle.graph.specs.Record.{offset}
+use Rattle.graph.specs.Record.{offset, keysOf}
 use Rattle.graph.specs.declared.Graph.{Graph}
 use Rattle.graph.specs.declared.refusal.Refusal.the-variants.{FactorStoreShort, StoreShort}
 use Rattle.schedule.specs.Count.{count, from}
@@ -21,17 +21,17 @@ use Rattle.plan.specs.declared.plan.Plan.{Plan}
 use Rattle.workspace.specs.Frames.{work-numbers}
 use Rattle.lists.specs.Lists.{backward-shift}
 use Rattle.messages.specs.Figure.{need}
-use Rattle.messages.specs.Tables.{keysOf, Carriable, PlacedTo, Tables}
+use Rattle.messages.specs.Tables.{Carriable, PlacedTo, Tables, keysOf}
 use Rattle.marginals.specs.Asked.{Gatherable, planned}
 use Rattle.marginals.specs.Marginals.{marginalNumbers, missingFrom}
-use Rattle.solver.specs.Run.{Verdict, third}
+use Rattle.solver.specs.Run.{third, verdict}
 use Rattle.solver.specs.declared.run.Places.{Places}
 use Rattle.solver.specs.declared.run.Ran.{Ran}
 use Rattle.solver.specs.declared.run.Stores.{Stores}
 use Rattle.solver.specs.declared.run.Stores.the-variants as stores
-
-abbrev pub verdict : (r : Ran) (messages marginals : List Float) → Verdict
-verdict r messages marginals = record { answer = r; messages = messages; marginals = marginals }
+use Rattle.solver.specs.declared.Arranged.{Arranged}
+use Rattle.solver.specs.declared.Planned.{Planned}
+use Rattle.solver.specs.Plan.{Answer, outcome, keys, plan, planned}
 
 -- What a run relies on in a plan. Any plan over originals of a valid graph, along any order of its keys, has it.
 pub record Runnable (g : Graph) (q : lists.Plan) : Type 0 where
@@ -78,3 +78,7 @@ abbrev pub ThirdPlanned : (g : Graph) (at : List arrays.Gathered) (figure : ℕ)
 ThirdPlanned g at figure factors messages keys heads before r after =
     (q : lists.Plan) → Gatherable g q at factors messages keys heads
     → verdict r messages after ≡ third figure messages before (planned g factors q) (missingFrom 0 (planned g factors q))
+
+-- what the arrays of an answer hold
+unfoldable pub read : Arranged → Answer
+read r = record { outcome = r .outcome; keys = r .keys; plan = planOf (r .keys) (r .plan) }

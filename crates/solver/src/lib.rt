@@ -14,6 +14,7 @@ ghost use Rattle.factor.specs.Limits.{max-variables};
 ghost use Rattle.plan.specs.Plan.{Bounded};
 ghost use Rattle.solver.specs.Plan as spec;
 ghost use Rattle.solver.specs.Told.{outcomeTold, planTold};
+ghost use Rattle.solver.specs.Stages.{read};
 
 // Whether a plan was made.
 pub enum Outcome {
@@ -38,7 +39,7 @@ pub struct Planned {
 
 // The plan of a graph, in arrays: over all its factors, with keys rising. What stands past their counts is read by nobody.
 pub fn arrange(g: Graph) -> Arranged
-    ensures { λ r. ⌜ spec.read r ≡ spec.planned g ⌝ }
+    ensures { λ r. ⌜ read r ≡ spec.planned g ⌝ }
     ensures { λ r. ⌜ (r .keys ≤ max-variables) × Bounded (r .keys) (r .plan) ⌝ }
 {
     let factors = g.factors;

@@ -34,6 +34,7 @@ ghost use Rattle.marginals.specs.Marginals.{marginalNumbers};
 ghost use Rattle.solver.specs.Run as spec;
 ghost use Rattle.solver.specs.Stages as stages;
 ghost use Rattle.solver.specs.Told.{ranTold};
+ghost use Rattle.solver.specs.Run.{verdict};
 
 // How a run ended: with a mean and a covariance for each key, or refused, with the stage and the key.
 pub enum Ended {
@@ -183,7 +184,7 @@ fn carry_out(
 ) -> Ran
     requires { ⌜ stages.Planned g p (planOf (g .variables) p) × stages.Ready g (planOf (g .variables) p) places (now keys) (now heads) ⌝ }
     requires { ⌜ stages.Enough g (places .figure) (length (now factors)) (length (now messages)) (length (now work)) (length (now marginals)) ⌝ }
-    ensures { λ r. ⌜ stages.verdict r (now (messages .exit)) (now (marginals .exit)) ≡
+    ensures { λ r. ⌜ verdict r (now (messages .exit)) (now (marginals .exit)) ≡
         spec.carried g (planOf (g .variables) p) (places .figure) (now (factors .entry)) (now (messages .entry)) (now (marginals .entry)) ⌝ }
 {
     let n = g.variables;
@@ -222,7 +223,7 @@ pub fn run(
     work: &mut [f64],
     marginals: &mut [f64],
 ) -> Ran
-    ensures { λ r. ⌜ stages.verdict r (now (messages .exit)) (now (marginals .exit)) ≡
+    ensures { λ r. ⌜ verdict r (now (messages .exit)) (now (marginals .exit)) ≡
         spec.run g (now (factors .entry)) (now (messages .entry)) (length (now (work .entry))) (now (marginals .entry)) ⌝ }
     ensures { λ r. ⌜ ranTold r ≡
         ranTold (spec.run g (now (factors .entry)) (now (messages .entry)) (length (now (work .entry))) (now (marginals .entry)) .answer) ⌝ }

@@ -17,9 +17,10 @@ use Rattle.graph.proofs.Validity.{offset-more, valid-count, valid-touched}
 use Rattle.slots.specs.Limits.{head-numbers}
 use Rattle.slots.specs.Tables.{slotOf}
 use Rattle.slots.specs.declared.Slot.the-variants.{Original}
-use Rattle.tables.specs.Originals.{widthOf, withHead, Entered}
+use Rattle.tables.specs.Originals.{widthOf}
 use Rattle.factor.proofs.Laying.{lay-in, lay-before}
 use Rattle.tables.proofs.Heads.{head-put, head-else}
+use Rattle.tables.specs.Heads.{Entered, withHead}
 
 slot-is : (i : ℕ) → i < max-factors → slotOf i ≡ Original i
 unfolding slotOf

@@ -9,8 +9,8 @@ use lib.Dec.{eqb}
 use lib.ListN.{length, getD}
 use Rattle.slots.specs.Limits.{head-numbers}
 use Rattle.slots.specs.Tables.{slotOf, headOf}
-use Rattle.tables.specs.Originals.{headNumbers, withHead}
 use Rattle.factor.proofs.Laying.{lay-length, lay-in, lay-before, lay-after}
+use Rattle.tables.specs.Heads.{headNumbers, withHead}
 
 -- a head from what the table holds at its places
 head-as : (heads : List ℕ) (number : ℕ) (p : Bool) (a r w f c : ℕ) → eqb (getD heads (head-numbers * number) 0) 1 ≡ p

@@ -18,10 +18,12 @@ use Rattle.graph.specs.Record.{factorAt, offset, valid}
 use Rattle.graph.specs.declared.Graph.{Graph}
 use Rattle.graph.proofs.Validity.{size-most, valid-variables, valid-count, valid-size, valid-factor, valid-touched, rows-most, width-most, offset-within}
 use Rattle.slots.specs.Layouts.{member}
-use Rattle.slots.specs.Tables.{headOf, keysAt, numbersOf, readView}
+use Rattle.slots.specs.Tables.{headOf, keysAt, readView}
 use Rattle.slots.specs.declared.Head.{Head}
 use Rattle.gaussian.specs.Asked.{KeyFits, HeadFits}
-use Rattle.tables.specs.Originals.{widthOf, originalView, originalHead, Entered, Originals}
+use Rattle.tables.specs.Originals.{widthOf, originalView}
+use Rattle.slots.specs.Views.{numbersOf}
+use Rattle.tables.specs.Heads.{Entered, Originals, originalHead}
 
 -- what is written later, past the places of originals, does not matter
 pub originals-stay : (g : Graph) (keys heads keys′ heads′ : List ℕ) → valid g ≡ true → Originals g keys heads → length keys′ ≡ length keys

@@ -13,7 +13,8 @@ ghost use Rattle.factor.specs.Limits.{max-factors, max-keys};
 ghost use Rattle.factor.specs.Factor.{lay};
 ghost use Rattle.graph.specs.Record.{valid};
 ghost use Rattle.slots.specs.Limits.{head-numbers};
-ghost use Rattle.tables.specs.Originals.{widthOf, withHead, Originals};
+ghost use Rattle.tables.specs.Originals.{widthOf};
+ghost use Rattle.tables.specs.Heads.{Originals, withHead};
 
 // 1 for a prior.
 fn mark(prior: bool) -> usize

@@ -8,11 +8,12 @@ use lib.ListN.{length}
 use lib.Ieee.{Float}
 use Rattle.matrix.specs.Views.{part, splice}
 use Rattle.workspace.specs.Sums.{pick, change}
-use Rattle.workspace.specs.Frames.{from, to, cut, Laid, frameOf, work-numbers}
+use Rattle.workspace.specs.Frames.{frameOf, work-numbers}
 use Rattle.workspace.specs.declared.Part.{Part}
 use Rattle.workspace.specs.declared.Part.the-variants.{S, H, G, A, Xi, W}
 use Rattle.workspace.specs.declared.Frame.{Frame}
 use Rattle.workspace.proofs.Parts.{part-same, part-below, part-above, length-part}
+use Rattle.workspace.specs.Parts.{Laid, cut, from, to}
 
 pub bounds : {f : Frame} {len : ℕ} → Laid f len → (p : Part) → (from f p ≤ to f p) × (to f p ≤ len)
 bounds l S = (omega arith, omega arith)

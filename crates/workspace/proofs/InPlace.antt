@@ -17,11 +17,11 @@ use Rattle.matrix.proofs.Dense.{dense}
 use Rattle.cholesky.specs.Solve.{solvedRow, solveLower, solveLowerIn}
 use Rattle.workspace.specs.Blocks.{solvedColumns, solvedIn, subtractedColumnIn, subtractedIn}
 use Rattle.workspace.specs.Sums.{pick, change}
-use Rattle.workspace.specs.Frames.{from, to, cut, Laid}
 use Rattle.workspace.specs.declared.Part.{Part}
 use Rattle.workspace.specs.declared.Frame.{Frame}
 use Rattle.workspace.proofs.Parts.{length-part, getD-part, splice-below, splice-in, splice-part, steps-part, sweep-part}
 use Rattle.workspace.proofs.Cuts.{bounds, picked, cut-splice, long}
+use Rattle.workspace.specs.Parts.{Laid, cut, from, to}
 
 -- the view of n rows that begins at place p
 abbrev pub start : ℕ → ℕ → View

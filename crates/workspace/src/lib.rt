@@ -10,10 +10,12 @@ ghost use Rattle.matrix.specs.Stores.{blockColumn};
 ghost use Rattle.matrix.specs.Sums.{one};
 ghost use Rattle.matrix.specs.Products.{product};
 ghost use Rattle.matrix.specs.Triangles.{filledDiagonal, filledUpper};
-ghost use Rattle.cholesky.specs.Factor.{factor, answerOf, listOf};
+ghost use Rattle.cholesky.specs.Factor.{factor};
 ghost use Rattle.workspace.specs.Blocks.{corner, stampEntry, stamp, solvedColumns, solvedIn, subtractedColumnIn, subtractedIn, zeroed};
 ghost use Rattle.workspace.specs.Sums.{pick, change};
-ghost use Rattle.workspace.specs.Frames.{from, to, cut, Laid, frameOf};
+ghost use Rattle.workspace.specs.Frames.{frameOf};
+ghost use Rattle.cholesky.specs.Answers.{answerOf, listOf};
+ghost use Rattle.workspace.specs.Parts.{Laid, cut, from, to};
 
 // How many numbers a work store has at least: enough for every frame within the limits.
 pub const WORK: usize = 2304;

@@ -5,13 +5,13 @@ use native.Mathlib.Omega.{arith}
 use borrow.Author.Needs.{needs}
 use lib.ListN.{length}
 use Rattle.workspace.specs.Sums.{turns}
-use Rattle.workspace.specs.Frames.{cut}
 use Rattle.workspace.proofs.Cuts.{relaid}
 use Rattle.slots.specs.Views.{rowsOfAll, withViews}
 use Rattle.slots.specs.Tables.{viewAt}
 use Rattle.slots.proofs.Reading.{re-ready, rows-more, views-more}
 use Rattle.slots.proofs.add_slots.Statement.{statement}
 use Rattle.slots.proofs.add_slots.Tie as tie
+use Rattle.workspace.specs.Parts.{cut}
 
 abbrev Inv-loop : tie.InvT-loop
 Inv-loop work₀ t₀ f branch layout factors messages keys heads slots row₀ i₀ i-end work t row i =

@@ -9,9 +9,9 @@ use Rattle.factor.specs.Limits.{most-numbers}
 use Rattle.graph.proofs.Validity.{valid-count, valid-touched}
 use Rattle.graph.specs.Record.{factorAt, offset}
 use Rattle.tables.proofs.Filling.{entered-more, next-offset, none-entered, no-offset}
-use Rattle.tables.specs.Originals.{Entered}
 use Rattle.tables.proofs.fill_originals.Statement.{statement}
 use Rattle.tables.proofs.fill_originals.Tie as tie
+use Rattle.tables.specs.Heads.{Entered}
 
 abbrev Inv-loop : tie.InvT-loop
 Inv-loop keys₀ heads₀ g sizes count at₀ number₀ keys heads at number = (number ≤ count) × (count ≡ g .count) × (sizes ≡ g .sizes) ×

@@ -8,9 +8,9 @@ use lib.ListN.{length, set, length-set}
 use lib.Seq.{sets-eq}
 use Rattle.factor.specs.Factor.{lay}
 use Rattle.slots.specs.Limits.{head-numbers}
-use Rattle.tables.specs.Originals.{withHead}
 use Rattle.tables.proofs.put_head.Statement.{statement}
 use Rattle.tables.proofs.put_head.Tie as tie
+use Rattle.tables.specs.Heads.{withHead}
 
 -- six stores in a row
 six-laid : (l : List ℕ) (p a b c d e f : ℕ) → p + 6 ≤ length l

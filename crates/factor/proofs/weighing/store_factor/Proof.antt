@@ -10,10 +10,10 @@ use lib.ListN.{length-replicate, replicate}
 use Rattle.factor.proofs.Laying.{front-replicate}
 use Rattle.factor.proofs.Telling.{weighed-tells}
 use Rattle.factor.specs.Limits.{max-rows}
-use Rattle.cholesky.specs.Forms.{Lent}
 use Rattle.matrix.specs.Sums.{plus-zero}
 use Rattle.factor.proofs.weighing.store_factor.Statement.{statement}
 use Rattle.factor.proofs.weighing.store_factor.Tie as tie
+use Rattle.cholesky.specs.Answers.{Lent}
 
 -- a square of the most rows has room
 room : (n : ℕ) → n ≤ max-rows → n * n ≤ max-rows * max-rows

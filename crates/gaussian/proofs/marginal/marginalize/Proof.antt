@@ -4,7 +4,6 @@ use mathlib.Core.List.{[], _∷_}
 use native.Mathlib.Omega.{arith}
 use borrow.Author.Needs.{needs}
 use lib.ListN.{length, getD}
-use Rattle.slots.specs.Tables.{numbersOf}
 use Rattle.slots.proofs.Adding.{fits-part}
 use Rattle.gaussian.specs.Elimination.{eliminate}
 use Rattle.gaussian.proofs.Telling.{last-tells}
@@ -13,6 +12,7 @@ use Rattle.gaussian.proofs.Branches.{spans}
 use Rattle.gaussian.proofs.Outcomes.{few-rows, marginal-pivot, marginal-unbounded, marginal-message}
 use Rattle.gaussian.proofs.marginal.marginalize.Statement.{statement}
 use Rattle.gaussian.proofs.marginal.marginalize.Tie as tie
+use Rattle.slots.specs.Views.{numbersOf}
 
 eliminate-in-requires : tie.Need-eliminate-in-requires
 eliminate-in-requires c κs = c .before .before .before .before .before .before .before .before .before .before .before .pre .0

@@ -1,9 +1,9 @@
 -- `gaussian::marginal::refused` meets its contract: the record is the definition's. Assumes nothing.
 use mathlib.Core.Path.{refl}
 use lib.Ieee.{ofBits}
-use Rattle.gaussian.specs.Marginals.{refusedAs}
 use Rattle.gaussian.proofs.marginal.refused.Statement.{statement}
 use Rattle.gaussian.proofs.marginal.refused.Tie as tie
+use Rattle.gaussian.specs.Answers.{refusedAs}
 
 returns : tie.Need-returns
 unfolding refusedAs ofBits

@@ -6,13 +6,13 @@ use borrow.Author.Needs.{needs}
 use lib.ListN.{length}
 use Rattle.blocks.specs.Blocks.{column}
 use Rattle.workspace.specs.Sums.{turns}
-use Rattle.workspace.specs.Frames.{cut}
 use Rattle.workspace.proofs.Cuts.{relaid}
 use Rattle.slots.specs.Views.{withKeys}
 use Rattle.slots.specs.declared.layout.Spot.{Spot}
 use Rattle.slots.proofs.Adding.{column-fits, fits-block, keys-more, scratch}
 use Rattle.slots.proofs.sums.add_keys.Statement.{statement}
 use Rattle.slots.proofs.sums.add_keys.Tie as tie
+use Rattle.workspace.specs.Parts.{cut}
 
 abbrev Inv-loop : tie.InvT-loop
 Inv-loop work₀ t₀ f branch row layout keys y a xi w column₀ i₀ i-end work t col i =

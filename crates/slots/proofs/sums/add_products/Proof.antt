@@ -6,13 +6,13 @@ use borrow.Author.Needs.{needs}
 use lib.ListN.{length}
 use Rattle.blocks.specs.Blocks.{column}
 use Rattle.workspace.specs.Sums.{turns}
-use Rattle.workspace.specs.Frames.{cut}
 use Rattle.workspace.proofs.Cuts.{relaid}
 use Rattle.slots.specs.Views.{withProducts}
 use Rattle.slots.specs.declared.layout.Spot.{Spot}
 use Rattle.slots.proofs.Adding.{column-fits, fits-block, products-more}
 use Rattle.slots.proofs.sums.add_products.Statement.{statement}
 use Rattle.slots.proofs.sums.add_products.Tie as tie
+use Rattle.workspace.specs.Parts.{cut}
 
 abbrev Inv-loop : tie.InvT-loop
 Inv-loop work₀ f branch layout keys y a k t column₀ j₀ j-end work col j =
