@@ -10,33 +10,33 @@ use borrow.Author.Tests.{le-ltb, lt-ltb}
 use lib.Ieee.{Float}
 use lib.ListN.{length, getD}
 use denote.Ref.{RefT, now}
-use Rattle.blocks.specs.Blocks.{column, blockColumnOf}
+use Rattle.blocks.specs.Blocks.{columnOf, blockColumnOf}
 use Rattle.blocks.specs.declared.Blocks.{Blocks}
 use Rattle.blocks.specs.declared.NextKey.the-variants.{Key, End}
-use Rattle.blocks.specs.Reader.{blocksFrom, blocksOf, keyAt, turned}
+use Rattle.blocks.specs.Reader.{blocksFrom, blocksOf, nextKeyAt, turned}
 
 -- ---- where the reader stands
 
-pub stands : (a : RefT (List Float)) (sizes keys : List ℕ) (i : ℕ) → turned a sizes keys i ≡ record { a = a; place = i; column = column sizes keys i }
-unfolding turned column
+pub stands : (a : RefT (List Float)) (sizes keys : List ℕ) (i : ℕ) → turned a sizes keys i ≡ record { a = a; place = i; column = columnOf sizes keys i }
+unfolding turned columnOf
 stands a sizes keys zero = refl
 stands a sizes keys (suc i) = rw (stands a sizes keys i, add-one i)
 
 -- ---- the entries of the list
 
 -- the first key's columns come before those of the others
-column-cons : (sizes : List ℕ) (key : ℕ) (keys : List ℕ) (i : ℕ) → column sizes (key ∷ keys) (suc i) ≡ getD sizes key 0 + column sizes keys i
-unfolding column
+column-cons : (sizes : List ℕ) (key : ℕ) (keys : List ℕ) (i : ℕ) → columnOf sizes (key ∷ keys) (suc i) ≡ getD sizes key 0 + columnOf sizes keys i
+unfolding columnOf
 column-cons sizes key keys zero = omega arith
 column-cons sizes key keys (suc i) = omega (arith, column-cons sizes key keys i)
 
 entry-from : (sizes : List ℕ) (y : ℕ) (a : List Float) (keys : List ℕ) (c i : ℕ) (none : ℕ × List Float) → i < length keys
-    → getD (blocksFrom sizes y a keys c) i none ≡ (getD keys i 0, blockColumnOf a y (c + column sizes keys i) (getD sizes (getD keys i 0) 0))
-unfolding blocksFrom column
+    → getD (blocksFrom sizes y a keys c) i none ≡ (getD keys i 0, blockColumnOf a y (c + columnOf sizes keys i) (getD sizes (getD keys i 0) 0))
+unfolding blocksFrom columnOf
 entry-from sizes y a [] c i none h = absurd (omega arith)
 entry-from sizes y a (key ∷ keys) c zero none h = let e : c ≡ c + 0 = omega arith in ap (λ (k : ℕ). (key, blockColumnOf a y k (getD sizes key 0))) e
 entry-from sizes y a (key ∷ keys) c (suc i) none h =
-    let e : c + getD sizes key 0 + column sizes keys i ≡ c + column sizes (key ∷ keys) (suc i) = omega (arith, column-cons sizes key keys i) in
+    let e : c + getD sizes key 0 + columnOf sizes keys i ≡ c + columnOf sizes (key ∷ keys) (suc i) = omega (arith, column-cons sizes key keys i) in
     entry-from sizes y a keys (c + getD sizes key 0) i none (omega arith) ∙ ap
     (λ (k : ℕ). (getD keys i 0, blockColumnOf a y k (getD sizes (getD keys i 0) 0))) e
 
@@ -52,20 +52,20 @@ as-many sizes keys y a = length-from sizes y a keys 0
 
 -- what the reader gives at one place: its key, and the block of that key's size
 pub record Gives (b : Blocks) (sizes keys : List ℕ) (y : ℕ) (entry : ℕ × List Float) : Type 0 where
-  pub key : keyAt keys (b .place) ≡ Key (entry .0)
+  pub key : nextKeyAt keys (b .place) ≡ Key (entry .0)
   pub block : blockColumnOf (now (b .a)) y (b .column) (getD sizes (entry .0) 0) ≡ entry .1
 
 at-place : (a : RefT (List Float)) (sizes keys : List ℕ) (y i : ℕ) → i < length keys
-    → Gives (record { a = a; place = i; column = column sizes keys i }) sizes keys y
-    (getD keys i 0, blockColumnOf (now a) y (column sizes keys i) (getD sizes (getD keys i 0) 0))
+    → Gives (record { a = a; place = i; column = columnOf sizes keys i }) sizes keys y
+    (getD keys i 0, blockColumnOf (now a) y (columnOf sizes keys i) (getD sizes (getD keys i 0) 0))
 at-place a sizes keys y i h = record { key = simp (lt-ltb i (length keys) h); block = refl }
 
 pub in-turn : (a : RefT (List Float)) (sizes keys : List ℕ) (y i : ℕ) (none : ℕ × List Float) → i < length keys
     → Gives (turned a sizes keys i) sizes keys y (getD (blocksOf sizes keys y (now a)) i none)
-in-turn a sizes keys y i none h = rw (stands a sizes keys i, entry-from sizes y (now a) keys 0 i none h, zero-add (column sizes keys i))
+in-turn a sizes keys y i none h = rw (stands a sizes keys i, entry-from sizes y (now a) keys 0 i none h, zero-add (columnOf sizes keys i))
     (at-place a sizes keys y i h)
 
-pub then-end : (a : RefT (List Float)) (sizes keys : List ℕ) → keyAt keys (turned a sizes keys (length keys) .place) ≡ End
+pub then-end : (a : RefT (List Float)) (sizes keys : List ℕ) → nextKeyAt keys (turned a sizes keys (length keys) .place) ≡ End
 then-end a sizes keys = rw (stands a sizes keys (length keys)) (simp (le-ltb (length keys) (length keys) (omega arith)))
 
 -- ---- an example

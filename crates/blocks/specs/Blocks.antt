@@ -9,9 +9,9 @@ use Rattle.matrix.specs.Views.{part}
 -- ---- the block columns
 
 -- the first column of the i-th key of a factor
-unfoldable pub column : (sizes keys : List ℕ) (i : ℕ) → ℕ
-column sizes keys zero = 0
-column sizes keys (suc i) = column sizes keys i + getD sizes (getD keys i 0) 0
+unfoldable pub columnOf : (sizes keys : List ℕ) (i : ℕ) → ℕ
+columnOf sizes keys zero = 0
+columnOf sizes keys (suc i) = columnOf sizes keys i + getD sizes (getD keys i 0) 0
 
 -- the block column of s columns from column c on: that part of A, which has y rows
 abbrev pub blockColumnOf : (a : List Float) (y c s : ℕ) → List Float

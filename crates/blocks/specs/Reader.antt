@@ -9,7 +9,7 @@ use denote.Ref.{RefT}
 use Rattle.blocks.specs.declared.Blocks.{Blocks}
 use Rattle.blocks.specs.declared.NextKey.{NextKey}
 use Rattle.blocks.specs.declared.NextKey.the-variants.{Key, End}
-use Rattle.blocks.specs.Blocks.{column, blockColumnOf}
+use Rattle.blocks.specs.Blocks.{blockColumnOf}
 
 -- each key with its block column, where the first block begins at column c
 unfoldable pub blocksFrom : (sizes : List ℕ) (y : ℕ) (a : List Float) (keys : List ℕ) (c : ℕ) → List (ℕ × List Float)
@@ -21,8 +21,8 @@ abbrev pub blocksOf : (sizes keys : List ℕ) (y : ℕ) (a : List Float) → Lis
 blocksOf sizes keys y a = blocksFrom sizes y a keys 0
 
 -- the key at a place, or the end
-abbrev pub keyAt : List ℕ → ℕ → NextKey
-keyAt keys place = cond (ltb place (length keys)) (Key (getD keys place 0)) End
+abbrev pub nextKeyAt : List ℕ → ℕ → NextKey
+nextKeyAt keys place = cond (ltb place (length keys)) (Key (getD keys place 0)) End
 
 -- the reader at the first key, and past a block of s columns
 abbrev pub started : RefT (List Float) → Blocks

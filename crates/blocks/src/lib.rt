@@ -4,7 +4,7 @@ ghost use mathlib.Core.Path.{_≡_};
 ghost use Prim.Native.Nat.{_+_, _*_, _≤_, _<_, _^_};
 ghost use lib.ListN.{length};
 ghost use Rattle.blocks.specs.Blocks.{blockColumnOf};
-ghost use Rattle.blocks.specs.Reader.{keyAt, passed, started};
+ghost use Rattle.blocks.specs.Reader.{nextKeyAt, passed, started};
 
 // A, the place of the next key, and the column at which its block begins.
 pub struct Blocks<'a> {
@@ -21,7 +21,7 @@ pub enum NextKey {
 
 // The key at a place of a list.
 fn key_at(keys: &[usize], place: usize) -> NextKey
-    ensures { λ r. ⌜ r ≡ keyAt (now (keys .entry)) place ⌝ }
+    ensures { λ r. ⌜ r ≡ nextKeyAt (now (keys .entry)) place ⌝ }
 {
     if place < keys.len() {
         NextKey::Key(keys[place])
@@ -53,7 +53,7 @@ pub fn blocks_of<'a>(a: &'a [f64]) -> Blocks<'a>
 
 // The key that the reader stands at.
 pub fn key<'a>(b: Blocks<'a>, keys: &[usize]) -> NextKey
-    ensures { λ r. ⌜ r ≡ keyAt (now (keys .entry)) (b .entry .place) ⌝ }
+    ensures { λ r. ⌜ r ≡ nextKeyAt (now (keys .entry)) (b .entry .place) ⌝ }
 {
     key_at(keys, b.place)
 }

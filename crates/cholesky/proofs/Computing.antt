@@ -6,10 +6,10 @@ use Rattle.root.specs.Root.{rootOf}
 use Rattle.matrix.specs.Sums.{deduct, deductOf}
 use Rattle.matrix.specs.Stores.{steps, sweep}
 use Rattle.matrix.specs.Finite.{allFinite}
-use Rattle.cholesky.specs.Factor.{pivotOf, reduced, below, rooted, column, factor}
+use Rattle.cholesky.specs.Factor.{pivotOf, reduced, below, rooted, factorColumn, factor}
 use Rattle.cholesky.specs.Solve.{solvedRow, solveLower, solveUpper, solved, unitColumn, inverted}
 use Rattle.cholesky.specs.Forms.{Form, bounded, exchangedBy, exchanged}
 
 unfoldable pub computedExchange : ℕ → List Float → List Float → Form
-unfolding exchanged exchangedBy bounded factor column rooted below reduced pivotOf rootOf solved solveLower solveUpper solvedRow inverted unitColumn steps sweep deductOf deduct allFinite ofBits sub mul div
+unfolding exchanged exchangedBy bounded factor factorColumn rooted below reduced pivotOf rootOf solved solveLower solveUpper solvedRow inverted unitColumn steps sweep deductOf deduct allFinite ofBits sub mul div
 computedExchange n x m = exchanged n x m

@@ -10,7 +10,7 @@ use lib.Seq.{getD-set-same, getD-set-other}
 use lib.Ieee.{Float, nan, binary64, mul, div}
 use Rattle.matrix.specs.Views.{place, entry, Inside, Apart, flip}
 use Rattle.matrix.specs.Sums.{terms, deductOf}
-use Rattle.cholesky.specs.Factor.{pivotOf, Left, whole, stuck, below, rooted, column, factor, reduced}
+use Rattle.cholesky.specs.Factor.{pivotOf, Left, whole, stuck, below, rooted, factorColumn, factor, reduced}
 use Rattle.matrix.specs.declared.View.{View}
 use Rattle.root.specs.declared.Pivot.{Pivot}
 use Rattle.root.specs.declared.Pivot.the-variants.{Root, Refused}
@@ -155,7 +155,7 @@ module _ (v : View) (n : ℕ) (s : List Float) (ap′ : Apart v n n) (inside : I
   rooted-holds t u j hj H Refused e g = absurd (never t u g)
 
   pub factor-holds : (j : ℕ) → j ≤ n → (u : List Float) → factor v n s j ≡ whole u → Holds v n s u j
-  unfolding factor column
+  unfolding factor factorColumn
   factor-holds zero h u e =
       let w : s ≡ u = cc in
       subst (λ (y : List Float). Holds v n s y 0) w (record {
@@ -167,7 +167,7 @@ module _ (v : View) (n : ℕ) (s : List Float) (ap′ : Apart v n n) (inside : I
       })
   factor-holds (suc j) h u e = go (factor v n s j) refl e (factor-holds j (omega arith))
     where
-      go : (F : Left) → factor v n s j ≡ F → column v j (n - suc j) F ≡ whole u → ((w : List Float) → factor v n s j ≡ whole w → Holds v n s w j)
+      go : (F : Left) → factor v n s j ≡ F → factorColumn v j (n - suc j) F ≡ whole u → ((w : List Float) → factor v n s j ≡ whole w → Holds v n s w j)
           → Holds v n s u (suc j)
       go (whole t) f g ih = rooted-holds t u j (omega arith) (ih t f) (pivotOf (reduced t v j j) (entry t v j j)) refl g
       go (stuck t) f g ih = absurd (never t u g)

@@ -14,30 +14,30 @@ use Rattle.matrix.specs.declared.View.{View}
 use Rattle.matrix.proofs.Entries.{steps-length, sweep-length}
 use Rattle.cholesky.specs.Factor.{Left, whole, stuck, factor}
 use Rattle.cholesky.specs.Solve.{solveLower, solveUpper, solved, unitColumn, inverted}
-use Rattle.cholesky.specs.Forms.{form, noPivot, noNumber, bounded, exchangedBy, exchanged}
+use Rattle.cholesky.specs.Forms.{form, pivot, notFinite, bounded, exchangedBy, exchanged}
 use Rattle.cholesky.specs.declared.Factored.{Factored}
 use Rattle.cholesky.specs.declared.Factored.the-variants as factored
-use Rattle.cholesky.specs.declared.exchange.Exchanged.the-variants.{Done, Pivot, Unbounded}
+use Rattle.cholesky.specs.declared.exchange.Exchanged.the-variants.{Done, Pivot, NotFinite}
 use Rattle.cholesky.proofs.Identity.{identity-factor, identity-solve, identity-inverse, identity-finite, zeros-finite}
-use Rattle.cholesky.specs.Answers.{answerOf, listOf, told}
+use Rattle.cholesky.specs.Answers.{factoredAs, listOf, told}
 
 -- ---- the ways out
 
 module _ (n : ℕ) (x : List Float) where
-  whole-by : (F : Left) → answerOf F ≡ factored.Done
+  whole-by : (F : Left) → factoredAs F ≡ factored.Done
       → exchangedBy n x F ≡ bounded (solved (listOf F) (columns n) n (columns n) 0 x)
       (inverted (listOf F) (columns n) n (columns n) (replicate (n * n) plus-zero) n)
   unfolding exchangedBy
   whole-by (whole l) e = refl
   whole-by (stuck l) e = cc
 
-  stuck-by : (F : Left) → answerOf F ≡ factored.Stopped → exchangedBy n x F ≡ noPivot
+  stuck-by : (F : Left) → factoredAs F ≡ factored.Refused → exchangedBy n x F ≡ pivot
   unfolding exchangedBy
   stuck-by (whole l) e = cc
   stuck-by (stuck l) e = refl
 
-  module _ (m y z : List Float) (r : Factored) (er : r ≡ answerOf (factor (columns n) n m n)) where
-    pub pivot-refused : r ≡ factored.Stopped → exchanged n x m ≡ told Pivot y z
+  module _ (m y z : List Float) (r : Factored) (er : r ≡ factoredAs (factor (columns n) n m n)) where
+    pub pivot-refused : r ≡ factored.Refused → exchanged n x m ≡ told Pivot y z
     unfolding exchanged told
     pivot-refused e = stuck-by (factor (columns n) n m n) (sym er ∙ e)
 
@@ -47,12 +47,12 @@ module _ (n : ℕ) (x : List Float) where
       unfolding exchanged
       both = whole-by (factor (columns n) n m n) (sym er ∙ e) ∙ sym (rw (ey, ez, ez₀, el))
 
-      pub vector-refused : b ≡ false → exchanged n x m ≡ told Unbounded y z
+      pub vector-refused : b ≡ false → exchanged n x m ≡ told NotFinite y z
       unfolding bounded told
       vector-refused h = both ∙ simp (sym eb ∙ h)
 
       module _ (h : b ≡ true) (d : Bool) (ed : d ≡ allFinite z) where
-        pub matrix-refused : d ≡ false → exchanged n x m ≡ told Unbounded y z
+        pub matrix-refused : d ≡ false → exchanged n x m ≡ told NotFinite y z
         unfolding bounded told
         matrix-refused g = both ∙ simp (sym eb ∙ h, sym ed ∙ g)
 
@@ -76,7 +76,7 @@ module _ (n : ℕ) (x y z : List Float) where
   unfolding bounded
   bounded-long a b la lb e = go (allFinite a) (allFinite b) e
     where
-      go : (p q : Bool) → cond p (cond q (form a b) noNumber) noNumber ≡ form y z → (length y ≡ length x) × (length z ≡ n * n)
+      go : (p q : Bool) → cond p (cond q (form a b) notFinite) notFinite ≡ form y z → (length y ≡ length x) × (length z ≡ n * n)
       go true true h = let ea : a ≡ y = cc in let eb : b ≡ z = cc in (rw ea at la, rw eb at lb)
       go true false h = absurd (let z : _≡_ {A = ℕ} 0 1 = cc in omega arith)
       go false q h = absurd (let z : _≡_ {A = ℕ} 0 1 = cc in omega arith)

@@ -21,7 +21,7 @@ use Rattle.matrix.specs.Finite.{isFinite, allFinite}
 use Rattle.matrix.specs.declared.View.{View}
 use Rattle.matrix.proofs.Entries.{steps-at, apart, block-length, block-at}
 use Rattle.matrix.proofs.Dense.{dense, whole-at, fills}
-use Rattle.cholesky.specs.Factor.{pivotOf, whole, below, rooted, column, factor, reduced}
+use Rattle.cholesky.specs.Factor.{pivotOf, whole, below, rooted, factorColumn, factor, reduced}
 use Rattle.cholesky.specs.Solve.{solvedRow, solveLower, solveUpper, solved, unitColumn, inverted}
 
 -- ---- arithmetic on 0.0 and 1.0 is exact
@@ -112,8 +112,8 @@ module _ (v : View) (n : ℕ) (s : List Float) (I : Identity v n s) where
       ∙ by-one (unit (j + suc k) j) (unit-bit (j + suc k) j)
       ∙ sym (I (j + suc k) j (omega arith) (omega arith)))
 
-  column-is : (j d : ℕ) → j + d < n → column v j d (whole s) ≡ whole s
-  unfolding column rooted Identity
+  column-is : (j d : ℕ) → j + d < n → factorColumn v j d (whole s) ≡ whole s
+  unfolding factorColumn rooted Identity
   column-is j d h =
       let e : entry s v j j ≡ one = I j j (omega arith) (omega arith) ∙ unit-same j in
       rw (reduced-is j j (omega arith) (omega arith) ∙ unit-same j, e, pivot-one)

@@ -14,8 +14,8 @@ use Rattle.matrix.specs.Sums.{terms, deductOf}
 use Rattle.matrix.specs.Stores.{steps}
 use Rattle.matrix.specs.declared.View.{View}
 use Rattle.matrix.proofs.Agreement.{deduct-same}
-use Rattle.cholesky.specs.Factor.{pivotOf, Left, whole, stuck, below, rooted, column, factor, reduced}
-use Rattle.cholesky.specs.Answers.{answerOf, listOf}
+use Rattle.cholesky.specs.Factor.{pivotOf, Left, whole, stuck, below, rooted, factorColumn, factor, reduced}
+use Rattle.cholesky.specs.Answers.{factoredAs, listOf}
 
 -- two lists that hold the same lower triangle, and hold it whole
 pub record Alike (v : View) (n : ℕ) (s t : List Float) : Type 0 where
@@ -69,8 +69,8 @@ module _ (v : View) (n : ℕ) where
   both-rooted s t j d (Root r) h A = wholes _ _ (alike-below _ _ j d h (alike-set s t j j r r (omega arith) (omega arith) refl A))
   both-rooted s t j d Refused h A = stucks s t A
 
-  both-column : (j d : ℕ) → j + d < n → {F G : Left} → Both F G → Both (column v j d F) (column v j d G)
-  unfolding column
+  both-column : (j d : ℕ) → j + d < n → {F G : Left} → Both F G → Both (factorColumn v j d F) (factorColumn v j d G)
+  unfolding factorColumn
   both-column j d h (wholes s t A) =
       rw (alike-reduced s t j j (omega arith) (omega arith) A, A .same j j (omega arith) (omega arith))
       (both-rooted s t j d (pivotOf (reduced t v j j) (entry t v j j)) h A)
@@ -81,10 +81,10 @@ module _ (v : View) (n : ℕ) where
   both-factor s t zero h A = wholes s t A
   both-factor s t (suc j) h A = both-column j (n - suc j) (omega arith) (both-factor s t j (omega arith) A)
 
-  both-answer : {F G : Left} → Both F G → (answerOf F ≡ answerOf G) × Alike v n (listOf F) (listOf G)
+  both-answer : {F G : Left} → Both F G → (factoredAs F ≡ factoredAs G) × Alike v n (listOf F) (listOf G)
   both-answer (wholes s t A) = (refl, A)
   both-answer (stucks s t A) = (refl, A)
 
-  pub lower-only : (s t : List Float) → Alike v n s t → (answerOf (factor v n s n) ≡ answerOf (factor v n t n)) × Alike v n (listOf (factor v n s n))
+  pub lower-only : (s t : List Float) → Alike v n s t → (factoredAs (factor v n s n) ≡ factoredAs (factor v n t n)) × Alike v n (listOf (factor v n s n))
       (listOf (factor v n t n))
   lower-only s t A = both-answer (both-factor s t n (omega arith) A)

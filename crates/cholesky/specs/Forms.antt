@@ -14,16 +14,16 @@ use Rattle.cholesky.specs.Solve.{solved, inverted}
 -- the vector and the matrix of the other form, or that the matrix given has a refused pivot, or that a number computed is not finite
 pub data Form : Type 0 where
   form : (x m : List Float) → Form
-  noPivot : Form
-  noNumber : Form
+  pivot : Form
+  notFinite : Form
 
 unfoldable pub bounded : (x m : List Float) → Form
-bounded x m = cond (allFinite x) (cond (allFinite m) (form x m) noNumber) noNumber
+bounded x m = cond (allFinite x) (cond (allFinite m) (form x m) notFinite) notFinite
 
 -- with the Cholesky factor l of the matrix the vector is solved and the matrix inverted
 unfoldable pub exchangedBy : (n : ℕ) (x : List Float) → Left → Form
 exchangedBy n x (whole l) = bounded (solved l (columns n) n (columns n) 0 x) (inverted l (columns n) n (columns n) (replicate (n * n) plus-zero) n)
-exchangedBy n x (stuck l) = noPivot
+exchangedBy n x (stuck l) = pivot
 
 unfoldable pub exchanged : (n : ℕ) (x m : List Float) → Form
 exchanged n x m = exchangedBy n x (factor (columns n) n m n)

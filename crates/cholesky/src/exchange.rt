@@ -6,18 +6,18 @@ use crate::solve;
 use matrix::View;
 ghost use mathlib.Core.Path.{_≡_};
 ghost use Rattle.cholesky.specs.Forms.{exchanged};
-ghost use Rattle.cholesky.specs.Answers.{Lent, told};
+ghost use Rattle.cholesky.specs.Answers.{FormLent, told};
 
 // How an exchange ended: with the other form, at a refused pivot of the matrix, or with a number that is not finite.
 pub enum Exchanged {
     Done,
     Pivot,
-    Unbounded,
+    NotFinite,
 }
 
 // The vector in x becomes the solve of it, the zeros in y become the inverse of the matrix in l, and l its Cholesky factor.
 pub fn exchange(l: &mut [f64], n: usize, x: &mut [f64], y: &mut [f64]) -> Exchanged
-    requires { ⌜ Lent n (now l) (now x) (now y) ⌝ }
+    requires { ⌜ FormLent n (now l) (now x) (now y) ⌝ }
     ensures { λ r. ⌜ exchanged n (now (x .entry)) (now (l .entry)) ≡ told r (now (x .exit)) (now (y .exit)) ⌝ }
 {
     let v = View {
@@ -31,10 +31,10 @@ pub fn exchange(l: &mut [f64], n: usize, x: &mut [f64], y: &mut [f64]) -> Exchan
     solve(&l[..], v, n, x, v, 0);
     inverse(&l[..], v, n, y, v);
     if !matrix::finite(&x[..]) {
-        return Exchanged::Unbounded;
+        return Exchanged::NotFinite;
     }
     if !matrix::finite(&y[..]) {
-        return Exchanged::Unbounded;
+        return Exchanged::NotFinite;
     }
     Exchanged::Done
 }

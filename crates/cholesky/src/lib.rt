@@ -9,12 +9,12 @@ ghost use lib.ListN.{length};
 ghost use Rattle.matrix.specs.Views.{place, Inside};
 ghost use Rattle.cholesky.specs.Factor.{pivotOf, reduced, factor};
 ghost use Rattle.cholesky.specs.Solve.{solvedRow, solveLower, solveLowerIn, solveUpper, solved, unitColumn, inverted};
-ghost use Rattle.cholesky.specs.Answers.{answerOf, listOf};
+ghost use Rattle.cholesky.specs.Answers.{factoredAs, listOf};
 
 // Whether every pivot had a root.
 pub enum Factored {
     Done,
-    Stopped,
+    Refused,
 }
 
 // The root of a pivot, by what is left of the diagonal entry and by that entry as it was given.
@@ -46,7 +46,7 @@ fn reduced(s: &[f64], v: View, i: usize, j: usize) -> f64
 // The lower triangle of S(n × n) becomes its Cholesky factor; the upper one is neither read nor written.
 pub fn cholesky(s: &mut [f64], v: View, n: usize) -> Factored
     requires { ⌜ Inside v n n (length (now s)) ⌝ }
-    ensures { λ r. ⌜ r ≡ answerOf (factor v n (now (s .entry)) n) ⌝ }
+    ensures { λ r. ⌜ r ≡ factoredAs (factor v n (now (s .entry)) n) ⌝ }
     ensures { λ _. ⌜ now (s .exit) ≡ listOf (factor v n (now (s .entry)) n) ⌝ }
 {
     let mut answer = Factored::Done;
@@ -58,7 +58,7 @@ pub fn cholesky(s: &mut [f64], v: View, n: usize) -> Factored
                 match pivot(x, d) {
                     Pivot::Root(r) => matrix::put(s, v, j, j, r),
                     Pivot::Refused => {
-                        answer = Factored::Stopped;
+                        answer = Factored::Refused;
                         break 'columns;
                     }
                 }

@@ -10,23 +10,23 @@ use lib.Dec.{leb}
 use lib.ListN.{length, getD}
 use lib.Ieee.{Float}
 use Rattle.factor.specs.Counting.{every}
-use Rattle.graph.specs.Refusals.{numberOf}
+use Rattle.graph.specs.Refusals.{refusalNumber}
 use Rattle.graph.specs.Record.{sizeAt, offset, valid}
 use Rattle.graph.specs.declared.Graph.{Graph}
 use Rattle.graph.specs.declared.refusal.Refusal.{Refusal}
 use Rattle.graph.specs.declared.refusal.Refusal.the-variants.{FactorStoreShort, StoreShort, CountedTwice, NoSuchGraph}
 use Rattle.schedule.specs.Count.{count}
 use Rattle.schedule.specs.Gather.{Gathered}
-use Rattle.schedule.specs.Plan as lists
+use Rattle.schedule.specs.Plan as schedule
 use Rattle.schedule.proofs.Counts.{hit-same}
 use Rattle.workspace.specs.Frames.{work-numbers}
 use Rattle.gaussian.specs.Elimination as gaussian
-use Rattle.cholesky.specs.Forms.{Form, form, noPivot, noNumber}
+use Rattle.cholesky.specs.Forms.{Form, form, pivot, notFinite}
 use Rattle.gaussian.specs.Marginals.{momentsOf}
-use Rattle.messages.specs.Values.{values, Stop, none, stopped, stopFrom, finished, overlaid}
+use Rattle.messages.specs.Values.{values, FirstRefusal, none, refusedAt, refusalFrom, finishedNumbers, overlaid}
 use Rattle.solver.specs.Plan.{graphPlan}
-use Rattle.marginals.specs.Marginals.{marginalNumbers, twice, Found, found, missing, foundBy, foundIn, marginal, marginalsFrom, missingFrom, marginalsIn}
-use Rattle.solver.specs.Run.{figureOf, Verdict, refuse, third, second, first, carried, checked, run}
+use Rattle.marginals.specs.Marginals.{marginalNumbers, twice, Found, found, refused, foundBy, foundIn, marginal, marginalsFrom, missingFrom, marginalsIn}
+use Rattle.solver.specs.Run.{figureOf, RunVerdict, refuse, third, second, first, carried, checked, run}
 use Rattle.solver.specs.Stages.{Runnable}
 use Rattle.solver.specs.declared.run.Ended.{Ended}
 use Rattle.solver.specs.declared.run.Ended.the-variants.{Done, Refused}
@@ -43,7 +43,7 @@ not-twice (i ∷ l) h =
     rw z (not-twice l (λ j. omega (arith, h j)))
 
 -- so the marginals are what the last eliminations come to
-solved-from : (g : Graph) (factors : List Float) (p : lists.Plan) (k : ℕ) (qs : List Gathered)
+solved-from : (g : Graph) (factors : List Float) (p : schedule.Plan) (k : ℕ) (qs : List Gathered)
     → ((i : ℕ) → i < length qs → (d : Gathered) → twice (getD qs i d .leaves) ≡ false)
     → marginalsFrom g factors p (values g factors (p .forward)) (values g factors (p .backward)) k qs ≡ solvedFrom g factors p k qs
 unfolding marginalsFrom solvedFrom marginal solvedAt
@@ -55,7 +55,7 @@ solved-from g factors p k (q ∷ qs) h = rw (h 0 (omega arith) q, solved-from g 
 -- the number of a refusal
 told : Ended → ℕ
 told Done = 0
-told (Refused why stage key) = numberOf why
+told (Refused why stage key) = refusalNumber why
 
 isDone : Ended → Bool
 isDone Done = true
@@ -63,40 +63,40 @@ isDone (Refused why stage key) = false
 
 -- not the double count
 abbrev Other : Refusal → Type 0
-Other why = numberOf why ≡ 18 → ⊥
+Other why = refusalNumber why ≡ 18 → ⊥
 
-OtherStop : Stop → Type 0
+OtherStop : FirstRefusal → Type 0
 OtherStop none = Unit {0}
-OtherStop (stopped i why) = Other why
+OtherStop (refusedAt i why) = Other why
 
 OtherFound : Found → Type 0
 OtherFound (found mean covariance) = Unit {0}
-OtherFound (missing why) = Other why
+OtherFound (refused why) = Other why
 
-stop-other : (i : ℕ) (vs : List gaussian.Outcome) → OtherStop (stopFrom i vs)
-unfolding stopFrom OtherStop
+stop-other : (i : ℕ) (vs : List gaussian.Outcome) → OtherStop (refusalFrom i vs)
+unfolding refusalFrom OtherStop
 stop-other i [] = tt
 stop-other i (gaussian.pivot ∷ vs) = λ e. omega arith
-stop-other i (gaussian.unbounded ∷ vs) = λ e. omega arith
+stop-other i (gaussian.notFinite ∷ vs) = λ e. omega arith
 stop-other i (gaussian.message r a xi w ∷ vs) = stop-other (i + 1) vs
 
 by-other : (m : Form) → OtherFound (foundBy m)
 unfolding foundBy OtherFound
 by-other (form mean covariance) = tt
-by-other noPivot = λ e. omega arith
-by-other noNumber = λ e. omega arith
+by-other pivot = λ e. omega arith
+by-other notFinite = λ e. omega arith
 
 in-other : (s : ℕ) (o : gaussian.Outcome) → OtherFound (foundIn s o)
 unfolding foundIn OtherFound
 in-other s gaussian.pivot = λ e. omega arith
-in-other s gaussian.unbounded = λ e. omega arith
+in-other s gaussian.notFinite = λ e. omega arith
 in-other s (gaussian.message r a xi w) = by-other (momentsOf r s a xi w)
 
-at-other : (g : Graph) (factors : List Float) (p : lists.Plan) (k : ℕ) (q : Gathered) → OtherFound (solvedAt g factors p k q)
+at-other : (g : Graph) (factors : List Float) (p : schedule.Plan) (k : ℕ) (q : Gathered) → OtherFound (solvedAt g factors p k q)
 unfolding solvedAt
 at-other g factors p k q = in-other (sizeAt g k) _
 
-from-other : (g : Graph) (factors : List Float) (p : lists.Plan) (k i : ℕ) (qs : List Gathered) → OtherStop (missingFrom i (solvedFrom g factors p k qs))
+from-other : (g : Graph) (factors : List Float) (p : schedule.Plan) (k i : ℕ) (qs : List Gathered) → OtherStop (missingFrom i (solvedFrom g factors p k qs))
 unfolding missingFrom solvedFrom OtherStop OtherFound
 from-other g factors p k i [] = tt
 from-other g factors p k i (q ∷ qs) = go (solvedAt g factors p k q) (at-other g factors p k q) (from-other g factors p (k + 1) (i + 1) qs)
@@ -104,26 +104,26 @@ from-other g factors p k i (q ∷ qs) = go (solvedAt g factors p k q) (at-other 
     go : (f : Found) → OtherFound f → OtherStop (missingFrom (i + 1) (solvedFrom g factors p (k + 1) qs))
         → OtherStop (missingFrom i (f ∷ solvedFrom g factors p (k + 1) qs))
     go (found mean covariance) o r = r
-    go (missing why) o r = o
+    go (refused why) o r = o
 
 -- ---- the stages
 
 -- what is claimed of the answer and the stores of a run
-pub record Carries (g : Graph) (p : lists.Plan) (factors messages marginals : List Float) (v : Verdict) : Type 0 where
+pub record Carries (g : Graph) (p : schedule.Plan) (factors messages marginals : List Float) (v : RunVerdict) : Type 0 where
   pub never-twice : (stage key : ℕ) → v .answer .ended ≢ Refused CountedTwice stage key
   pub exact : v .answer .ended ≡ Done → Exact g p factors messages marginals v
   pub bare : p .at-key ≡ [] → v .marginals ≡ marginals
 
 -- no key's gathering lists a leaf twice
-abbrev Single : lists.Plan → Type 0
+abbrev Single : schedule.Plan → Type 0
 Single p = (i : ℕ) → i < length (p .at-key) → (d : Gathered) → twice (getD (p .at-key) i d .leaves) ≡ false
 
 -- what a run relies on in a plan says so
-single : (g : Graph) (p : lists.Plan) → Runnable g p → Single p
+single : (g : Graph) (p : schedule.Plan) → Runnable g p → Single p
 single g p run i l d = not-twice (getD (p .at-key) i d .leaves) (run .single i (omega (arith, run .for-each)) d)
 
-module _ (g : Graph) (p : lists.Plan) (factors messages marginals : List Float) (once : Single p) where
-  abbrev Right : Verdict → Type 0
+module _ (g : Graph) (p : schedule.Plan) (factors messages marginals : List Float) (once : Single p) where
+  abbrev Right : RunVerdict → Type 0
   Right = Carries g p factors messages marginals
 
   abbrev fw : List gaussian.Outcome
@@ -141,18 +141,19 @@ module _ (g : Graph) (p : lists.Plan) (factors messages marginals : List Float) 
   same : keys ≡ solved
   same = solved-from g factors p 0 (p .at-key) once
 
-  refused : (figure : ℕ) (why : Refusal) (stage key : ℕ) (l : List Float) → Other why → Right (refuse figure why stage key l marginals)
+  refused-run : (figure : ℕ) (why : Refusal) (stage key : ℕ) (l : List Float) → Other why → Right (refuse figure why stage key l marginals)
   unfolding told isDone
-  refused figure why stage key l o = record { never-twice = λ s k e. o (ap told e); exact = λ e. absurd (false≢true (ap isDone e)); bare = λ e. refl }
+  refused-run figure why stage key l o = record { never-twice = λ s k e. o (ap told e); exact = λ e. absurd (false≢true (ap isDone e)); bare = λ e. refl }
 
   no-marginals : p .at-key ≡ [] → overlaid marginals (marginalsIn keys) ≡ marginals
   unfolding marginalsFrom marginalsIn
   no-marginals e = ap (λ (qs : List Gathered). overlaid marginals (marginalsIn (marginalsFrom g factors p fw bw 0 qs))) e
 
   abbrev laid : List Float
-  laid = overlaid messages (finished fw ++ finished bw)
+  laid = overlaid messages (finishedNumbers fw ++ finishedNumbers bw)
 
-  third-carries : (figure : ℕ) (s : Stop) → stopFrom 0 fw ≡ none → stopFrom 0 bw ≡ none → missingFrom 0 keys ≡ s → Right (third figure laid marginals keys s)
+  third-carries : (figure : ℕ) (s : FirstRefusal) → refusalFrom 0 fw ≡ none → refusalFrom 0 bw ≡ none → missingFrom 0 keys ≡ s
+      → Right (third figure laid marginals keys s)
   unfolding third isDone OtherStop
   third-carries figure none ef eb ek =
       record {
@@ -167,45 +168,45 @@ module _ (g : Graph) (p : lists.Plan) (factors messages marginals : List Float) 
             };
         bare = no-marginals;
       }
-  third-carries figure (stopped k why) ef eb ek = refused figure why 3 k laid
+  third-carries figure (refusedAt k why) ef eb ek = refused-run figure why 3 k laid
       (subst OtherStop (ap (missingFrom 0) (sym same) ∙ ek) (from-other g factors p 0 0 (p .at-key)))
 
-  second-carries : (figure : ℕ) (s : Stop) (next : Verdict) → stopFrom 0 bw ≡ s → (stopFrom 0 bw ≡ none → Right next)
+  second-carries : (figure : ℕ) (s : FirstRefusal) (next : RunVerdict) → refusalFrom 0 bw ≡ s → (refusalFrom 0 bw ≡ none → Right next)
       → Right (second figure (g .variables) (p .backward) laid marginals s next)
   unfolding second OtherStop
   second-carries figure none next e c = c e
-  second-carries figure (stopped j why) next e c = refused figure why 2 _ laid (subst OtherStop e (stop-other 0 bw))
+  second-carries figure (refusedAt j why) next e c = refused-run figure why 2 _ laid (subst OtherStop e (stop-other 0 bw))
 
-  first-carries : (figure : ℕ) (s : Stop) (next : Verdict) → stopFrom 0 fw ≡ s → (stopFrom 0 fw ≡ none → Right next)
-      → Right (first figure (p .forward) (overlaid messages (finished fw)) marginals s next)
+  first-carries : (figure : ℕ) (s : FirstRefusal) (next : RunVerdict) → refusalFrom 0 fw ≡ s → (refusalFrom 0 fw ≡ none → Right next)
+      → Right (first figure (p .forward) (overlaid messages (finishedNumbers fw)) marginals s next)
   unfolding first OtherStop
   first-carries figure none next e c = c e
-  first-carries figure (stopped j why) next e c = refused figure why 1 _ (overlaid messages (finished fw)) (subst OtherStop e (stop-other 0 fw))
+  first-carries figure (refusedAt j why) next e c = refused-run figure why 1 _ (overlaid messages (finishedNumbers fw)) (subst OtherStop e (stop-other 0 fw))
 
   carried-carries : (figure : ℕ) → Right (carried g p figure factors messages marginals)
   unfolding carried
   carried-carries figure =
-      first-carries figure (stopFrom 0 fw) _ refl
-      (λ ef. second-carries figure (stopFrom 0 bw) _ refl
+      first-carries figure (refusalFrom 0 fw) _ refl
+      (λ ef. second-carries figure (refusalFrom 0 bw) _ refl
       (λ eb. third-carries figure (missingFrom 0 keys) ef eb refl))
 
-  either : (b : Bool) (x y : Verdict) → Right x → Right y → Right (cond (not b) x y)
+  either : (b : Bool) (x y : RunVerdict) → Right x → Right y → Right (cond (not b) x y)
   either true x y c d = d
   either false x y c d = c
 
   checked-carries : (figure work : ℕ) → Right (checked g p figure factors messages work marginals)
   unfolding checked
   checked-carries figure work =
-      either (leb (offset g (g .count)) (length factors)) _ _ (refused figure FactorStoreShort 1 0 messages (λ e. omega arith))
+      either (leb (offset g (g .count)) (length factors)) _ _ (refused-run figure FactorStoreShort 1 0 messages (λ e. omega arith))
       (either (every (leb figure (length messages) ∷ leb work-numbers work ∷ leb (marginalNumbers g) (length marginals) ∷ [])) _ _
-      (refused figure StoreShort 1 0 messages (λ e. omega arith))
+      (refused-run figure StoreShort 1 0 messages (λ e. omega arith))
       (carried-carries figure))
 
 pub run-carries : (g : Graph) → Runnable g (graphPlan g) → (factors messages : List Float) (work : ℕ) (marginals : List Float)
     → Carries g (graphPlan g) factors messages marginals (run g factors messages work marginals)
 unfolding run
 run-carries g run factors messages work marginals =
-    let p : lists.Plan = graphPlan g in
+    let p : schedule.Plan = graphPlan g in
     let once : Single p = single g p run in
     either g p factors messages marginals once (valid g) _ _ (refused g p factors messages marginals once 0 NoSuchGraph 1 0 messages (λ e. omega arith))
     (checked-carries g p factors messages marginals once (figureOf g p) work)

@@ -6,14 +6,14 @@ use mathlib.Core.List.{List, [], _∷_, List·Memᴰ, List·Memᴰ·head, List·
 use Prim.Native.Nat.{ℕ, _+_, _<_}
 use native.Mathlib.Omega.{arith}
 use lib.ListN.{length, getD}
-use Rattle.graph.specs.Record.{fresh, valid, keysOf}
+use Rattle.graph.specs.Record.{fresh, valid, factorKeys}
 use Rattle.graph.specs.Reached.{Call, yields}
 use Rattle.graph.specs.declared.Graph.{Graph}
 use Rattle.graph.proofs.Keeping.{good-of}
 use Rattle.schedule.specs.Count.{hit, count, In, from}
 use Rattle.schedule.specs.Gather.{Gathered}
 use Rattle.schedule.specs.Once.{Once}
-use Rattle.schedule.specs.Plan as lists
+use Rattle.schedule.specs.Plan as schedule
 use Rattle.schedule.proofs.Counts.{hit-same, hit-other, count-cons}
 use Rattle.schedule.proofs.Runs.{from-lt}
 use Rattle.schedule.proofs.Sums.{length-from}
@@ -21,31 +21,31 @@ use Rattle.schedule.proofs.Demand3.{from-once}
 use Rattle.solver.specs.Plan.{graphPlan, Answer, planned}
 use Rattle.solver.specs.Run.{run}
 use Rattle.solver.specs.Stages.{Runnable}
-use Rattle.solver.specs.declared.Outcome.the-variants.{Made}
+use Rattle.solver.specs.declared.Outcome.the-variants.{Done}
 use Rattle.solver.proofs.GraphOnce.{once}
 use Rattle.solver.proofs.Carriable.{graph-runnable}
-use Rattle.claims.specs.Demand3.{Accepted, registered, accepted, numbers, clearedBehind, Rests, Exact, Whole}
+use Rattle.claims.specs.Demand3.{Accepted, keysAnswered, accepted, numbersAnswered, clearedBehind, Rests, Exact, Whole}
 use Rattle.claims.proofs.Calls.{reached, keys-are, numbers-are, given-are}
 use Rattle.claims.proofs.Carrying.{run-carries}
 
 -- ---- the plan
 
-planned-is : (g : Graph) → valid g ≡ true → planned g ≡ record { outcome = Made; keys = g .variables; plan = graphPlan g }
+planned-is : (g : Graph) → valid g ≡ true → planned g ≡ record { outcome = Done; keys = g .variables; plan = graphPlan g }
 unfolding planned
 planned-is g v = rw v
 
 -- ---- a key
 
 -- the number of an accepted factor is among the numbers
-among : (fs : List Accepted) (f : Accepted) → List·Memᴰ f fs → In (f .number) (numbers fs)
+among : (fs : List Accepted) (f : Accepted) → List·Memᴰ f fs → In (f .number) (numbersAnswered fs)
 unfolding count
-among fs f (List·Memᴰ·head {x = a} {xs = rest} e) = omega (arith, hit-same (f .number), ap (λ (x : Accepted). count (f .number) (numbers (x ∷ rest))) e)
+among fs f (List·Memᴰ·head {x = a} {xs = rest} e) = omega (arith, hit-same (f .number), ap (λ (x : Accepted). count (f .number) (numbersAnswered (x ∷ rest))) e)
 among fs f (List·Memᴰ·tail {x = a} {xs = rest} m) = omega (arith, among rest f m)
 
 -- the claim over keys and numbers is the claim over what the calls answered
-rests : (g : Graph) (ks : List ℕ) (fs : List Accepted) → ks ≡ from 0 (g .variables) → numbers fs ≡ from 0 (g .count)
-    → ((f : Accepted) → List·Memᴰ f fs → f .keys ≡ keysOf g (f .number))
-    → (p : lists.Plan) (k : ℕ) (q : Gathered) → k < g .variables → Once (g .variables) (keysOf g) (from 0 (g .count)) k (p .forward) (p .backward) q
+rests : (g : Graph) (ks : List ℕ) (fs : List Accepted) → ks ≡ from 0 (g .variables) → numbersAnswered fs ≡ from 0 (g .count)
+    → ((f : Accepted) → List·Memᴰ f fs → f .keys ≡ factorKeys g (f .number))
+    → (p : schedule.Plan) (k : ℕ) (q : Gathered) → k < g .variables → Once (g .variables) (factorKeys g) (from 0 (g .count)) k (p .forward) (p .backward) q
     → Rests ks fs p k q
 rests g ks fs ek en eg p k q l o =
     record {
@@ -65,7 +65,7 @@ rests g ks fs ek en eg p k q l o =
     numbered : (f : Accepted) → List·Memᴰ f fs → In (f .number) (from 0 (g .count))
     numbered f m = subst (λ (l : List ℕ). In (f .number) l) en (among fs f m)
 
-    touched : (f : Accepted) → List·Memᴰ f fs → (j : ℕ) → In j (f .keys) → In j (keysOf g (f .number))
+    touched : (f : Accepted) → List·Memᴰ f fs → (j : ℕ) → In j (f .keys) → In j (factorKeys g (f .number))
     touched f m j h = subst (λ (l : List ℕ). In j l) (eg f m) h
 
     split : (j : ℕ) → hit j k + count j (clearedBehind p q) ≡ count j (from 0 (g .variables))
@@ -81,13 +81,13 @@ module _ (cs : List Call) where
   sound = good-of g (reached cs) .1
 
   -- with what `plan` answers in place of the plan
-  by-answer : (P : Answer → Type 0) → P (record { outcome = Made; keys = g .variables; plan = graphPlan g }) → P (planned g)
+  by-answer : (P : Answer → Type 0) → P (record { outcome = Done; keys = g .variables; plan = graphPlan g }) → P (planned g)
   by-answer P h = subst P (sym (planned-is g sound)) h
 
   can-run : Runnable g (graphPlan g)
   can-run = graph-runnable g sound
 
-  empty : registered fresh cs ≡ [] → graphPlan g .at-key ≡ []
+  empty : keysAnswered fresh cs ≡ [] → graphPlan g .at-key ≡ []
   empty e = go (graphPlan g .at-key) (can-run .for-each ∙ sym (length-from 0 (g .variables)) ∙ ap length (sym (keys-are cs) ∙ e))
     where
       go : (qs : List Gathered) → length qs ≡ 0 → qs ≡ []
@@ -99,13 +99,13 @@ module _ (cs : List Call) where
       record {
         keys-apart = λ k. omega (arith, ap (count k) (keys-are cs), from-once (g .variables) k);
         numbers-apart = λ i. omega (arith, ap (count i) (numbers-are cs), from-once (g .count) i);
-        made = by-answer (λ (a : Answer). a .outcome ≡ Made) refl;
-        for-each = by-answer (λ (a : Answer). length (a .plan .at-key) ≡ length (registered fresh cs))
+        made = by-answer (λ (a : Answer). a .outcome ≡ Done) refl;
+        for-each = by-answer (λ (a : Answer). length (a .plan .at-key) ≡ length (keysAnswered fresh cs))
             (can-run .for-each ∙ sym (length-from 0 (g .variables)) ∙ ap length (sym (keys-are cs)));
         rests =
             λ k h d. let l : k < g .variables = from-lt k (g .variables) (subst (λ (l : List ℕ). In k l) (keys-are cs) h) in
-            by-answer (λ (a : Answer). Rests (registered fresh cs) (accepted fresh cs) (a .plan) k (getD (a .plan .at-key) k d))
-            (rests g (registered fresh cs) (accepted fresh cs) (keys-are cs) (numbers-are cs) (given-are cs) (graphPlan g) k
+            by-answer (λ (a : Answer). Rests (keysAnswered fresh cs) (accepted fresh cs) (a .plan) k (getD (a .plan .at-key) k d))
+            (rests g (keysAnswered fresh cs) (accepted fresh cs) (keys-are cs) (numbers-are cs) (given-are cs) (graphPlan g) k
             (getD (graphPlan g .at-key) k d) l (once g sound k l d));
         never-twice = λ factors messages work marginals. run-carries g can-run factors messages work marginals .never-twice;
         exact =

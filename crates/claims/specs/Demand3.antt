@@ -7,7 +7,7 @@ use Prim.Native.Nat.{ℕ, _+_, _≤_}
 use lib.ListN.{length, getD}
 use lib.Ieee.{Float}
 use Rattle.graph.specs.Record.{sizeAt, fresh}
-use Rattle.graph.specs.Reached.{Call, answered, given, after, yields}
+use Rattle.graph.specs.Reached.{Call, answered, keysGiven, graphAfter, yields}
 use Rattle.graph.specs.declared.Graph.{Graph}
 use Rattle.graph.specs.declared.Outcome.{Outcome}
 use Rattle.graph.specs.declared.Outcome.the-variants.{Key, Number, Refused}
@@ -16,12 +16,12 @@ use Rattle.schedule.specs.Count.{count, In, joined}
 use Rattle.schedule.specs.Pass.{ClosedFactor, at}
 use Rattle.schedule.specs.Gather.{Gathered, leaves}
 use Rattle.schedule.specs.Once.{behind, AllUnder, clearedBy}
-use Rattle.schedule.specs.Plan as lists
+use Rattle.schedule.specs.Plan as schedule
 use Rattle.gaussian.specs.Elimination as gaussian
-use Rattle.messages.specs.Values.{none, values, stopFrom, finished, overlaid}
+use Rattle.messages.specs.Values.{none, values, refusalFrom, finishedNumbers, overlaid}
 use Rattle.solver.specs.Plan.{planned}
 use Rattle.marginals.specs.Marginals.{Found, foundIn, gatheredViews, missingFrom, marginalsIn}
-use Rattle.solver.specs.Run.{Verdict, run}
+use Rattle.solver.specs.Run.{RunVerdict, run}
 use Rattle.solver.specs.declared.Outcome.the-variants as plans
 use Rattle.solver.specs.declared.run.Ended.the-variants as ended
 
@@ -45,22 +45,22 @@ factorIn (Number f) keys = record { number = f; keys = keys } ∷ []
 factorIn (Refused why) keys = []
 
 -- the registered keys: those that the calls answered, the first call being handed g and each other one what the call before it returned
-unfoldable pub registered : Graph → List Call → List ℕ
-registered g [] = []
-registered g (c ∷ cs) = keyIn (answered g c .outcome) ++ registered (after g c) cs
+unfoldable pub keysAnswered : Graph → List Call → List ℕ
+keysAnswered g [] = []
+keysAnswered g (c ∷ cs) = keyIn (answered g c .outcome) ++ keysAnswered (graphAfter g c) cs
 
 -- the accepted factors, likewise
 unfoldable pub accepted : Graph → List Call → List Accepted
 accepted g [] = []
-accepted g (c ∷ cs) = factorIn (answered g c .outcome) (given c) ++ accepted (after g c) cs
+accepted g (c ∷ cs) = factorIn (answered g c .outcome) (keysGiven c) ++ accepted (graphAfter g c) cs
 
-abbrev pub numbers : List Accepted → List ℕ
-numbers = map (λ (f : Accepted). f .number)
+abbrev pub numbersAnswered : List Accepted → List ℕ
+numbersAnswered = map (λ (f : Accepted). f .number)
 
 -- ---- what is claimed of the plan at a key
 
 -- the keys that the eliminations behind a key clear: those of its gathered messages and of all messages under them, in both passes, and the last one
-abbrev pub clearedBehind : lists.Plan → Gathered → List ℕ
+abbrev pub clearedBehind : schedule.Plan → Gathered → List ℕ
 clearedBehind p q = clearedBy (p .forward) (behind (p .forward) (q .forward)) ++ clearedBy (p .backward) (behind (p .backward) (q .backward)) ++ q .last
 
 -- every accepted factor that touches a key which one of these messages clears is a leaf under that message
@@ -69,14 +69,14 @@ Covered factors messages is =
     (i : ℕ) → In i is → (f : Accepted) → List·Memᴰ f factors → (j : ℕ) → In j (f .keys) → In j (at messages i .cleared) → In (f .number) (leaves messages i)
 
 -- the claim at the key k, where the plan p has gathered q
-pub record Rests (keys : List ℕ) (factors : List Accepted) (p : lists.Plan) (k : ℕ) (q : Gathered) : Type 0 where
+pub record Rests (keys : List ℕ) (factors : List Accepted) (p : schedule.Plan) (k : ℕ) (q : Gathered) : Type 0 where
   -- the leaves are those of all that k gathers, in that order; `under` has found every message behind k
   pub leaves-of : q .leaves ≡ joined (leaves (p .forward)) (q .forward) ++ joined (leaves (p .backward)) (q .backward) ++ q .originals
   pub forward-under : AllUnder (p .forward) (behind (p .forward) (q .forward))
   pub backward-under : AllUnder (p .backward) (behind (p .backward) (q .backward))
   -- the leaves list every accepted factor exactly once, and nothing else
   pub listed : (f : Accepted) → List·Memᴰ f factors → count (f .number) (q .leaves) ≡ 1
-  pub no-other-leaf : (i : ℕ) → In i (q .leaves) → In i (numbers factors)
+  pub no-other-leaf : (i : ℕ) → In i (q .leaves) → In i (numbersAnswered factors)
   -- in the eliminations behind k every other registered key is cleared exactly once, k never, and nothing that is not registered
   pub others-once : (j : ℕ) → In j keys → j ≢ k → count j (clearedBehind p q) ≡ 1
   pub itself-never : count k (clearedBehind p q) ≡ 0
@@ -89,22 +89,22 @@ pub record Rests (keys : List ℕ) (factors : List Accepted) (p : lists.Plan) (k
 -- ---- what is claimed of a run
 
 -- what the last elimination of the key k comes to, which keeps k alone and clears the plan's other keys from what k gathered
-unfoldable pub solvedAt : (g : Graph) (factors : List Float) (p : lists.Plan) (k : ℕ) (q : Gathered) → Found
+unfoldable pub solvedAt : (g : Graph) (factors : List Float) (p : schedule.Plan) (k : ℕ) (q : Gathered) → Found
 solvedAt g factors p k q =
     foundIn (sizeAt g k)
     (gaussian.eliminate (gatheredViews g factors p (values g factors (p .forward)) (values g factors (p .backward)) q) (k ∷ []) (q .last) (g .sizes))
 
 -- of all keys from k on
-unfoldable pub solvedFrom : (g : Graph) (factors : List Float) (p : lists.Plan) (k : ℕ) (qs : List Gathered) → List Found
+unfoldable pub solvedFrom : (g : Graph) (factors : List Float) (p : schedule.Plan) (k : ℕ) (qs : List Gathered) → List Found
 solvedFrom g factors p k [] = []
 solvedFrom g factors p k (q ∷ qs) = solvedAt g factors p k q ∷ solvedFrom g factors p (k + 1) qs
 
 -- The stores after an unrefused run: no elimination of the plan is refused, and what stands in the stores is what they come to from the factor store. Past
 -- that the stores are as they were.
-pub record Exact (g : Graph) (p : lists.Plan) (factors messages marginals : List Float) (v : Verdict) : Type 0 where
-  pub forward-made : stopFrom 0 (values g factors (p .forward)) ≡ none
-  pub backward-made : stopFrom 0 (values g factors (p .backward)) ≡ none
-  pub messages-are : v .messages ≡ overlaid messages (finished (values g factors (p .forward)) ++ finished (values g factors (p .backward)))
+pub record Exact (g : Graph) (p : schedule.Plan) (factors messages marginals : List Float) (v : RunVerdict) : Type 0 where
+  pub forward-made : refusalFrom 0 (values g factors (p .forward)) ≡ none
+  pub backward-made : refusalFrom 0 (values g factors (p .backward)) ≡ none
+  pub messages-are : v .messages ≡ overlaid messages (finishedNumbers (values g factors (p .forward)) ++ finishedNumbers (values g factors (p .backward)))
   pub all-found : missingFrom 0 (solvedFrom g factors p 0 (p .at-key)) ≡ none
   pub marginals-are : v .marginals ≡ overlaid marginals (marginalsIn (solvedFrom g factors p 0 (p .at-key)))
 
@@ -114,25 +114,25 @@ pub record Exact (g : Graph) (p : lists.Plan) (factors messages marginals : List
 abbrev pub graphOf : List Call → Graph
 graphOf cs = yields fresh cs
 
-abbrev pub planOf : List Call → lists.Plan
-planOf cs = planned (graphOf cs) .plan
+abbrev pub planAfter : List Call → schedule.Plan
+planAfter cs = planned (graphOf cs) .plan
 
 pub record Whole (cs : List Call) : Type 0 where
   -- the calls answered no key twice, and no number twice
-  pub keys-apart : (k : ℕ) → count k (registered fresh cs) ≤ 1
-  pub numbers-apart : (i : ℕ) → count i (numbers (accepted fresh cs)) ≤ 1
+  pub keys-apart : (k : ℕ) → count k (keysAnswered fresh cs) ≤ 1
+  pub numbers-apart : (i : ℕ) → count i (numbersAnswered (accepted fresh cs)) ≤ 1
   -- the plan is made, and has one gathering for each registered key
-  pub made : planned (graphOf cs) .outcome ≡ plans.Made
-  pub for-each : length (planOf cs .at-key) ≡ length (registered fresh cs)
+  pub made : planned (graphOf cs) .outcome ≡ plans.Done
+  pub for-each : length (planAfter cs .at-key) ≡ length (keysAnswered fresh cs)
   -- behind each registered key stands the whole graph, once
-  pub rests : (k : ℕ) → In k (registered fresh cs) → (d : Gathered)
-      → Rests (registered fresh cs) (accepted fresh cs) (planOf cs) k (getD (planOf cs .at-key) k d)
+  pub rests : (k : ℕ) → In k (keysAnswered fresh cs) → (d : Gathered)
+      → Rests (keysAnswered fresh cs) (accepted fresh cs) (planAfter cs) k (getD (planAfter cs .at-key) k d)
   -- no run gives the double-count refusal, whatever stores it is lent
   pub never-twice : (factors messages : List Float) (work : ℕ) (marginals : List Float) (stage key : ℕ)
       → run (graphOf cs) factors messages work marginals .answer .ended ≢ ended.Refused CountedTwice stage key
   -- an unrefused run's messages, means and covariances are those that the plan's eliminations give from its factor store
   pub exact : (factors messages : List Float) (work : ℕ) (marginals : List Float) → run (graphOf cs) factors messages work marginals .answer .ended ≡ ended.Done
-      → Exact (graphOf cs) (planOf cs) factors messages marginals (run (graphOf cs) factors messages work marginals)
+      → Exact (graphOf cs) (planAfter cs) factors messages marginals (run (graphOf cs) factors messages work marginals)
   -- where no key is registered no run gives a marginal: the marginal store is as it was
-  pub none-without-keys : registered fresh cs ≡ [] → (factors messages : List Float) (work : ℕ) (marginals : List Float)
+  pub none-without-keys : keysAnswered fresh cs ≡ [] → (factors messages : List Float) (work : ℕ) (marginals : List Float)
       → run (graphOf cs) factors messages work marginals .marginals ≡ marginals

@@ -16,8 +16,8 @@ use Rattle.graph.specs.declared.Graph.{Graph}
 use Rattle.graph.proofs.Validity.{valid-count}
 use Rattle.slots.specs.Limits.{max-slots, head-numbers}
 use Rattle.slots.specs.Layouts.{member, dimOf, layoutOf, Listed}
-use Rattle.slots.specs.Views.{rowsOf, rowsOfAll, numbersOf}
-use Rattle.slots.specs.Tables.{headOf, storeOf, readView, rowsByAll}
+use Rattle.slots.specs.Views.{rowsOf, rowsOfAll, factorNumbers}
+use Rattle.slots.specs.Tables.{headOf, slotStore, readView, rowsByAll}
 use Rattle.slots.specs.Fitting.{Counted}
 use Rattle.slots.specs.declared.layout.Layout.{Layout}
 use Rattle.slots.specs.declared.Head.{Head}
@@ -29,7 +29,7 @@ use Rattle.gaussian.proofs.Listing.{getD-map}
 use Rattle.tables.specs.Originals.{originalView}
 use Rattle.tables.proofs.OriginalsRead.{original-view, original-fits}
 use Rattle.tables.proofs.Dimensions.{Below, Once, total-within, cleared-listed, kept-listed, known-below, rising-once}
-use Rattle.direct.specs.Direct.{countsFit, disjoint, listsFit, allKnown, factorPlaced, allPlaced, views, need}
+use Rattle.direct.specs.Direct.{listCountsFit, disjoint, listsFit, allKnown, factorPlaced, allPlaced, views, directNeed}
 use Rattle.direct.specs.Between.{Admitted}
 use Rattle.tables.specs.Heads.{Originals}
 
@@ -78,7 +78,7 @@ module _ (g : Graph) (slots kept cleared : List ℕ) (factors : List Float) (ok 
       (all-at (λ n. factorPlaced kept cleared (factorAt g (getD slots n 0))) (length slots) i (ok .placed) l) m
 
   few : length slots ≤ max-slots
-  unfolding countsFit
+  unfolding listCountsFit
   few = leb-true _ _ (every-at _ 0 (ok .few))
 
   -- ---- the tables
@@ -113,17 +113,17 @@ module _ (g : Graph) (slots kept cleared : List ℕ) (factors : List Float) (ok 
         ∙ ap (rowsOf m) (original-view g (ok .reached) keys heads o number (slot-below n (omega arith)) factors []
         ∙ sym (getD-map (originalView g factors) slots n _ (omega arith))))
 
-    pub need-is : numbersOf (messageRows (rowsByAll m keys heads slots (length slots)) (dimOf (g .sizes) kept)) (dimOf (g .sizes) kept)
-        ≡ need g kept cleared (views g slots factors)
-    unfolding need views
+    pub need-is : factorNumbers (messageRows (rowsByAll m keys heads slots (length slots)) (dimOf (g .sizes) kept)) (dimOf (g .sizes) kept)
+        ≡ directNeed g kept cleared (views g slots factors)
+    unfolding directNeed views
     need-is =
         let d : ℕ = dimOf (g .sizes) kept in
         let e : rowsByAll m keys heads slots (length slots) ≡ rowsOfAll m (nth (views g slots factors)) (length (views g slots factors)) =
         rows-to (length slots) (omega arith) ∙ ap (rowsOfAll m (nth (views g slots factors))) (sym (length-map slots (originalView g factors))) in
-        ap (λ (y : ℕ). numbersOf (messageRows y d) d) e
+        ap (λ (y : ℕ). factorNumbers (messageRows y d) d) e
 
     -- what the elimination asks for
-    pub asked : (messages : List Float) (work n : ℕ) → n ≡ numbersOf
+    pub asked : (messages : List Float) (work n : ℕ) → n ≡ factorNumbers
         (messageRows (rowsByAll m keys heads slots (length slots)) (dimOf (g .sizes) kept)) (dimOf (g .sizes) kept) → n ≤ length messages → work-numbers ≤ work
         → Asked kept cleared (g .sizes) factors messages work keys heads slots × Roomy kept cleared (g .sizes) keys heads slots 0 (length messages)
     asked messages work n en room enough = (
@@ -134,7 +134,7 @@ module _ (g : Graph) (slots kept cleared : List ℕ) (factors : List Float) (ok 
         few = few;
         headed = headed;
         fits = λ i l.
-            rw (ap (λ (h : Head). length (storeOf (h .slot) factors messages)) (o .entered (getD slots i 0) (slot-below i l) .head)) (fits-at i l);
+            rw (ap (λ (h : Head). length (slotStore (h .slot) factors messages)) (o .entered (getD slots i 0) (slot-below i l) .head)) (fits-at i l);
         enough = enough;
       },
       omega arith,

@@ -13,7 +13,7 @@ use Rattle.slots.specs.Tables.{rowsByAll}
 use Rattle.slots.specs.declared.layout.Layout.{Layout}
 use Rattle.gaussian.specs.Elimination.{messageRows}
 use Rattle.gaussian.proofs.Lengths.{rows-few}
-use Rattle.slots.specs.Views.{numbersOf}
+use Rattle.slots.specs.Views.{factorNumbers}
 
 module _ (a b c : Bool) where
   pub first-fails : a ≡ false → false ≡ every (a ∷ b ∷ c ∷ [])
@@ -41,5 +41,5 @@ numbers-low r y d k er ed h =
 
 pub numbers-are : (m n : Layout) (keys heads slots : List ℕ) (y d k r : ℕ) → m ≡ n → d ≡ k → y ≡ rowsByAll m keys heads slots (length slots) → r
     ≡ messageRows y d
-    → r * d + r + r * r ≡ numbersOf (messageRows (rowsByAll n keys heads slots (length slots)) k) k
+    → r * d + r + r * r ≡ factorNumbers (messageRows (rowsByAll n keys heads slots (length slots)) k) k
 numbers-are m n keys heads slots y d k r em ed ey er = rw (er, ey, em, ed)

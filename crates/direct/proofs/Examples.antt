@@ -6,7 +6,7 @@ use mathlib.Core.List.{List, [], _∷_}
 use lib.IntN.{pos, negsuc}
 use lib.Ieee.{Float, fin}
 use Rattle.factor.specs.Factor.{priorOf, observationOf}
-use Rattle.graph.specs.Refusals.{numberOf}
+use Rattle.graph.specs.Refusals.{refusalNumber}
 use Rattle.graph.specs.Record.{fresh}
 use Rattle.graph.specs.Registration.{withVariable, withFactor}
 use Rattle.graph.specs.declared.Graph.{Graph}
@@ -14,8 +14,9 @@ use Rattle.graph.specs.declared.refusal.Refusal.the-variants.{NeitherKeptNorCle
 use Rattle.graph.proofs.Computing.{computedTest}
 use Rattle.gaussian.proofs.Computing.{computed}
 use Rattle.tables.specs.Originals.{originalView}
-use Rattle.direct.specs.Direct.{countsFit, disjoint, listsFit, allKnown, factorPlaced, allPlaced, views, need, Verdict, send, refuse, sent}
-use Rattle.direct.specs.Direct.{verdict, answerOf, storeOf}
+use Rattle.direct.specs.Direct.{listCountsFit, disjoint, listsFit, allKnown, factorPlaced, allPlaced, views, directNeed, DirectVerdict, send}
+use Rattle.direct.specs.Direct.{refuse, verdictOn}
+use Rattle.direct.specs.Direct.{directVerdict, directAnswer, directStore}
 use Rattle.direct.specs.declared.Direct.the-variants.{Rows, Refused}
 
 abbrev zer : Float
@@ -48,31 +49,31 @@ abbrev store : List Float
 store = zer ∷ one ∷ zer ∷ one ∷ zer ∷ one ∷ minus-one ∷ one ∷ four ∷ one ∷ []
 
 -- the verdict, opened for computing
-unfoldable judged : List ℕ → List ℕ → List ℕ → List Float → ℕ → ℕ → Verdict
-unfolding verdict countsFit disjoint listsFit allKnown factorPlaced allPlaced views need sent originalView computed computedTest
-judged slots kept cleared factors room work = verdict four-factors slots kept cleared factors room work
+unfoldable judged : List ℕ → List ℕ → List ℕ → List Float → ℕ → ℕ → DirectVerdict
+unfolding directVerdict listCountsFit disjoint listsFit allKnown factorPlaced allPlaced views directNeed verdictOn originalView computed computedTest
+judged slots kept cleared factors room work = directVerdict four-factors slots kept cleared factors room work
 
 p4 : judged (0 ∷ 3 ∷ 2 ∷ 1 ∷ []) (1 ∷ []) (0 ∷ []) store 3 2304 ≡ send 1 (one ∷ three ∷ three-quarters ∷ [])
 unfolding judged
 p4 = refl
 
 -- it stands at the start of the message store, and the rest is as it was
-p4-stored : storeOf (four ∷ four ∷ four ∷ minus-one ∷ []) (judged (0 ∷ 3 ∷ 2 ∷ 1 ∷ []) (1 ∷ []) (0 ∷ []) store 4 2304)
+p4-stored : directStore (four ∷ four ∷ four ∷ minus-one ∷ []) (judged (0 ∷ 3 ∷ 2 ∷ 1 ∷ []) (1 ∷ []) (0 ∷ []) store 4 2304)
     ≡ one ∷ three ∷ three-quarters ∷ minus-one ∷ []
-unfolding judged storeOf
+unfolding judged directStore
 p4-stored = refl
 
 -- no slots with nothing cleared: no rows are an answer, and refusal 0 is none
-no-slots : answerOf (judged [] [] [] store 0 2304) ≡ Rows 0
-unfolding judged answerOf
+no-slots : directAnswer (judged [] [] [] store 0 2304) ≡ Rows 0
+unfolding judged directAnswer
 no-slots = refl
 
 -- 0: key 0 of the observation is neither kept nor cleared
-not-listed : answerOf (judged (3 ∷ []) (1 ∷ []) [] store 3 2304) ≡ Refused NeitherKeptNorCleared
-unfolding judged answerOf
+not-listed : directAnswer (judged (3 ∷ []) (1 ∷ []) [] store 3 2304) ≡ Refused NeitherKeptNorCleared
+unfolding judged directAnswer
 not-listed = refl
 
-number-nought : numberOf NeitherKeptNorCleared ≡ 0
+number-nought : refusalNumber NeitherKeptNorCleared ≡ 0
 number-nought = refl
 
 -- 9: key 0 in both lists

@@ -17,8 +17,8 @@ use Rattle.graph.specs.declared.refusal.Refusal.the-variants.{StoreShort, Clear
 use Rattle.workspace.specs.Frames.{work-numbers}
 use Rattle.slots.specs.Limits.{max-slots}
 use Rattle.slots.specs.Layouts.{member, dimOf, layoutOf}
-use Rattle.slots.specs.Views.{FactorView, rowsOfAll, numbersOf}
-use Rattle.gaussian.specs.Elimination.{messageRows, Outcome, pivot, unbounded, message, nth, eliminate}
+use Rattle.slots.specs.Views.{FactorView, rowsOfAll, factorNumbers}
+use Rattle.gaussian.specs.Elimination.{messageRows, Outcome, pivot, notFinite, message, nth, eliminate}
 use Rattle.tables.specs.Originals.{originalView}
 use Rattle.direct.specs.declared.Direct.{Direct}
 use Rattle.direct.specs.declared.Direct.the-variants.{Rows, Refused}
@@ -26,8 +26,8 @@ use Rattle.direct.specs.declared.Direct.the-variants.{Rows, Refused}
 -- ---- the checks
 
 -- 4: at most 128 slots, and at most 32 keys a list
-unfoldable pub countsFit : (slots kept cleared : List ℕ) → Bool
-countsFit slots kept cleared = every (leb (length slots) max-slots ∷ leb (length kept) max-variables ∷ leb (length cleared) max-variables ∷ [])
+unfoldable pub listCountsFit : (slots kept cleared : List ℕ) → Bool
+listCountsFit slots kept cleared = every (leb (length slots) max-slots ∷ leb (length kept) max-variables ∷ leb (length cleared) max-variables ∷ [])
 
 -- 9: both lists strictly rising, and no key in both
 unfoldable pub disjoint : (kept cleared : List ℕ) → Bool
@@ -52,44 +52,44 @@ unfoldable pub views : (g : Graph) (slots : List ℕ) (factors : List Float) →
 views g slots factors = map (originalView g factors) slots
 
 -- 14: how many numbers the message has, by the rows of the views and the kept dimension
-unfoldable pub need : (g : Graph) (kept cleared : List ℕ) (vs : List FactorView) → ℕ
-need g kept cleared vs =
+unfoldable pub directNeed : (g : Graph) (kept cleared : List ℕ) (vs : List FactorView) → ℕ
+directNeed g kept cleared vs =
     let d = dimOf (g .sizes) kept in
-    numbersOf (messageRows (rowsOfAll (layoutOf kept cleared (g .sizes)) (nth vs) (length vs)) d) d
+    factorNumbers (messageRows (rowsOfAll (layoutOf kept cleared (g .sizes)) (nth vs) (length vs)) d) d
 
 -- ---- the verdict
 
 -- a message of so many rows, or a refusal
-pub data Verdict : Type 0 where
-  send : ℕ → List Float → Verdict
-  refuse : Refusal → Verdict
+pub data DirectVerdict : Type 0 where
+  send : ℕ → List Float → DirectVerdict
+  refuse : Refusal → DirectVerdict
 
 -- 15 and 17; a message stands as A, xi, W
-unfoldable pub sent : Outcome → Verdict
-sent pivot = refuse ClearedPivot
-sent unbounded = refuse ResultNotFinite
-sent (message r a xi w) = send r (a ++ (xi ++ w))
+unfoldable pub verdictOn : Outcome → DirectVerdict
+verdictOn pivot = refuse ClearedPivot
+verdictOn notFinite = refuse ResultNotFinite
+verdictOn (message r a xi w) = send r (a ++ (xi ++ w))
 
 -- the checks in their order, over the lists, the factor store, and the lengths of the message store and the work store
-unfoldable pub verdict : (g : Graph) (slots kept cleared : List ℕ) (factors : List Float) (room work : ℕ) → Verdict
-verdict g slots kept cleared factors room work =
+unfoldable pub directVerdict : (g : Graph) (slots kept cleared : List ℕ) (factors : List Float) (room work : ℕ) → DirectVerdict
+directVerdict g slots kept cleared factors room work =
     cond (not (valid g)) (refuse NoSuchGraph)
-    (cond (not (countsFit slots kept cleared)) (refuse CountOutside)
+    (cond (not (listCountsFit slots kept cleared)) (refuse CountOutside)
     (cond (not (listsFit kept cleared)) (refuse KeptAndCleared)
     (cond (not (allKnown g slots kept cleared)) (refuse NoSuchKey)
     (cond (not (allPlaced g slots kept cleared)) (refuse NeitherKeptNorCleared)
     (cond (not (leb (offset g (g .count)) (length factors))) (refuse FactorStoreShort)
-    (cond (not (every (leb (need g kept cleared (views g slots factors)) room ∷ leb work-numbers work ∷ []))) (refuse StoreShort)
-    (sent (eliminate (views g slots factors) kept cleared (g .sizes)))))))))
+    (cond (not (every (leb (directNeed g kept cleared (views g slots factors)) room ∷ leb work-numbers work ∷ []))) (refuse StoreShort)
+    (verdictOn (eliminate (views g slots factors) kept cleared (g .sizes)))))))))
 
 -- ---- the answer and the store
 
 -- no rows are an answer too
-unfoldable pub answerOf : Verdict → Direct
-answerOf (send rows numbers) = Rows rows
-answerOf (refuse why) = Refused why
+unfoldable pub directAnswer : DirectVerdict → Direct
+directAnswer (send rows numbers) = Rows rows
+directAnswer (refuse why) = Refused why
 
 -- a message stands at the start, and the rest is as it was; a refusal leaves the whole
-unfoldable pub storeOf : List Float → Verdict → List Float
-storeOf store (send rows numbers) = numbers ++ drop (length numbers) store
-storeOf store (refuse why) = store
+unfoldable pub directStore : List Float → DirectVerdict → List Float
+directStore store (send rows numbers) = numbers ++ drop (length numbers) store
+directStore store (refuse why) = store

@@ -31,8 +31,8 @@ ghost use Rattle.slots.specs.Fitting.{Counted};
 ghost use Rattle.gaussian.specs.Elimination.{messageRows};
 ghost use Rattle.direct.specs.Direct as spec;
 ghost use Rattle.direct.specs.Between.{early, Admitted};
-ghost use Rattle.direct.specs.Told.{directTold, verdictTold};
-ghost use Rattle.slots.specs.Views.{numbersOf};
+ghost use Rattle.direct.specs.Told.{directTold, directVerdictTold};
+ghost use Rattle.slots.specs.Views.{factorNumbers};
 ghost use Rattle.tables.specs.Heads.{Originals};
 
 // How long the tables of the originals are.
@@ -48,12 +48,12 @@ pub enum Direct {
 
 // Whether the checks that need no tables have passed.
 pub enum Checked {
-    Passed,
-    Stopped(Refusal),
+    Done,
+    Refused(Refusal),
 }
 
 fn counts_fit(slots: &[usize], kept: &[usize], cleared: &[usize]) -> bool
-    ensures { λ r. ⌜ r ≡ spec.countsFit (now (slots .entry)) (now (kept .entry)) (now (cleared .entry)) ⌝ }
+    ensures { λ r. ⌜ r ≡ spec.listCountsFit (now (slots .entry)) (now (kept .entry)) (now (cleared .entry)) ⌝ }
 {
     if SLOTS < slots.len() {
         return false;
@@ -141,25 +141,25 @@ fn check(g: Graph, slots: &[usize], kept: &[usize], cleared: &[usize], factors: 
     ensures { λ r. ⌜ r ≡ early g (now (slots .entry)) (now (kept .entry)) (now (cleared .entry)) (now (factors .entry)) ⌝ }
 {
     if !g.valid() {
-        return Checked::Stopped(Refusal::NoSuchGraph);
+        return Checked::Refused(Refusal::NoSuchGraph);
     }
     if !counts_fit(slots, kept, cleared) {
-        return Checked::Stopped(Refusal::CountOutside);
+        return Checked::Refused(Refusal::CountOutside);
     }
     if !lists_fit(kept, cleared) {
-        return Checked::Stopped(Refusal::KeptAndCleared);
+        return Checked::Refused(Refusal::KeptAndCleared);
     }
     if !all_known(g, slots, kept, cleared) {
-        return Checked::Stopped(Refusal::NoSuchKey);
+        return Checked::Refused(Refusal::NoSuchKey);
     }
     if !all_placed(g, slots, kept, cleared) {
-        return Checked::Stopped(Refusal::NeitherKeptNorCleared);
+        return Checked::Refused(Refusal::NeitherKeptNorCleared);
     }
     let count = g.count;
     if factors.len() < g.offset(count) {
-        return Checked::Stopped(Refusal::FactorStoreShort);
+        return Checked::Refused(Refusal::FactorStoreShort);
     }
-    Checked::Passed
+    Checked::Done
 }
 
 // How many numbers the message has.
@@ -173,7 +173,7 @@ fn message_numbers(
 ) -> usize
     requires { ⌜ Listed (now kept) sizes × Listed (now cleared) sizes ⌝ }
     requires { ⌜ Counted (now keys) (now heads) (now slots) ⌝ }
-    ensures { λ r. ⌜ r ≡ numbersOf
+    ensures { λ r. ⌜ r ≡ factorNumbers
         (messageRows (rowsByAll (layoutOf (now (kept .entry)) (now (cleared .entry)) sizes) (now (keys .entry)) (now (heads .entry))
         (now (slots .entry)) (length (now (slots .entry)))) (dimOf sizes (now (kept .entry))))
         (dimOf sizes (now (kept .entry))) ⌝ }
@@ -199,10 +199,10 @@ fn eliminate_from(
 ) -> Direct
     requires { ⌜ Admitted g (now slots) (now kept) (now cleared) (now factors) ⌝ }
     requires { ⌜ Originals g (now keys) (now heads) ⌝ }
-    ensures { λ r. ⌜ r ≡ spec.answerOf (spec.verdict g (now (slots .entry)) (now (kept .entry)) (now (cleared .entry)) (now (factors .entry))
+    ensures { λ r. ⌜ r ≡ spec.directAnswer (spec.directVerdict g (now (slots .entry)) (now (kept .entry)) (now (cleared .entry)) (now (factors .entry))
         (length (now (messages .entry))) (length (now (work .entry)))) ⌝ }
-    ensures { λ _. ⌜ now (messages .exit) ≡ spec.storeOf (now (messages .entry))
-        (spec.verdict g (now (slots .entry)) (now (kept .entry)) (now (cleared .entry)) (now (factors .entry))
+    ensures { λ _. ⌜ now (messages .exit) ≡ spec.directStore (now (messages .entry))
+        (spec.directVerdict g (now (slots .entry)) (now (kept .entry)) (now (cleared .entry)) (now (factors .entry))
         (length (now (messages .entry))) (length (now (work .entry)))) ⌝ }
 {
     let sizes = g.sizes;
@@ -226,7 +226,7 @@ fn eliminate_from(
     ) {
         Eliminated::Rows(rows) => Direct::Rows(rows),
         Eliminated::Pivot => Direct::Refused(Refusal::ClearedPivot),
-        Eliminated::Unbounded => Direct::Refused(Refusal::ResultNotFinite),
+        Eliminated::NotFinite => Direct::Refused(Refusal::ResultNotFinite),
     }
 }
 
@@ -242,17 +242,18 @@ pub fn eliminate(
     messages: &mut [f64],
     work: &mut [f64],
 ) -> Direct
-    ensures { λ r. ⌜ r ≡ spec.answerOf (spec.verdict g (now (slots .entry)) (now (kept .entry)) (now (cleared .entry)) (now (factors .entry))
+    ensures { λ r. ⌜ r ≡ spec.directAnswer (spec.directVerdict g (now (slots .entry)) (now (kept .entry)) (now (cleared .entry)) (now (factors .entry))
         (length (now (messages .entry))) (length (now (work .entry)))) ⌝ }
-    ensures { λ _. ⌜ now (messages .exit) ≡ spec.storeOf (now (messages .entry))
-        (spec.verdict g (now (slots .entry)) (now (kept .entry)) (now (cleared .entry)) (now (factors .entry))
+    ensures { λ _. ⌜ now (messages .exit) ≡ spec.directStore (now (messages .entry))
+        (spec.directVerdict g (now (slots .entry)) (now (kept .entry)) (now (cleared .entry)) (now (factors .entry))
         (length (now (messages .entry))) (length (now (work .entry)))) ⌝ }
-    ensures { λ r. ⌜ directTold r ≡ verdictTold (spec.verdict g (now (slots .entry)) (now (kept .entry)) (now (cleared .entry)) (now (factors .entry))
+    ensures { λ r. ⌜ directTold r ≡ directVerdictTold
+        (spec.directVerdict g (now (slots .entry)) (now (kept .entry)) (now (cleared .entry)) (now (factors .entry))
         (length (now (messages .entry))) (length (now (work .entry)))) ⌝ }
 {
     match check(g, slots, kept, cleared, factors) {
-        Checked::Passed => {}
-        Checked::Stopped(why) => return Direct::Refused(why),
+        Checked::Done => {}
+        Checked::Refused(why) => return Direct::Refused(why),
     }
     let mut keys = [0usize; ALL_KEYS];
     let mut heads = [0usize; ALL_HEADS];

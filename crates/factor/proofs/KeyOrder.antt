@@ -10,7 +10,7 @@ use borrow.Author.Tests.{ltb-true, ne-eqb}
 use lib.Dec.{ltb}
 use lib.ListN.{getD}
 use Rattle.factor.specs.Counting.{sum}
-use Rattle.factor.specs.Factor.{above, keyAt, sizeOf, fits, firstColumn, width, findFrom, find}
+use Rattle.factor.specs.Factor.{above, keyAt, sizeOf, fits, firstColumn, width, findFrom, findKey}
 use Rattle.factor.specs.declared.Factor.{Factor}
 use Rattle.factor.specs.declared.Found.the-variants.{Block, Absent}
 use Rattle.factor.proofs.Counting.{sum-more, sum-le}
@@ -64,7 +64,7 @@ module _ (sizes : List ℕ) (n : ℕ) (f : Factor) (h : fits sizes n f ≡ true)
       go (no k) r = let e : i ≡ j = omega arith in rw e last
 
   -- each key of the factor is found at its own block
-  pub find-at : (i : ℕ) → i < f .touched → find sizes f (keyAt f i) ≡ Block (firstColumn sizes (f .keys) i) (sizeOf sizes (keyAt f i))
+  pub find-at : (i : ℕ) → i < f .touched → findKey sizes f (keyAt f i) ≡ Block (firstColumn sizes (f .keys) i) (sizeOf sizes (keyAt f i))
   find-at i l = find-first sizes (f .keys) (f .touched) i l (λ j m e. let a : keyAt f j < keyAt f i = earlier-below i j m l in omega arith)
 
   -- the columns to a key are among those of all keys up to it

@@ -8,8 +8,8 @@ use lib.ListN.{length, length-append}
 use Rattle.factor.specs.Factor.{lay}
 use Rattle.cholesky.specs.Forms.{exchanged}
 use Rattle.cholesky.specs.declared.exchange.Exchanged.{Exchanged}
-use Rattle.cholesky.specs.declared.exchange.Exchanged.the-variants.{Done, Pivot, Unbounded}
-use Rattle.factor.specs.Storing.{Room, laid}
+use Rattle.cholesky.specs.declared.exchange.Exchanged.the-variants.{Done, Pivot, NotFinite}
+use Rattle.factor.specs.Storing.{FactorRoom, formLaid}
 use Rattle.factor.proofs.Laying.{lay-whole, two-laid}
 use Rattle.cholesky.specs.Answers.{endOf, told}
 
@@ -20,7 +20,7 @@ three : (st a xi w s₁ s₂ s₃ : List Float) (at n : ℕ) → at ≤ length s
 three st a xi w s₁ s₂ s₃ at n l x e₁ e₂ e₃ =
     two-laid st (a ++ xi) at l w s₂ s₃ (at + length a + n) (omega (arith, length-append a xi)) (two-laid st a at l xi s₁ s₂ (at + length a) refl e₁ e₂) e₃
 
-module _ (n at : ℕ) (a mean variance store l₀ xi₀ l₁ xi₁ xi₂ w₂ : List Float) (r : Exchanged) (room : Room n at a mean variance store)
+module _ (n at : ℕ) (a mean variance store l₀ xi₀ l₁ xi₁ xi₂ w₂ : List Float) (r : Exchanged) (room : FactorRoom n at a mean variance store)
     (nl : length l₀ ≡ n * n) (nx : length xi₀ ≡ n)
     (el : l₁ ≡ lay l₀ 0 variance) (ex : xi₁ ≡ lay xi₀ 0 mean) (ew : exchanged n xi₁ l₁ ≡ told r xi₂ w₂) where
   came : exchanged n mean variance ≡ told r xi₂ w₂
@@ -29,17 +29,17 @@ module _ (n at : ℕ) (a mean variance store l₀ xi₀ l₁ xi₁ xi₂ w₂ : 
       let v : l₁ ≡ variance = el ∙ lay-whole l₀ variance (room .of-variance ∙ sym nl) in
       rw (m, v) at ew
 
-  pub at-pivot : r ≡ Pivot → (Pivot ≡ endOf (exchanged n mean variance)) × (store ≡ laid (exchanged n mean variance) a store at)
+  pub at-pivot : r ≡ Pivot → (Pivot ≡ endOf (exchanged n mean variance)) × (store ≡ formLaid (exchanged n mean variance) a store at)
   unfolding told endOf
   at-pivot p = let e = came in rw (e, p) (refl, refl)
 
-  pub at-overflow : r ≡ Unbounded → (Unbounded ≡ endOf (exchanged n mean variance)) × (store ≡ laid (exchanged n mean variance) a store at)
+  pub at-overflow : r ≡ NotFinite → (NotFinite ≡ endOf (exchanged n mean variance)) × (store ≡ formLaid (exchanged n mean variance) a store at)
   unfolding told endOf
   at-overflow p = let e = came in rw (e, p) (refl, refl)
 
   pub when-done : r ≡ Done → (s₁ s₂ s₃ : List Float) → length xi₂ ≡ n → s₁ ≡ lay store at a → s₂ ≡ lay s₁ (at + length a) xi₂ → s₃
       ≡ lay s₂ (at + length a + n) w₂
-      → (Done ≡ endOf (exchanged n mean variance)) × (s₃ ≡ laid (exchanged n mean variance) a store at)
+      → (Done ≡ endOf (exchanged n mean variance)) × (s₃ ≡ formLaid (exchanged n mean variance) a store at)
   unfolding told endOf
   when-done p s₁ s₂ s₃ x e₁ e₂ e₃ =
       let e = came in

@@ -161,7 +161,7 @@ impl Factor {
     // The block of a key: looked for among the keys from the first place on.
     pub fn find(self, sizes: [u8; VARIABLES], key: usize) -> Found
         requires { ⌜ self .touched ≤ max-keys ⌝ }
-        ensures { λ r. ⌜ r ≡ spec.find sizes self key ⌝ }
+        ensures { λ r. ⌜ r ≡ spec.findKey sizes self key ⌝ }
     {
         let mut first = 0;
         for place in 0..wide(self.touched) {
@@ -210,7 +210,7 @@ impl Factor {
     // The block column of a key: the part of A that begins at its first column, and no numbers where the factor lacks the key.
     pub fn a_from_key<'a>(self, sizes: [u8; VARIABLES], key: usize, a: &'a [f64]) -> &'a [f64]
         requires { ⌜ (self .touched ≤ max-keys) × (spec.width sizes self * self .rows ≤ length (now a)) ⌝ }
-        ensures { λ r. ⌜ now r ≡ spec.columnsAt (spec.find sizes self key) (self .rows) (now (a .entry)) ⌝ }
+        ensures { λ r. ⌜ now r ≡ spec.columnsAt (spec.findKey sizes self key) (self .rows) (now (a .entry)) ⌝ }
     {
         let Found::Block(first, size) = self.find(sizes, key) else {
             return &a[0..0];

@@ -7,9 +7,9 @@ use cholesky::exchange::exchange;
 ghost use mathlib.Core.Path.{_≡_};
 ghost use Rattle.factor.specs.Factor as spec;
 ghost use Rattle.cholesky.specs.Forms.{exchanged};
-ghost use Rattle.factor.specs.Storing.{Room, laid};
+ghost use Rattle.factor.specs.Storing.{FactorRoom, formLaid};
 ghost use Rattle.factor.specs.Told.{weighedTold, weightTold};
-ghost use Rattle.cholesky.specs.Answers.{Lent, endOf};
+ghost use Rattle.cholesky.specs.Answers.{FormLent, endOf};
 
 // All numbers given for a factor are finite.
 pub fn given_finite(a: &[f64], mean: &[f64], variance: &[f64]) -> bool
@@ -36,17 +36,17 @@ fn store_by(
     xi: &mut [f64],
     w: &mut [f64],
 ) -> Exchanged
-    requires { ⌜ Room n at (now a) (now mean) (now variance) (now store) ⌝ }
-    requires { ⌜ Lent n (now l) (now xi) (now w) ⌝ }
+    requires { ⌜ FactorRoom n at (now a) (now mean) (now variance) (now store) ⌝ }
+    requires { ⌜ FormLent n (now l) (now xi) (now w) ⌝ }
     ensures { λ r. ⌜ r ≡ endOf (exchanged n (now (mean .entry)) (now (variance .entry))) ⌝ }
-    ensures { λ _. ⌜ now (store .exit) ≡ laid (exchanged n (now (mean .entry)) (now (variance .entry))) (now (a .entry)) (now (store .entry)) at ⌝ }
+    ensures { λ _. ⌜ now (store .exit) ≡ formLaid (exchanged n (now (mean .entry)) (now (variance .entry))) (now (a .entry)) (now (store .entry)) at ⌝ }
 {
     copy_in(l, 0, variance);
     copy_in(xi, 0, mean);
     match exchange(l, n, xi, w) {
         Exchanged::Done => {}
         Exchanged::Pivot => return Exchanged::Pivot,
-        Exchanged::Unbounded => return Exchanged::Unbounded,
+        Exchanged::NotFinite => return Exchanged::NotFinite,
     }
     let second = at + a.len();
     let third = second + n;
@@ -65,9 +65,9 @@ pub fn store_factor(
     variance: &[f64],
     n: usize,
 ) -> Exchanged
-    requires { ⌜ Room n at (now a) (now mean) (now variance) (now store) ⌝ }
+    requires { ⌜ FactorRoom n at (now a) (now mean) (now variance) (now store) ⌝ }
     ensures { λ r. ⌜ r ≡ endOf (exchanged n (now (mean .entry)) (now (variance .entry))) ⌝ }
-    ensures { λ _. ⌜ now (store .exit) ≡ laid (exchanged n (now (mean .entry)) (now (variance .entry))) (now (a .entry)) (now (store .entry)) at ⌝ }
+    ensures { λ _. ⌜ now (store .exit) ≡ formLaid (exchanged n (now (mean .entry)) (now (variance .entry))) (now (a .entry)) (now (store .entry)) at ⌝ }
     ensures { λ r. ⌜ weighedTold r ≡ weightTold (exchanged n (now (mean .entry)) (now (variance .entry))) ⌝ }
 {
     let square = n * n;

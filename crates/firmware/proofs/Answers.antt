@@ -6,11 +6,11 @@ use lib.ListN.{length}
 use Rattle.lines.specs.Lines.{written}
 use Rattle.job.specs.Job.{jobText}
 use Rattle.job.proofs.Longest.{never-short}
-use Rattle.firmware.specs.Firmware.{answerOf}
+use Rattle.firmware.specs.Firmware.{lengthOf}
 
 -- what C calls STRIPS_OUTPUT
 abbrev pub output-bytes : ℕ
 output-bytes = 22944
 
-pub always-fits : (bytes out : List ℕ) → output-bytes ≤ length out → answerOf (written out (jobText bytes)) ≡ length (jobText bytes)
-always-fits bytes out l = ap answerOf (never-short bytes out l)
+pub always-fits : (bytes out : List ℕ) → output-bytes ≤ length out → lengthOf (written out (jobText bytes)) ≡ length (jobText bytes)
+always-fits bytes out l = ap lengthOf (never-short bytes out l)

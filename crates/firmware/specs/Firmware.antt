@@ -7,6 +7,6 @@ use Rattle.lines.specs.declared.Written.the-variants.{Length, Short}
 abbrev pub short : ℕ
 short = 0xFFFFFFFFFFFFFFFF
 
-abbrev pub answerOf : Written → ℕ
-answerOf (Length n) = n
-answerOf Short = short
+abbrev pub lengthOf : Written → ℕ
+lengthOf (Length n) = n
+lengthOf Short = short

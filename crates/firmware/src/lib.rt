@@ -11,7 +11,7 @@ const SHORT: usize = 0xFFFFFFFFFFFFFFFF;
 // Writes the text of a job's answer at the start of out and answers its length; where out is too short, answers SHORT and leaves out as it was.
 #[no_mangle]
 pub extern "C" fn strips_solve(bytes: &[u8], out: &mut [u8]) -> usize
-    ensures { λ r. ⌜ r ≡ spec.answerOf (written (now (out .entry)) (jobText (now (bytes .entry)))) ⌝ }
+    ensures { λ r. ⌜ r ≡ spec.lengthOf (written (now (out .entry)) (jobText (now (bytes .entry)))) ⌝ }
     ensures { λ _. ⌜ now (out .exit) ≡ laidIn (now (out .entry)) (jobText (now (bytes .entry))) ⌝ }
 {
     let answer = job::solve(bytes, out);

@@ -18,9 +18,9 @@ use Rattle.workspace.proofs.Parts.{length-part, getD-part, length-splice, splic
 use Rattle.slots.specs.declared.Branch.{Branch}
 use Rattle.slots.specs.declared.Branch.the-variants.{Z, X}
 use Rattle.gaussian.specs.Elimination.{begun}
-use Rattle.workspace.specs.Parts.{Laid, cut}
+use Rattle.workspace.specs.Parts.{FrameLaid, matricesIn}
 
-module _ (f : Frame) (w x : List Float) (l : Laid f (length w)) (e : x ≡ zeroed (part w 0 (f .end)) (length (part w 0 (f .end)))) where
+module _ (f : Frame) (w x : List Float) (l : FrameLaid f (length w)) (e : x ≡ zeroed (part w 0 (f .end)) (length (part w 0 (f .end)))) where
   abbrev t : List Float
   t = splice w 0 (f .end) x
 
@@ -46,7 +46,7 @@ module _ (f : Frame) (w x : List Float) (l : Laid f (length w)) (e : x ≡ zeroe
       ext-getD nan _ _ (r ∙ sym (length-replicate n plus-zero))
       (λ k b′. getD-part (splice w 0 (f .end) x) a b k (omega arith) ∙ at-zero (a + k) (omega arith) ∙ sym (getD-replicate n k plus-zero nan (omega arith)))
 
-  all-zero : cut f t ≡ begun Z f
+  all-zero : matricesIn f t ≡ begun Z f
   unfolding begun
   all-zero =
       rw (
@@ -58,10 +58,10 @@ module _ (f : Frame) (w x : List Float) (l : Laid f (length w)) (e : x ≡ zeroe
         part-zero (f .w) (f .end) (f .rows * f .rows) (omega arith) (omega arith),
       )
 
-  pub begun-z : (branch : Branch) → branch ≡ Z → cut f t ≡ begun branch f
+  pub begun-z : (branch : Branch) → branch ≡ Z → matricesIn f t ≡ begun branch f
   begun-z branch ez = rw ez all-zero
 
-  pub begun-x : (branch : Branch) (σ : Sums) → branch ≡ X → σ ≡ change A (λ c. filledDiagonal (columns (f .rows)) one c (f .rows)) (cut f t) → σ
+  pub begun-x : (branch : Branch) (σ : Sums) → branch ≡ X → σ ≡ change A (λ c. filledDiagonal (columns (f .rows)) one c (f .rows)) (matricesIn f t) → σ
       ≡ begun branch f
   unfolding begun change
   begun-x branch σ ez es = rw ez (es ∙ ap (change A (λ c. filledDiagonal (columns (f .rows)) one c (f .rows))) all-zero)

@@ -9,7 +9,7 @@ use Rattle.slots.specs.Layouts.{layoutOf}
 use Rattle.slots.specs.Views.{FactorView, prior, likelihood, rowsOfAll, withViews}
 use Rattle.slots.specs.declared.Branch.the-variants.{Z, X}
 use Rattle.gaussian.proofs.Computing.{computed}
-use Rattle.gaussian.specs.Elimination.{eliminate, branched, run, begun, nth, pivot, unbounded, message}
+use Rattle.gaussian.specs.Elimination.{eliminate, branched, inBranch, begun, nth, pivot, notFinite, message}
 
 abbrev zer : Float
 zer = fin false 0 (pos 0)
@@ -51,7 +51,7 @@ unfolding rowsOfAll layoutOf
 p6-rows = refl
 
 p6 : eliminate (back ∷ p0 ∷ p0 ∷ p0 ∷ []) (0 ∷ []) [] (1 ∷ 1 ∷ [])
-    ≡ run X (frameOf 0 1 1) (layoutOf (0 ∷ []) [] (1 ∷ 1 ∷ [])) (nth (back ∷ p0 ∷ p0 ∷ p0 ∷ [])) 4
+    ≡ inBranch X (frameOf 0 1 1) (layoutOf (0 ∷ []) [] (1 ∷ 1 ∷ [])) (nth (back ∷ p0 ∷ p0 ∷ p0 ∷ [])) 4
 unfolding eliminate branched rowsOfAll layoutOf
 p6 = refl
 
@@ -71,7 +71,7 @@ unfolding computed
 no-factor = refl
 
 -- 17: the precisions of two priors add up to infinity
-too-large : computed (prior 0 (zer ∷ []) (largest ∷ []) ∷ prior 0 (zer ∷ []) (largest ∷ []) ∷ []) (0 ∷ []) [] (1 ∷ []) ≡ unbounded
+too-large : computed (prior 0 (zer ∷ []) (largest ∷ []) ∷ prior 0 (zer ∷ []) (largest ∷ []) ∷ []) (0 ∷ []) [] (1 ∷ []) ≡ notFinite
 unfolding computed
 too-large = refl
 

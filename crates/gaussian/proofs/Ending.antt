@@ -5,15 +5,15 @@ use Rattle.matrix.specs.Products.{product}
 use Rattle.matrix.specs.declared.Update.the-variants.{Subtract}
 use Rattle.cholesky.specs.Factor.{Left, whole, stuck, factor}
 use Rattle.cholesky.specs.declared.Factored.{Factored}
-use Rattle.cholesky.specs.declared.Factored.the-variants.{Done, Stopped}
+use Rattle.cholesky.specs.declared.Factored.the-variants.{Done, Refused}
 use Rattle.workspace.specs.Blocks.{solvedColumns}
 use Rattle.workspace.specs.Sums.{Sums, pick, change}
 use Rattle.workspace.specs.declared.Frame.{Frame}
 use Rattle.workspace.specs.declared.Part.the-variants.{S, H, G, Xi, W}
 use Rattle.slots.specs.declared.Branch.{Branch}
-use Rattle.gaussian.specs.Elimination.{refused, done, filled, lost, ended, finished}
+use Rattle.gaussian.specs.Elimination.{refused, done, filled, lost, ended, factorised}
 use Rattle.gaussian.specs.Answers.{endedAs}
-use Rattle.cholesky.specs.Answers.{answerOf, listOf}
+use Rattle.cholesky.specs.Answers.{factoredAs, listOf}
 
 module _ (branch : Branch) (f : Frame) where
   pub lose-is : (σ σ₁ σ₂ σ₃ σ₄ σ₅ : Sums) → σ₁ ≡ change H (λ c. solvedColumns (σ .s) (f .cleared) c 1) σ → σ₂
@@ -27,23 +27,23 @@ module _ (branch : Branch) (f : Frame) where
   unfolding lost change
   lose-is σ σ₁ σ₂ σ₃ σ₄ σ₅ e₁ e₂ e₃ e₄ e₅ = rw (e₅, e₄, e₃, e₂, e₁)
 
-  done-by : (σ : Sums) (F : Left) → answerOf F ≡ Done → ended branch f σ F ≡ done (lost branch f (change S (λ c. listOf F) σ))
+  done-by : (σ : Sums) (F : Left) → factoredAs F ≡ Done → ended branch f σ F ≡ done (lost branch f (change S (λ c. listOf F) σ))
   unfolding ended
   done-by σ (whole l) e = refl
   done-by σ (stuck l) e = cc
 
-  stopped-by : (σ : Sums) (F : Left) → answerOf F ≡ Stopped → ended branch f σ F ≡ refused
+  stopped-by : (σ : Sums) (F : Left) → factoredAs F ≡ Refused → ended branch f σ F ≡ refused
   unfolding ended
   stopped-by σ (whole l) e = cc
   stopped-by σ (stuck l) e = refl
 
-  pub finish-done : (σ σ₁ σ₂ : Sums) (r : Factored) → r ≡ answerOf (factor (columns (f .cleared)) (f .cleared) (σ .s) (f .cleared))
+  pub finish-done : (σ σ₁ σ₂ : Sums) (r : Factored) → r ≡ factoredAs (factor (columns (f .cleared)) (f .cleared) (σ .s) (f .cleared))
       → σ₁ ≡ change S (λ c. listOf (factor (columns (f .cleared)) (f .cleared) c (f .cleared))) σ → r ≡ Done → σ₂ ≡ lost branch f σ₁
-      → finished branch f σ ≡ endedAs Done σ₂
-  unfolding finished endedAs change
+      → factorised branch f σ ≡ endedAs Done σ₂
+  unfolding factorised endedAs change
   finish-done σ σ₁ σ₂ r er e₁ ed e₂ = rw (e₂, e₁) (done-by σ (factor (columns (f .cleared)) (f .cleared) (σ .s) (f .cleared)) (sym er ∙ ed))
 
-  pub finish-stopped : (σ σ₁ : Sums) (r : Factored) → r ≡ answerOf (factor (columns (f .cleared)) (f .cleared) (σ .s) (f .cleared)) → r ≡ Stopped
-      → finished branch f σ ≡ endedAs Stopped σ₁
-  unfolding finished endedAs
+  pub finish-stopped : (σ σ₁ : Sums) (r : Factored) → r ≡ factoredAs (factor (columns (f .cleared)) (f .cleared) (σ .s) (f .cleared)) → r ≡ Refused
+      → factorised branch f σ ≡ endedAs Refused σ₁
+  unfolding factorised endedAs
   finish-stopped σ σ₁ r er ed = stopped-by σ (factor (columns (f .cleared)) (f .cleared) (σ .s) (f .cleared)) (sym er ∙ ed)

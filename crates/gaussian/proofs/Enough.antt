@@ -11,10 +11,10 @@ use Rattle.matrix.specs.Views.{part}
 use Rattle.factor.specs.Limits.{max-variables, max-total}
 use Rattle.workspace.specs.Frames.{frameOf}
 use Rattle.slots.specs.Limits.{scratch-numbers}
-use Rattle.slots.specs.Layouts.{member, dimOf, firstOf, layoutOf}
-use Rattle.slots.specs.Views.{FactorView, rowsOf, rowsOfAll, numbersOf}
-use Rattle.slots.specs.Tables.{headOf, keysAt, storeOf, viewAt, rowsBy, rowsByAll}
-use Rattle.slots.specs.Fitting.{KnownKey, Fitted, Ready}
+use Rattle.slots.specs.Layouts.{member, dimOf, columnIn, layoutOf}
+use Rattle.slots.specs.Views.{FactorView, rowsOf, rowsOfAll, factorNumbers}
+use Rattle.slots.specs.Tables.{headOf, headKeys, slotStore, viewAt, rowsBy, rowsByAll}
+use Rattle.slots.specs.Fitting.{KnownKey, Fitted, SlotReady}
 use Rattle.slots.specs.declared.Branch.{Branch}
 use Rattle.slots.specs.declared.Branch.the-variants.{Z, X}
 use Rattle.slots.specs.declared.layout.Layout.{Layout}
@@ -23,7 +23,7 @@ use Rattle.slots.proofs.LayoutTables.{first-fits, getD-table}
 use Rattle.slots.proofs.Reading.{rows-bound}
 use Rattle.gaussian.proofs.Heads.{size-is, count-is, key-at, prior-size, counted-head, rows-are}
 use Rattle.gaussian.specs.Elimination.{branchOf}
-use Rattle.gaussian.specs.Asked.{KeyFits, HeadFits, Asked, Whole, frameFor}
+use Rattle.gaussian.specs.Asked.{KeyFits, HeadFits, Asked, SlotsAsked, frameFor}
 
 -- ---- a key
 
@@ -38,11 +38,11 @@ module _ (kept cleared sizes : List ℕ) (len : length sizes ≡ max-variables) 
   cleared-at key h = getD-table (λ k. member k cleared) 0 (length sizes) key false (rw len h) ∙ ap (λ (k : ℕ). member k cleared) (omega arith)
 
   first-at : (key : ℕ) → key < max-variables → getD (layoutOf kept cleared sizes .first) key 0
-      ≡ cond (member key cleared) (firstOf sizes cleared key) (firstOf sizes kept key)
+      ≡ cond (member key cleared) (columnIn sizes cleared key) (columnIn sizes kept key)
   unfolding layoutOf
   first-at key h =
-      getD-table (λ k. cond (member k cleared) (firstOf sizes cleared k) (firstOf sizes kept k)) 0 (length sizes) key 0 (rw len h)
-      ∙ ap (λ (k : ℕ). cond (member k cleared) (firstOf sizes cleared k) (firstOf sizes kept k)) (omega arith)
+      getD-table (λ k. cond (member k cleared) (columnIn sizes cleared k) (columnIn sizes kept k)) 0 (length sizes) key 0 (rw len h)
+      ∙ ap (λ (k : ℕ). cond (member k cleared) (columnIn sizes cleared k) (columnIn sizes kept k)) (omega arith)
 
   known-key : (r key : ℕ) → KeyFits kept cleared sizes key → KnownKey (frameOf (dimOf sizes cleared) r (dimOf sizes kept)) (layoutOf kept cleared sizes) key
   unfolding frameOf
@@ -52,7 +52,7 @@ module _ (kept cleared sizes : List ℕ) (len : length sizes ≡ max-variables) 
         small = rw (size-is kept cleared sizes) (k .small);
         sits =
             rw (cleared-at key (k .listed), first-at key (k .listed), size-is kept cleared sizes)
-            (sits-by (firstOf sizes cleared key) (firstOf sizes kept key) (getD sizes key 0) (dimOf sizes cleared) (dimOf sizes kept)
+            (sits-by (columnIn sizes cleared key) (columnIn sizes kept key) (getD sizes key 0) (dimOf sizes cleared) (dimOf sizes kept)
             (member key cleared) (member key kept)
             (first-fits sizes cleared key) (first-fits sizes kept key) (k .placed));
       }
@@ -61,8 +61,8 @@ module _ (kept cleared sizes : List ℕ) (len : length sizes ≡ max-variables) 
 
   module _ (keys : List ℕ) (store : ℕ) (h : Head) (k : HeadFits kept cleared sizes keys store h) where
     fitted : (branch : Branch) (r row : ℕ) → (branch ≡ X → r ≡ dimOf sizes kept) → (branch ≡ Z → row + rowsBy (layoutOf kept cleared sizes) keys h ≤ r)
-        → Fitted (frameOf (dimOf sizes cleared) r (dimOf sizes kept)) (layoutOf kept cleared sizes) branch row (h .prior) (keysAt keys h) (h .rows)
-        (h .width) scratch-numbers (numbersOf (h .rows) (h .width))
+        → Fitted (frameOf (dimOf sizes cleared) r (dimOf sizes kept)) (layoutOf kept cleared sizes) branch row (h .prior) (headKeys keys h) (h .rows)
+        (h .width) scratch-numbers (factorNumbers (h .rows) (h .width))
     unfolding frameOf
     fitted branch r row hx hz =
         record {
@@ -115,13 +115,13 @@ module _ {kept cleared sizes : List ℕ} {factors messages : List Float} {work :
   rows-inside i h =
       let k : Head = headOf heads (getD slots i 0) in
       rw (
-        rows-are kept cleared sizes keys _ k (q .fits i h) (part (storeOf (k .slot) factors messages) (k .at)
-            (k .at + numbersOf (k .rows) (k .width))),
+        rows-are kept cleared sizes keys _ k (q .fits i h) (part (slotStore (k .slot) factors messages) (k .at)
+            (k .at + factorNumbers (k .rows) (k .width))),
         rows-all (length slots) (omega arith) .0,
       )
       (rows-rise (layoutOf kept cleared sizes) (viewAt factors messages keys heads slots) (length slots) i h)
 
-  pub enough : Whole (dimOf sizes cleared) (dimOf sizes kept) (layoutOf kept cleared sizes) factors messages work keys heads slots
+  pub enough : SlotsAsked (dimOf sizes cleared) (dimOf sizes kept) (layoutOf kept cleared sizes) factors messages work keys heads slots
   enough =
       record {
         total = q .total;
@@ -137,7 +137,7 @@ module _ {kept cleared sizes : List ℕ} {factors messages : List Float} {work :
       }
     where
       ready : (i : ℕ) → i < length slots
-          → Ready (frameFor (dimOf sizes cleared) (dimOf sizes kept) (rowsByAll (layoutOf kept cleared sizes) keys heads slots (length slots)))
+          → SlotReady (frameFor (dimOf sizes cleared) (dimOf sizes kept) (rowsByAll (layoutOf kept cleared sizes) keys heads slots (length slots)))
           (layoutOf kept cleared sizes)
           (branchOf (rowsByAll (layoutOf kept cleared sizes) keys heads slots (length slots)) (dimOf sizes kept))
           (rowsOfAll (layoutOf kept cleared sizes) (viewAt factors messages keys heads slots) i) factors messages keys scratch-numbers

@@ -10,7 +10,7 @@ use lib.Ieee.{Float}
 use Rattle.factor.specs.Limits.{max-variables}
 use Rattle.slots.specs.Layouts.{layoutOf}
 use Rattle.slots.specs.Views.{rowsOf, viewOf}
-use Rattle.slots.specs.Tables.{keysAt, rowsBy}
+use Rattle.slots.specs.Tables.{headKeys, rowsBy}
 use Rattle.slots.specs.Fitting.{CountedHead}
 use Rattle.slots.specs.declared.Head.{Head}
 use Rattle.slots.proofs.Reading.{rows-of-view}
@@ -21,16 +21,16 @@ unfolding layoutOf
 size-is kept cleared sizes = refl
 
 module _ (kept cleared sizes keys : List ℕ) (store : ℕ) (h : Head) (k : HeadFits kept cleared sizes keys store h) where
-  pub count-is : length (keysAt keys h) ≡ h .count
+  pub count-is : length (headKeys keys h) ≡ h .count
   count-is = simp (length-take, length-drop) (omega (arith, k .listed))
 
-  pub key-at : (j : ℕ) → j < h .count → getD (keysAt keys h) j 0 ≡ getD keys (h .first + j) 0
+  pub key-at : (j : ℕ) → j < h .count → getD (headKeys keys h) j 0 ≡ getD keys (h .first + j) 0
   key-at j l = getD-take (h .first + h .count - h .first) (drop (h .first) keys) j 0 (omega arith) ∙ getD-drop (h .first) keys j 0
 
-  first-key : h .prior ≡ true → getD (keysAt keys h) 0 0 ≡ getD keys (h .first) 0
+  first-key : h .prior ≡ true → getD (headKeys keys h) 0 0 ≡ getD keys (h .first) 0
   first-key e = key-at 0 (k .of-prior e .0) ∙ ap (λ (n : ℕ). getD keys n 0) (omega arith)
 
-  pub prior-size : h .prior ≡ true → getD (layoutOf kept cleared sizes .size) (getD (keysAt keys h) 0 0) 0 ≡ h .rows
+  pub prior-size : h .prior ≡ true → getD (layoutOf kept cleared sizes .size) (getD (headKeys keys h) 0 0) 0 ≡ h .rows
   prior-size e = rw (size-is kept cleared sizes, first-key e) (k .of-prior e .1)
 
   pub counted-head : CountedHead keys h
@@ -42,6 +42,6 @@ module _ (kept cleared sizes keys : List ℕ) (store : ℕ) (h : Head) (k : Head
       }
 
   pub rows-are : (t : List Float) → rowsBy (layoutOf kept cleared sizes) keys h
-      ≡ rowsOf (layoutOf kept cleared sizes) (viewOf (h .prior) (keysAt keys h) (h .rows) (h .width) t)
+      ≡ rowsOf (layoutOf kept cleared sizes) (viewOf (h .prior) (headKeys keys h) (h .rows) (h .width) t)
   unfolding rowsBy
-  rows-are t = rows-of-view (layoutOf kept cleared sizes) (h .prior) (keysAt keys h) (getD keys (h .first) 0) (h .rows) (h .width) t prior-size first-key
+  rows-are t = rows-of-view (layoutOf kept cleared sizes) (h .prior) (headKeys keys h) (getD keys (h .first) 0) (h .rows) (h .width) t prior-size first-key

@@ -23,7 +23,7 @@ use Rattle.workspace.specs.Frames.{frameOf}
 use Rattle.workspace.specs.declared.Frame.{Frame}
 use Rattle.workspace.specs.declared.Part.{Part}
 use Rattle.workspace.specs.declared.Part.the-variants.{S, H, G, A, Xi, W}
-use Rattle.slots.specs.Layouts.{dimOf, layoutOf, find}
+use Rattle.slots.specs.Layouts.{dimOf, layoutOf, spotOf}
 use Rattle.slots.specs.Views.{FactorView, prior, likelihood, rowsOfAll, withProduct, withProducts, withOwn, withKey, withKeys, withRows, withPrior}
 use Rattle.slots.specs.Views.{withView, withViews}
 use Rattle.slots.specs.declared.Branch.{Branch}
@@ -32,8 +32,8 @@ use Rattle.slots.specs.declared.layout.Layout.{Layout}
 use Rattle.slots.specs.declared.layout.Spot.{Spot}
 use Rattle.slots.specs.declared.sums.Target.{Target}
 use Rattle.slots.specs.declared.sums.Target.the-variants.{Nowhere, At}
-use Rattle.gaussian.specs.Elimination.{branchOf, rowsFor, messageRows, begun, lost, ended, finished, Outcome, pivot, unbounded, message}
-use Rattle.gaussian.specs.Elimination.{outcome, run, branched, nth, eliminate}
+use Rattle.gaussian.specs.Elimination.{branchOf, rowsFor, messageRows, begun, lost, ended, factorised, Outcome, pivot, notFinite, message}
+use Rattle.gaussian.specs.Elimination.{outcome, inBranch, branched, nth, eliminate}
 use Rattle.gaussian.specs.Asked.{Sized}
 
 -- A, xi and W of r rows over d columns
@@ -105,7 +105,7 @@ module _ (r d : ℕ) where
 
   of-view : (branch : Branch) (f : Frame) (m : Layout) (row : ℕ) (v : FactorView) (σ : Sums) → Long r d σ → Long r d (withView branch f m row v σ)
   unfolding withView withKeys
-  of-view branch f m row (prior key xi w) σ l = of-prior branch (find m key .cleared) f row (find m key) xi w σ l
+  of-view branch f m row (prior key xi w) σ l = of-prior branch (spotOf m key .cleared) f row (spotOf m key) xi w σ l
   of-view branch f m row (likelihood keys y a xi w) σ l = turned _ _ (length keys) (λ i σ h. of-key branch f m row keys y a xi w _ _ σ h)
       (of-rows branch f row y xi w σ l)
 
@@ -138,10 +138,10 @@ of-factor r d σ t l = record { of-a = l .of-a; of-xi = l .of-xi; of-w = l .of-w
 -- that a message has its rows and lengths; of a refusal nothing is said
 abbrev SizedIn : ℕ → ℕ → Outcome → Type 0
 SizedIn y d pivot = pivot ≡ pivot
-SizedIn y d unbounded = unbounded ≡ unbounded
+SizedIn y d notFinite = notFinite ≡ notFinite
 SizedIn y d (message r a xi w) = Sized y d r a xi w
 
-of-message : (y d r : ℕ) (σ : Sums) → r ≡ messageRows y d → Long r d σ → (b : Bool) → SizedIn y d (cond b (message r (σ .a) (σ .xi) (σ .w)) unbounded)
+of-message : (y d r : ℕ) (σ : Sums) → r ≡ messageRows y d → Long r d σ → (b : Bool) → SizedIn y d (cond b (message r (σ .a) (σ .xi) (σ .w)) notFinite)
 of-message y d r σ e l true = record { of-rows = e; of-a = l .of-a; of-xi = l .of-xi; of-w = l .of-w }
 of-message y d r σ e l false = refl
 
@@ -154,8 +154,8 @@ of-ended y branch f σ e l (whole t) =
     of-message y (f .kept) (f .rows) ρ e (of-lost (f .rows) (f .kept) branch f _ (of-factor (f .rows) (f .kept) σ t l)) (allFinite (ρ .a ++ (ρ .xi ++ ρ .w)))
 
 of-run : (y : ℕ) (branch : Branch) (f : Frame) (m : Layout) (view : ℕ → FactorView) (n : ℕ) → f .rows ≡ messageRows y (f .kept)
-    → SizedIn y (f .kept) (run branch f m view n)
-unfolding run finished
+    → SizedIn y (f .kept) (inBranch branch f m view n)
+unfolding inBranch factorised
 of-run y branch f m view n e = of-ended y branch f _ e (of-views (f .rows) (f .kept) branch f m view (begun branch f) n (of-begun branch f)) _
 
 of-branched : (u d y : ℕ) (m : Layout) (view : ℕ → FactorView) (n : ℕ) → SizedIn y d (branched u d y m view n)

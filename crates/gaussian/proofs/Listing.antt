@@ -13,8 +13,8 @@ use Rattle.slots.specs.Views.{FactorView, rowsOfAll, withViews}
 use Rattle.slots.specs.Tables.{headOf, readView, viewAt}
 use Rattle.slots.specs.declared.Branch.{Branch}
 use Rattle.slots.specs.declared.layout.Layout.{Layout}
-use Rattle.gaussian.specs.Elimination.{branchOf, messageRows, begun, finished, outcome, run, branched, nth, eliminate, numbersIn}
-use Rattle.gaussian.specs.Answers.{answer, leftIn, viewsOf, branchedAt}
+use Rattle.gaussian.specs.Elimination.{branchOf, messageRows, begun, factorised, outcome, inBranch, branched, nth, eliminate, numbersIn}
+use Rattle.gaussian.specs.Answers.{eliminatedAs, leftIn, viewsOf, branchedAt}
 use Rattle.gaussian.specs.declared.Eliminated.{Eliminated}
 use Rattle.gaussian.proofs.Branches.{left-same}
 
@@ -35,10 +35,10 @@ module _ (m : Layout) (s t : ℕ → FactorView) where
   views-same branch f σ (suc n) h = rw (views-same branch f σ n (λ i l. h i (omega arith)), rows-same n (λ i l. h i (omega arith)), h n (omega arith))
 
   branched-same : (u d y n : ℕ) → ((i : ℕ) → i < n → s i ≡ t i) → branched u d y m s n ≡ branched u d y m t n
-  unfolding branched run
+  unfolding branched inBranch
   branched-same u d y n h =
       let f : Frame = frameOf u (messageRows y d) d in
-      ap (λ (σ : Sums). outcome (f .rows) (finished (branchOf y d) f σ)) (views-same (branchOf y d) f (begun (branchOf y d) f) n h)
+      ap (λ (σ : Sums). outcome (f .rows) (factorised (branchOf y d) f σ)) (views-same (branchOf y d) f (begun (branchOf y d) f) n h)
 
 module _ (factors messages : List Float) (keys heads slots kept cleared sizes : List ℕ) where
   pub listed-is : branchedAt (dimOf sizes cleared) (dimOf sizes kept) (layoutOf kept cleared sizes) factors messages keys heads slots
@@ -53,15 +53,15 @@ module _ (factors messages : List Float) (keys heads slots kept cleared sizes : 
       (rowsOfAll m (viewAt factors messages keys heads slots) (length slots)) (length slots) e)
 
   pub slots-are : (u d : ℕ) (m : Layout) (a : Eliminated) (t : List Float) → u ≡ dimOf sizes cleared → d ≡ dimOf sizes kept → m ≡ layoutOf kept cleared sizes
-      → a ≡ answer (branchedAt u d m factors messages keys heads slots) → leftIn u d t (branchedAt u d m factors messages keys heads slots)
+      → a ≡ eliminatedAs (branchedAt u d m factors messages keys heads slots) → leftIn u d t (branchedAt u d m factors messages keys heads slots)
       ≡ numbersIn (branchedAt u d m factors messages keys heads slots)
-      → (a ≡ answer (eliminate (viewsOf factors messages keys heads slots) kept cleared sizes))
+      → (a ≡ eliminatedAs (eliminate (viewsOf factors messages keys heads slots) kept cleared sizes))
       × (leftIn (dimOf sizes cleared) (dimOf sizes kept) t (eliminate (viewsOf factors messages keys heads slots) kept cleared sizes)
       ≡ numbersIn (eliminate (viewsOf factors messages keys heads slots) kept cleared sizes))
   slots-are u d m a t eu ed em ea et =
       let g : branchedAt u d m factors messages keys heads slots ≡ eliminate (viewsOf factors messages keys heads slots) kept cleared sizes = rw
       (eu, ed, em) listed-is in
-      (ea ∙ ap answer g, left-same _ _ _ _ t _ _ eu ed g et)
+      (ea ∙ ap eliminatedAs g, left-same _ _ _ _ t _ _ eu ed g et)
 
   pub rows-listed : rowsOfAll (layoutOf kept cleared sizes) (viewAt factors messages keys heads slots) (length slots)
       ≡ rowsOfAll (layoutOf kept cleared sizes) (nth (viewsOf factors messages keys heads slots)) (length (viewsOf factors messages keys heads slots))

@@ -10,12 +10,12 @@ use Rattle.matrix.specs.Sums.{plus-zero}
 use Rattle.factor.specs.Limits.{max-size}
 use Rattle.factor.proofs.Laying.{front-replicate}
 use Rattle.cholesky.specs.declared.exchange.Exchanged.{Exchanged}
-use Rattle.cholesky.specs.declared.exchange.Exchanged.the-variants.{Done, Pivot, Unbounded}
+use Rattle.cholesky.specs.declared.exchange.Exchanged.the-variants.{Done, Pivot, NotFinite}
 use Rattle.gaussian.specs.Marginals.{momentsOf}
 use Rattle.gaussian.specs.declared.marginal.Answer.{Answer}
 use Rattle.gaussian.specs.declared.marginal.Ending.the-variants as ending
 use Rattle.cholesky.specs.Answers.{told}
-use Rattle.gaussian.specs.Answers.{answerOf, marginalAt, marginalOf, padded, refusedAs}
+use Rattle.gaussian.specs.Answers.{marginalAnswer, marginalAt, marginalOf, paddedFloats, refusedAs}
 
 drop-replicate : (n k : ℕ) → drop k (replicate n plus-zero) ≡ replicate (n - k) plus-zero
 drop-replicate n zero = let e : n ≡ n - 0 = omega arith in ap (λ (k : ℕ). replicate k plus-zero) e
@@ -27,7 +27,7 @@ pub zeros-long : (n s : ℕ) → s ≤ n → length (part (replicate n plus-zero
 zeros-long n s h = ap length (front-replicate plus-zero n s h) ∙ length-replicate s plus-zero
 
 -- a list at the start of an array of zeros
-padded-is : (n s : ℕ) (t : List Float) → length t ≡ s → splice (replicate n plus-zero) 0 s t ≡ padded n t
+padded-is : (n s : ℕ) (t : List Float) → length t ≡ s → splice (replicate n plus-zero) 0 s t ≡ paddedFloats n t
 padded-is n s t e =
     let d : n - (s - 0) ≡ n - length t = omega arith in
     ap (λ (l : List Float). t ++ l) (drop-replicate n (s - 0) ∙ ap (λ (k : ℕ). replicate k plus-zero) d)
@@ -41,13 +41,13 @@ module _ (key s y : ℕ) (message mean covariance : List Float) (r : Exchanged)
         marginal = marginalAt key s (splice (replicate max-size plus-zero) 0 s mean)
             (splice (replicate (max-size * max-size) plus-zero) 0 (s * s) covariance);
       } ≡ marginalOf key s y message
-  unfolding marginalOf answerOf told
+  unfolding marginalOf marginalAnswer told
   from-done lm lc e = rw (em, e, padded-is max-size s mean lm, padded-is (max-size * max-size) (s * s) covariance lc)
 
   pub from-pivot : (a : Answer) → a ≡ refusedAs key s ending.Pivot → r ≡ Pivot → a ≡ marginalOf key s y message
-  unfolding marginalOf answerOf told
+  unfolding marginalOf marginalAnswer told
   from-pivot a ea e = ea ∙ rw (em, e)
 
-  pub from-unbounded : (a : Answer) → a ≡ refusedAs key s ending.Unbounded → r ≡ Unbounded → a ≡ marginalOf key s y message
-  unfolding marginalOf answerOf told
+  pub from-unbounded : (a : Answer) → a ≡ refusedAs key s ending.NotFinite → r ≡ NotFinite → a ≡ marginalOf key s y message
+  unfolding marginalOf marginalAnswer told
   from-unbounded a ea e = ea ∙ rw (em, e)

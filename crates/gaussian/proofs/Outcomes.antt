@@ -13,30 +13,30 @@ use Rattle.workspace.specs.declared.Frame.{Frame}
 use Rattle.factor.specs.Limits.{max-variables}
 use Rattle.slots.specs.Layouts.{dimOf, layoutOf}
 use Rattle.slots.specs.Tables.{rowsByAll}
-use Rattle.gaussian.specs.Elimination.{Outcome, pivot, unbounded, message, eliminate, numbersIn}
-use Rattle.gaussian.specs.Answers.{answer, stored, leftIn, viewsOf, marginalFrom, marginalOf, refusedAs}
+use Rattle.gaussian.specs.Elimination.{Outcome, pivot, notFinite, message, eliminate, numbersIn}
+use Rattle.gaussian.specs.Answers.{eliminatedAs, messageStored, leftIn, viewsOf, marginalFrom, marginalOf, refusedAs}
 use Rattle.gaussian.specs.Asked.{Asked, Roomy, Sized}
 use Rattle.gaussian.specs.declared.Eliminated.{Eliminated}
-use Rattle.gaussian.specs.declared.Eliminated.the-variants.{Rows, Pivot, Unbounded}
+use Rattle.gaussian.specs.declared.Eliminated.the-variants.{Rows, Pivot, NotFinite}
 use Rattle.gaussian.specs.declared.marginal.Answer.{Answer}
 use Rattle.gaussian.specs.declared.marginal.Ending.the-variants as ending
 use Rattle.gaussian.proofs.Enough.{enough}
 use Rattle.gaussian.proofs.Listing.{rows-listed}
 use Rattle.gaussian.proofs.Lengths.{message-sized, rows-few}
-use Rattle.slots.specs.Views.{numbersOf}
+use Rattle.slots.specs.Views.{factorNumbers}
 
 -- ---- the answer
 
-pub at-pivot : (o : Outcome) → answer o ≡ Pivot → o ≡ pivot
-unfolding answer
+pub at-pivot : (o : Outcome) → eliminatedAs o ≡ Pivot → o ≡ pivot
+unfolding eliminatedAs
 at-pivot pivot e = refl
-at-pivot unbounded e = cc
+at-pivot notFinite e = cc
 at-pivot (message r a xi w) e = cc
 
-pub at-unbounded : (o : Outcome) → answer o ≡ Unbounded → o ≡ unbounded
-unfolding answer
+pub at-unbounded : (o : Outcome) → eliminatedAs o ≡ NotFinite → o ≡ notFinite
+unfolding eliminatedAs
 at-unbounded pivot e = cc
-at-unbounded unbounded e = refl
+at-unbounded notFinite e = refl
 at-unbounded (message r a xi w) e = cc
 
 -- a message of r rows
@@ -46,28 +46,28 @@ pub record Came (o : Outcome) (r : ℕ) : Type 0 where
   pub w : List Float
   pub is : o ≡ message r a xi w
 
-pub at-rows : (o : Outcome) (r : ℕ) → answer o ≡ Rows r → Came o r
-unfolding answer
+pub at-rows : (o : Outcome) (r : ℕ) → eliminatedAs o ≡ Rows r → Came o r
+unfolding eliminatedAs
 at-rows pivot r e = record { a = []; xi = []; w = []; is = cc }
-at-rows unbounded r e = record { a = []; xi = []; w = []; is = cc }
+at-rows notFinite r e = record { a = []; xi = []; w = []; is = cc }
 at-rows (message k a xi w) r e = let g : k ≡ r = cc in record { a = a; xi = xi; w = w; is = ap (λ (n : ℕ). message n a xi w) g }
 
 -- ---- a refusal
 
-module _ (o : Outcome) (a : Eliminated) (ea : a ≡ answer o) where
-  pub pivot-stored : (l : List Float) (to : ℕ) → a ≡ Pivot → (Pivot ≡ answer o) × (l ≡ stored l to o)
-  unfolding stored
+module _ (o : Outcome) (a : Eliminated) (ea : a ≡ eliminatedAs o) where
+  pub pivot-stored : (l : List Float) (to : ℕ) → a ≡ Pivot → (Pivot ≡ eliminatedAs o) × (l ≡ messageStored l to o)
+  unfolding messageStored
   pivot-stored l to e = (sym e ∙ ea, rw (at-pivot o (sym ea ∙ e)))
 
-  pub unbounded-stored : (l : List Float) (to : ℕ) → a ≡ Unbounded → (Unbounded ≡ answer o) × (l ≡ stored l to o)
-  unfolding stored
+  pub unbounded-stored : (l : List Float) (to : ℕ) → a ≡ NotFinite → (NotFinite ≡ eliminatedAs o) × (l ≡ messageStored l to o)
+  unfolding messageStored
   unbounded-stored l to e = (sym e ∙ ea, rw (at-unbounded o (sym ea ∙ e)))
 
-  pub marginal-pivot : (key s n : ℕ) (x : Answer) → a ≡ Pivot → n ≡ s → x ≡ refusedAs key n ending.Cleared → x ≡ marginalFrom key s o
+  pub marginal-pivot : (key s n : ℕ) (x : Answer) → a ≡ Pivot → n ≡ s → x ≡ refusedAs key n ending.ClearedPivot → x ≡ marginalFrom key s o
   unfolding marginalFrom
   marginal-pivot key s n x e es ex = rw (at-pivot o (sym ea ∙ e), ← es) ex
 
-  pub marginal-unbounded : (key s n : ℕ) (x : Answer) → a ≡ Unbounded → n ≡ s → x ≡ refusedAs key n ending.Unbounded → x ≡ marginalFrom key s o
+  pub marginal-unbounded : (key s n : ℕ) (x : Answer) → a ≡ NotFinite → n ≡ s → x ≡ refusedAs key n ending.NotFinite → x ≡ marginalFrom key s o
   unfolding marginalFrom
   marginal-unbounded key s n x e es ex = rw (at-unbounded o (sym ea ∙ e), ← es) ex
 
@@ -105,7 +105,7 @@ asked-sized {kept} {cleared} {sizes} {factors} {messages} {work} {keys} {heads} 
 
 module _ {kept cleared sizes : List ℕ} {factors messages : List Float} {work : ℕ} {keys heads slots : List ℕ} (len : length sizes ≡ max-variables)
     (q : Asked kept cleared sizes factors messages work keys heads slots) (x : Eliminated)
-    (ex : x ≡ answer (eliminate (viewsOf factors messages keys heads slots) kept cleared sizes)) (r : ℕ) (er : x ≡ Rows r) where
+    (ex : x ≡ eliminatedAs (eliminate (viewsOf factors messages keys heads slots) kept cleared sizes)) (r : ℕ) (er : x ≡ Rows r) where
   came : Came (eliminate (viewsOf factors messages keys heads slots) kept cleared sizes) r
   came = at-rows _ r (sym ex ∙ er)
 
@@ -115,7 +115,7 @@ module _ {kept cleared sizes : List ℕ} {factors messages : List Float} {work :
   pub few-rows : r ≤ dimOf sizes kept
   few-rows = rw (sized .of-rows) (rows-few _ _)
 
-  pub has-room : (to n : ℕ) → Roomy kept cleared sizes keys heads slots to n → to + numbersOf r (dimOf sizes kept) ≤ n
+  pub has-room : (to n : ℕ) → Roomy kept cleared sizes keys heads slots to n → to + factorNumbers r (dimOf sizes kept) ≤ n
   has-room to n h = rw (sized .of-rows) h
 
   module _ (t : List Float) (et : leftIn (dimOf sizes cleared) (dimOf sizes kept) t (eliminate (viewsOf factors messages keys heads slots) kept cleared sizes)
@@ -126,11 +126,11 @@ module _ {kept cleared sizes : List ℕ} {factors messages : List Float} {work :
     standing = rw (came .is) at et
 
     pub message-sent : (l y : List Float) (to : ℕ)
-        → y ≡ splice l to (to + numbersOf r (dimOf sizes kept)) (part t (frameOf (dimOf sizes cleared) r (dimOf sizes kept) .a)
+        → y ≡ splice l to (to + factorNumbers r (dimOf sizes kept)) (part t (frameOf (dimOf sizes cleared) r (dimOf sizes kept) .a)
         (frameOf (dimOf sizes cleared) r (dimOf sizes kept) .end))
-        → (Rows r ≡ answer (eliminate (viewsOf factors messages keys heads slots) kept cleared sizes)) ×
-        (y ≡ stored l to (eliminate (viewsOf factors messages keys heads slots) kept cleared sizes))
-    unfolding stored
+        → (Rows r ≡ eliminatedAs (eliminate (viewsOf factors messages keys heads slots) kept cleared sizes)) ×
+        (y ≡ messageStored l to (eliminate (viewsOf factors messages keys heads slots) kept cleared sizes))
+    unfolding messageStored
     message-sent l y to ey = (
       sym er ∙ ex,
       ey ∙ rw (

@@ -4,7 +4,7 @@ use mathlib.Core.Path.{_≡_, refl}
 use mathlib.Core.List.{List, [], _∷_, _++_, map}
 use lib.Ieee.{Float, binary64, ofBits, toBits}
 use Rattle.slots.specs.Views.{prior, likelihood}
-use Rattle.gaussian.specs.Elimination.{Outcome, pivot, unbounded, message}
+use Rattle.gaussian.specs.Elimination.{Outcome, pivot, notFinite, message}
 use Rattle.gaussian.proofs.Computing.{computed}
 
 abbrev fl : List ℕ → List Float
@@ -13,7 +13,7 @@ fl l = map (ofBits binary64) l
 -- the rows and the bits of A, xi, W; nothing where there is no message
 abbrev bits : Outcome → List ℕ
 bits pivot = []
-bits unbounded = []
+bits notFinite = []
 bits (message r a xi w) = r ∷ map (toBits binary64) (a ++ (xi ++ w))
 
 -- a refused pivot

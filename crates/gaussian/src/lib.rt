@@ -30,20 +30,20 @@ ghost use Rattle.workspace.specs.Frames.{frameOf, work-numbers};
 ghost use Rattle.factor.specs.Limits.{max-total};
 ghost use Rattle.slots.specs.Limits.{scratch-numbers};
 ghost use Rattle.slots.specs.Layouts.{dimOf};
-ghost use Rattle.slots.specs.Views.{rowsOfAll, withViews, numbersOf};
+ghost use Rattle.slots.specs.Views.{rowsOfAll, withViews, factorNumbers};
 ghost use Rattle.slots.specs.Tables.{headOf, viewAt};
-ghost use Rattle.slots.specs.Fitting.{Ready, Counted};
-ghost use Rattle.gaussian.specs.Elimination.{branchOf, messageRows, begun, filled, lost, finished, run, eliminate, numbersIn};
-ghost use Rattle.gaussian.specs.Answers.{endedAs, answer, stored, leftIn, viewsOf, branchedAt};
-ghost use Rattle.gaussian.specs.Asked.{Asked, Roomy, Whole};
-ghost use Rattle.gaussian.specs.Told.{eliminatedTold, outcomeTold};
-ghost use Rattle.workspace.specs.Parts.{Laid, cut};
+ghost use Rattle.slots.specs.Fitting.{SlotReady, Counted};
+ghost use Rattle.gaussian.specs.Elimination.{branchOf, messageRows, begun, filled, lost, factorised, inBranch, eliminate, numbersIn};
+ghost use Rattle.gaussian.specs.Answers.{endedAs, eliminatedAs, messageStored, leftIn, viewsOf, branchedAt};
+ghost use Rattle.gaussian.specs.Asked.{Asked, Roomy, SlotsAsked};
+ghost use Rattle.gaussian.specs.Told.{eliminatedTold, messageTold};
+ghost use Rattle.workspace.specs.Parts.{FrameLaid, matricesIn};
 
 // How an elimination ended: with a message of so many rows, at a refused pivot of the cleared block, or with a message that is not finite.
 pub enum Eliminated {
     Rows(usize),
     Pivot,
-    Unbounded,
+    NotFinite,
 }
 
 // The branch of y rows over d kept columns: z where y is at most d, and x otherwise.
@@ -65,8 +65,8 @@ pub fn message_rows(y: usize, d: usize) -> usize
 
 // All sums are zero; in x A is the identity. What the frame doesn't reach stays as it is.
 fn begin_sums(work: &mut [f64], f: Frame, branch: Branch)
-    requires { ⌜ Laid f (length (now work)) × (branch ≡ Branch.X → f .rows ≡ f .kept) ⌝ }
-    ensures { λ _. ⌜ cut f (now (work .exit)) ≡ begun branch f ⌝ }
+    requires { ⌜ FrameLaid f (length (now work)) × (branch ≡ Branch.X → f .rows ≡ f .kept) ⌝ }
+    ensures { λ _. ⌜ matricesIn f (now (work .exit)) ≡ begun branch f ⌝ }
 {
     let p = 0;
     let q = f.end;
@@ -96,12 +96,12 @@ fn sum_up<'a>(
     heads: &[usize],
     slots: &[usize],
 )
-    requires { ⌜ Laid f (length (now work)) × (branch ≡ Branch.X → f .rows ≡ f .kept) ⌝ }
+    requires { ⌜ FrameLaid f (length (now work)) × (branch ≡ Branch.X → f .rows ≡ f .kept) ⌝ }
     requires { ⌜ Counted (now keys) (now heads) (now slots) ⌝ }
     requires { ⌜ ((i : ℕ) → i < length (now slots)
-        → Ready f layout branch (rowsOfAll layout (viewAt (now factors) (now messages) (now keys) (now heads) (now slots)) i)
+        → SlotReady f layout branch (rowsOfAll layout (viewAt (now factors) (now messages) (now keys) (now heads) (now slots)) i)
         (now factors) (now messages) (now keys) scratch-numbers (headOf (now heads) (getD (now slots) i 0))) ⌝ }
-    ensures { λ _. ⌜ cut f (now (work .exit))
+    ensures { λ _. ⌜ matricesIn f (now (work .exit))
         ≡ withViews branch f layout (viewAt (now (factors .entry)) (now (messages .entry)) (now (keys .entry)) (now (heads .entry)) (now (slots .entry)))
         (begun branch f) (length (now (slots .entry))) ⌝ }
 {
@@ -123,8 +123,8 @@ fn sum_up<'a>(
 
 // In x only the lower triangle of W has been summed: the upper one is filled from it.
 fn fill_upper_in_x(work: &mut [f64], f: Frame, branch: Branch)
-    requires { ⌜ Laid f (length (now work)) ⌝ }
-    ensures { λ _. ⌜ cut f (now (work .exit)) ≡ change Part.W (λ c. filled branch (f .rows) c) (cut f (now (work .entry))) ⌝ }
+    requires { ⌜ FrameLaid f (length (now work)) ⌝ }
+    ensures { λ _. ⌜ matricesIn f (now (work .exit)) ≡ change Part.W (λ c. filled branch (f .rows) c) (matricesIn f (now (work .entry))) ⌝ }
 {
     match branch {
         Branch::Z => {}
@@ -134,8 +134,8 @@ fn fill_upper_in_x(work: &mut [f64], f: Frame, branch: Branch)
 
 // With L in S: h and G are solved, and xi and W lose G'h and G'G.
 fn lose(work: &mut [f64], f: Frame, branch: Branch)
-    requires { ⌜ Laid f (length (now work)) ⌝ }
-    ensures { λ _. ⌜ cut f (now (work .exit)) ≡ lost branch f (cut f (now (work .entry))) ⌝ }
+    requires { ⌜ FrameLaid f (length (now work)) ⌝ }
+    ensures { λ _. ⌜ matricesIn f (now (work .exit)) ≡ lost branch f (matricesIn f (now (work .entry))) ⌝ }
 {
     solve_at(work, f, Part::H, 1);
     solve_at(work, f, Part::G, f.rows);
@@ -146,15 +146,15 @@ fn lose(work: &mut [f64], f: Frame, branch: Branch)
 
 // The cleared block is factored, and the cleared keys go.
 fn finish(work: &mut [f64], f: Frame, branch: Branch) -> Factored
-    requires { ⌜ Laid f (length (now work)) ⌝ }
-    ensures { λ r. ⌜ finished branch f (cut f (now (work .entry))) ≡ endedAs r (cut f (now (work .exit))) ⌝ }
+    requires { ⌜ FrameLaid f (length (now work)) ⌝ }
+    ensures { λ r. ⌜ factorised branch f (matricesIn f (now (work .entry))) ≡ endedAs r (matricesIn f (now (work .exit))) ⌝ }
 {
     match cholesky_at(work, f) {
         Factored::Done => {
             lose(work, f, branch);
             Factored::Done
         }
-        Factored::Stopped => Factored::Stopped,
+        Factored::Refused => Factored::Refused,
     }
 }
 
@@ -170,18 +170,20 @@ fn eliminate_to<'a>(
     heads: &[usize],
     slots: &[usize],
 ) -> Eliminated
-    requires { ⌜ Laid f (length (now work)) × (branch ≡ Branch.X → f .rows ≡ f .kept) ⌝ }
+    requires { ⌜ FrameLaid f (length (now work)) × (branch ≡ Branch.X → f .rows ≡ f .kept) ⌝ }
     requires { ⌜ Counted (now keys) (now heads) (now slots) ⌝ }
     requires { ⌜ ((i : ℕ) → i < length (now slots)
-        → Ready f layout branch (rowsOfAll layout (viewAt (now factors) (now messages) (now keys) (now heads) (now slots)) i)
+        → SlotReady f layout branch (rowsOfAll layout (viewAt (now factors) (now messages) (now keys) (now heads) (now slots)) i)
         (now factors) (now messages) (now keys) scratch-numbers (headOf (now heads) (getD (now slots) i 0))) ⌝ }
     ensures { λ r. ⌜ r
-        ≡ answer (run branch f layout (viewAt (now (factors .entry)) (now (messages .entry)) (now (keys .entry)) (now (heads .entry)) (now (slots .entry)))
+        ≡ eliminatedAs
+        (inBranch branch f layout (viewAt (now (factors .entry)) (now (messages .entry)) (now (keys .entry)) (now (heads .entry)) (now (slots .entry)))
         (length (now (slots .entry)))) ⌝ }
     ensures { λ _. ⌜ leftIn (f .cleared) (f .kept) (now (work .exit))
-        (run branch f layout (viewAt (now (factors .entry)) (now (messages .entry)) (now (keys .entry)) (now (heads .entry)) (now (slots .entry)))
+        (inBranch branch f layout (viewAt (now (factors .entry)) (now (messages .entry)) (now (keys .entry)) (now (heads .entry)) (now (slots .entry)))
         (length (now (slots .entry))))
-        ≡ numbersIn (run branch f layout (viewAt (now (factors .entry)) (now (messages .entry)) (now (keys .entry)) (now (heads .entry)) (now (slots .entry)))
+        ≡ numbersIn
+        (inBranch branch f layout (viewAt (now (factors .entry)) (now (messages .entry)) (now (keys .entry)) (now (heads .entry)) (now (slots .entry)))
         (length (now (slots .entry)))) ⌝ }
 {
     sum_up(
@@ -197,12 +199,12 @@ fn eliminate_to<'a>(
     );
     match finish(work, f, branch) {
         Factored::Done => {}
-        Factored::Stopped => return Eliminated::Pivot,
+        Factored::Refused => return Eliminated::Pivot,
     }
     let p = f.a;
     let q = f.end;
     if !matrix::finite(&work[p..q]) {
-        return Eliminated::Unbounded;
+        return Eliminated::NotFinite;
     }
     Eliminated::Rows(f.rows)
 }
@@ -219,9 +221,9 @@ fn eliminate_by<'a>(
     heads: &[usize],
     slots: &[usize],
 ) -> Eliminated
-    requires { ⌜ Whole u d layout (now factors) (now messages) (length (now work)) (now keys) (now heads) (now slots) ⌝ }
+    requires { ⌜ SlotsAsked u d layout (now factors) (now messages) (length (now work)) (now keys) (now heads) (now slots) ⌝ }
     ensures { λ r. ⌜ r
-        ≡ answer (branchedAt u d layout (now (factors .entry)) (now (messages .entry)) (now (keys .entry)) (now (heads .entry)) (now (slots .entry))) ⌝ }
+        ≡ eliminatedAs (branchedAt u d layout (now (factors .entry)) (now (messages .entry)) (now (keys .entry)) (now (heads .entry)) (now (slots .entry))) ⌝ }
     ensures { λ _. ⌜ leftIn u d (now (work .exit))
         (branchedAt u d layout (now (factors .entry)) (now (messages .entry)) (now (keys .entry)) (now (heads .entry)) (now (slots .entry)))
         ≡ numbersIn (branchedAt u d layout (now (factors .entry)) (now (messages .entry)) (now (keys .entry)) (now (heads .entry)) (now (slots .entry))) ⌝ }
@@ -257,7 +259,7 @@ pub fn eliminate_in<'a>(
 ) -> Eliminated
     requires { ⌜ Asked (now kept) (now cleared) sizes (now factors) (now messages) (length (now work)) (now keys) (now heads) (now slots) ⌝ }
     ensures { λ r. ⌜ r
-        ≡ answer (eliminate (viewsOf (now (factors .entry)) (now (messages .entry)) (now (keys .entry)) (now (heads .entry)) (now (slots .entry)))
+        ≡ eliminatedAs (eliminate (viewsOf (now (factors .entry)) (now (messages .entry)) (now (keys .entry)) (now (heads .entry)) (now (slots .entry)))
         (now (kept .entry)) (now (cleared .entry)) sizes) ⌝ }
     ensures { λ _. ⌜ leftIn (dimOf sizes (now (cleared .entry))) (dimOf sizes (now (kept .entry))) (now (work .exit))
         (eliminate (viewsOf (now (factors .entry)) (now (messages .entry)) (now (keys .entry)) (now (heads .entry)) (now (slots .entry)))
@@ -274,9 +276,9 @@ pub fn eliminate_in<'a>(
 // The message of so many rows that stands in the work store goes into the message store from a place on.
 fn send(messages: &mut [f64], to: usize, work: &[f64], u: usize, rows: usize, d: usize)
     requires { ⌜ (u + d ≤ max-total) × (rows ≤ d) × (work-numbers ≤ length (now work)) ⌝ }
-    requires { ⌜ to + numbersOf rows d ≤ length (now messages) ⌝ }
+    requires { ⌜ to + factorNumbers rows d ≤ length (now messages) ⌝ }
     ensures { λ _. ⌜ now (messages .exit)
-        ≡ splice (now (messages .entry)) to (to + numbersOf rows d) (part (now (work .entry)) (frameOf u rows d .a) (frameOf u rows d .end)) ⌝ }
+        ≡ splice (now (messages .entry)) to (to + factorNumbers rows d) (part (now (work .entry)) (frameOf u rows d .a) (frameOf u rows d .end)) ⌝ }
 {
     let f = frame_of(u, rows, d);
     let p = f.a;
@@ -285,7 +287,7 @@ fn send(messages: &mut [f64], to: usize, work: &[f64], u: usize, rows: usize, d:
     copy(&mut messages[to..e], &work[p..q]);
 }
 
-// The same elimination; the message goes into the message store from a place on.
+// `eliminate_in`, with the message copied into the message store from a place on.
 pub fn eliminate_slots(
     factors: &[f64],
     messages: &mut [f64],
@@ -301,14 +303,14 @@ pub fn eliminate_slots(
     requires { ⌜ Asked (now kept) (now cleared) sizes (now factors) (now messages) (length (now work)) (now keys) (now heads) (now slots) ⌝ }
     requires { ⌜ Roomy (now kept) (now cleared) sizes (now keys) (now heads) (now slots) to (length (now messages)) ⌝ }
     ensures { λ r. ⌜ r
-        ≡ answer (eliminate (viewsOf (now (factors .entry)) (now (messages .entry)) (now (keys .entry)) (now (heads .entry)) (now (slots .entry)))
+        ≡ eliminatedAs (eliminate (viewsOf (now (factors .entry)) (now (messages .entry)) (now (keys .entry)) (now (heads .entry)) (now (slots .entry)))
         (now (kept .entry)) (now (cleared .entry)) sizes) ⌝ }
     ensures { λ _. ⌜ now (messages .exit)
-        ≡ stored (now (messages .entry)) to
+        ≡ messageStored (now (messages .entry)) to
         (eliminate (viewsOf (now (factors .entry)) (now (messages .entry)) (now (keys .entry)) (now (heads .entry)) (now (slots .entry)))
         (now (kept .entry)) (now (cleared .entry)) sizes) ⌝ }
     ensures { λ r. ⌜ eliminatedTold r
-        ≡ outcomeTold (eliminate (viewsOf (now (factors .entry)) (now (messages .entry)) (now (keys .entry)) (now (heads .entry)) (now (slots .entry)))
+        ≡ messageTold (eliminate (viewsOf (now (factors .entry)) (now (messages .entry)) (now (keys .entry)) (now (heads .entry)) (now (slots .entry)))
         (now (kept .entry)) (now (cleared .entry)) sizes) ⌝ }
 {
     match eliminate_in(
@@ -329,6 +331,6 @@ pub fn eliminate_slots(
             Eliminated::Rows(rows)
         }
         Eliminated::Pivot => Eliminated::Pivot,
-        Eliminated::Unbounded => Eliminated::Unbounded,
+        Eliminated::NotFinite => Eliminated::NotFinite,
     }
 }

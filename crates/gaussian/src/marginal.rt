@@ -21,7 +21,7 @@ ghost use Rattle.gaussian.specs.Answers.{viewsOf, marginalFrom, marginal
 ghost use Rattle.gaussian.specs.Asked.{Asked};
 ghost use Rattle.gaussian.specs.Marginals.{momentsOf};
 ghost use Rattle.gaussian.specs.Told.{solvedTold, endingTold, momentsTold, lastTold};
-ghost use Rattle.slots.specs.Views.{numbersOf};
+ghost use Rattle.slots.specs.Views.{factorNumbers};
 ghost use Rattle.cholesky.specs.Answers.{told};
 
 // The numbers of a matrix of as many rows and columns as the largest variable has.
@@ -38,9 +38,9 @@ pub struct Marginal {
 // How the making of a marginal ended: with numbers, at a refused pivot of the cleared block or of the message's own W, or with a number that is not finite.
 pub enum Ending {
     Done,
-    Cleared,
+    ClearedPivot,
     Pivot,
-    Unbounded,
+    NotFinite,
 }
 
 // The ending, and the marginal; refused, it holds zeros.
@@ -99,7 +99,7 @@ fn refused(key: usize, size: usize, ending: Ending) -> Answer
 impl Marginal {
     // The marginal of a key of size s from the message of so many rows that keeps it alone: A, xi and W stand at the start of the part lent.
     pub fn from(key: usize, size: usize, rows: usize, message: &[f64]) -> Answer
-        requires { ⌜ (size ≤ max-size) × (rows ≤ max-total) × (numbersOf rows size ≤ length (now message)) ⌝ }
+        requires { ⌜ (size ≤ max-size) × (rows ≤ max-total) × (factorNumbers rows size ≤ length (now message)) ⌝ }
         ensures { λ r. ⌜ r ≡ marginalOf key size rows (now (message .entry)) ⌝ }
         ensures { λ r. ⌜ endingTold (r .ending) ≡ momentsTold (momentsIn rows size (now (message .entry))) ⌝ }
     {
@@ -125,7 +125,7 @@ impl Marginal {
         ) {
             Exchanged::Done => {}
             Exchanged::Pivot => return refused(key, size, Ending::Pivot),
-            Exchanged::Unbounded => return refused(key, size, Ending::Unbounded),
+            Exchanged::NotFinite => return refused(key, size, Ending::NotFinite),
         }
         Answer {
             ending: Ending::Done,
@@ -181,7 +181,7 @@ pub fn marginalize<'a>(
             let q = f.end;
             Marginal::from(key, size, rows, &work[p..q])
         }
-        Eliminated::Pivot => refused(key, size, Ending::Cleared),
-        Eliminated::Unbounded => refused(key, size, Ending::Unbounded),
+        Eliminated::Pivot => refused(key, size, Ending::ClearedPivot),
+        Eliminated::NotFinite => refused(key, size, Ending::NotFinite),
     }
 }

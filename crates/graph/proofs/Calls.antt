@@ -9,8 +9,8 @@ use Rattle.factor.specs.Limits.{max-keys}
 use Rattle.factor.specs.Factor.{priorOf, observationOf}
 use Rattle.factor.specs.declared.Factor.{Factor}
 use Rattle.graph.specs.Record.{sizeAt, fresh}
-use Rattle.graph.specs.Registration.{refused, withVariable, Verdict, accept, settle, stored, addPrior, priorStore, addObservation, observationStore}
-use Rattle.graph.specs.Reached.{Call, prior, observation, variable, register, answered, after, lent, storeAfter, given, yields, Reached}
+use Rattle.graph.specs.Registration.{refused, withVariable, FactorVerdict, accept, settle, stored, addPrior, priorStore, addObservation, observationStore}
+use Rattle.graph.specs.Reached.{Call, prior, observation, variable, register, answered, graphAfter, lent, storeAfter, keysGiven, yields, Reached}
 use Rattle.graph.specs.declared.Symbol.{Symbol}
 use Rattle.graph.specs.declared.Graph.{Graph}
 use Rattle.graph.specs.declared.Added.{Added}
@@ -26,25 +26,25 @@ pub data Comes (g : Graph) (keys : List ℕ) (store : List Float) : Added → Li
   taken : (f : Factor) (a mean variance xi w : List Float) → Taken g f a mean variance store xi w → take (f .touched) (f .keys) ≡ keys
       → Comes g keys store (settle g f (accept (a ++ xi ++ w))) (stored g store (accept (a ++ xi ++ w)))
 
-pub comes : (g : Graph) (store : List Float) (c : Call) → Comes g (given c) (lent store c) (answered g c) (storeAfter g store c)
+pub comes : (g : Graph) (store : List Float) (c : Call) → Comes g (keysGiven c) (lent store c) (answered g c) (storeAfter g store c)
 unfolding addPrior priorStore addObservation observationStore
 comes g store (variable name size) = variable-cases g name size (λ (x : Added). Comes g [] store x store) turned (λ n. named name size n)
 comes g store (register (prior key mean variance) own) =
-    prior-cases g key mean variance own (λ (v : Verdict). Comes g (key ∷ []) own (settle g (priorOf key (sizeAt g key)) v) (stored g own v)) turned
+    prior-cases g key mean variance own (λ (v : FactorVerdict). Comes g (key ∷ []) own (settle g (priorOf key (sizeAt g key)) v) (stored g own v)) turned
     (λ xi w t. taken _ [] mean variance xi w t refl)
 comes g store (register (observation keys rows a mean variance) own) =
-    observation-cases g keys rows a mean variance own (λ (v : Verdict). Comes g keys own (settle g (observationOf keys rows) v) (stored g own v)) turned
+    observation-cases g keys rows a mean variance own (λ (v : FactorVerdict). Comes g keys own (settle g (observationOf keys rows) v) (stored g own v)) turned
     (λ xi w t. taken _ a mean variance xi w t (take-append-seam keys (replicate (max-keys - length keys) 0)))
 
 -- ---- one call more
 
-yields-more : (cs : List Call) (g : Graph) (c : Call) → yields g (cs ++ (c ∷ [])) ≡ after (yields g cs) c
+yields-more : (cs : List Call) (g : Graph) (c : Call) → yields g (cs ++ (c ∷ [])) ≡ graphAfter (yields g cs) c
 unfolding yields
 yields-more [] g c = refl
-yields-more (b ∷ cs) g c = yields-more cs (after g b) c
+yields-more (b ∷ cs) g c = yields-more cs (graphAfter g b) c
 
-pub reached-more : (g h : Graph) (c : Call) → Reached g → after g c ≡ h → Reached h
-reached-more g h c r e = (r .0 ++ (c ∷ []), yields-more (r .0) fresh c ∙ ap (λ (x : Graph). after x c) (r .1) ∙ e)
+pub reached-more : (g h : Graph) (c : Call) → Reached g → graphAfter g c ≡ h → Reached h
+reached-more g h c r e = (r .0 ++ (c ∷ []), yields-more (r .0) fresh c ∙ ap (λ (x : Graph). graphAfter x c) (r .1) ∙ e)
 
 pub fresh-reached : Reached fresh
 unfolding yields

@@ -8,13 +8,13 @@ use lib.Ieee.{Float}
 use lib.ListN.{length}
 use Rattle.factor.specs.Limits.{max-factors, max-rows}
 use Rattle.factor.specs.Factor.{numbers, lengthsFit, givenFinite}
-use Rattle.cholesky.specs.Forms.{Form, form, noPivot, noNumber, exchanged}
-use Rattle.factor.specs.Storing.{laid, Room}
+use Rattle.cholesky.specs.Forms.{Form, form, pivot, notFinite, exchanged}
+use Rattle.factor.specs.Storing.{formLaid, FactorRoom}
 use Rattle.factor.specs.declared.Factor.{Factor}
 use Rattle.cholesky.specs.declared.exchange.Exchanged.{Exchanged}
-use Rattle.cholesky.specs.declared.exchange.Exchanged.the-variants.{Done, Pivot, Unbounded}
+use Rattle.cholesky.specs.declared.exchange.Exchanged.the-variants as cholesky
 use Rattle.graph.specs.Record.{offset}
-use Rattle.graph.specs.Registration.{Verdict, refuse, refused, withFactor, settle, stored, weighedVerdict}
+use Rattle.graph.specs.Registration.{FactorVerdict, refuse, refused, withFactor, settle, stored, weighedVerdict}
 use Rattle.graph.specs.declared.Graph.{Graph}
 use Rattle.graph.specs.declared.Added.{Added}
 use Rattle.graph.specs.declared.Outcome.the-variants.{Number}
@@ -24,7 +24,8 @@ use Rattle.graph.proofs.Checking.{Passed, checks, weighs, a-long, mean-
 use Rattle.cholesky.specs.Answers.{endOf}
 
 -- a refusal answers the graph as it came, and leaves the store
-pub turned-back : (g : Graph) (f : Factor) (store s : List Float) (v : Verdict) (why : Refusal) (r : Added) → v ≡ refuse why → r ≡ refused g why → s ≡ store
+pub turned-back : (g : Graph) (f : Factor) (store s : List Float) (v : FactorVerdict) (why : Refusal) (r : Added) → v ≡ refuse why → r ≡ refused g why
+    → s ≡ store
     → (r ≡ settle g f v) × (s ≡ stored g store v)
 turned-back g f store s v why r e h k = rw e (h, k)
 
@@ -40,7 +41,7 @@ module _ (g : Graph) (f : Factor) (a mean variance store : List Float)
   long = mean-long g f _ _ _ h5
 
   -- there is room for the numbers
-  pub room-for : f .rows ≤ max-rows → Room (length mean) start a mean variance store
+  pub room-for : f .rows ≤ max-rows → FactorRoom (length mean) start a mean variance store
   unfolding numbers
   room-for most =
       let s : f .rows * f .rows ≡ length mean * length mean = ap (λ (y : ℕ). y * y) (sym long) in
@@ -49,18 +50,19 @@ module _ (g : Graph) (f : Factor) (a mean variance store : List Float)
   module _ (s : List Float) where
     -- the answer and the store, by how the weighing ended
     abbrev pub Ends : Exchanged → Type 0
-    Ends Done = (_≡_ {A = Added} record { graph = withFactor g f; outcome = Number (g .count) } (settle g f (checks g f a mean variance store))) ×
+    Ends cholesky.Done = (_≡_ {A = Added} record { graph = withFactor g f; outcome = Number (g .count) } (settle g f (checks g f a mean variance store))) ×
         (s ≡ stored g store (checks g f a mean variance store))
-    Ends Pivot = (checks g f a mean variance store ≡ refuse VariancePivot) × (s ≡ store)
-    Ends Unbounded = (checks g f a mean variance store ≡ refuse NotFinite) × (s ≡ store)
+    Ends cholesky.Pivot = (checks g f a mean variance store ≡ refuse VariancePivot) × (s ≡ store)
+    Ends cholesky.NotFinite = (checks g f a mean variance store ≡ refuse NotFinite) × (s ≡ store)
 
-    ends : (v : Form) → checks g f a mean variance store ≡ weighedVerdict a v → s ≡ laid v a store start → Ends (endOf v)
+    ends : (v : Form) → checks g f a mean variance store ≡ weighedVerdict a v → s ≡ formLaid v a store start → Ends (endOf v)
     unfolding endOf
     ends (form xi w) c l = rw (c, ← es) (refl, l)
-    ends noPivot c l = (c, l)
-    ends noNumber c l = (c, l)
+    ends pivot c l = (c, l)
+    ends notFinite c l = (c, l)
 
-    pub ended : (r : Exchanged) → r ≡ endOf (exchanged (length mean) mean variance) → s ≡ laid (exchanged (length mean) mean variance) a store start → Ends r
+    pub ended : (r : Exchanged) → r ≡ endOf (exchanged (length mean) mean variance) → s
+        ≡ formLaid (exchanged (length mean) mean variance) a store start → Ends r
     ended r e l =
         let c = weighs g f a mean variance store passed ∙ ap (λ (y : ℕ). weighedVerdict a (exchanged y mean variance)) (sym long) in
         subst Ends (sym e) (ends (exchanged (length mean) mean variance) c l)

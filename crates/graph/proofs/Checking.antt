@@ -11,12 +11,12 @@ use lib.ListN.{length}
 use Rattle.factor.specs.Limits.{max-variables, max-total, max-factors, max-keys, max-rows}
 use Rattle.factor.specs.Counting.{every}
 use Rattle.factor.specs.Factor.{rising, known, priorOf, observationOf, fits, aNumbers, lengthsFit, givenFinite, numbers}
-use Rattle.cholesky.specs.Forms.{Form, form, noPivot, noNumber, exchanged}
+use Rattle.cholesky.specs.Forms.{Form, form, pivot, notFinite, exchanged}
 use Rattle.factor.specs.declared.Factor.{Factor}
 use Rattle.factor.proofs.Counting.{every-at}
 use Rattle.factor.proofs.Fitting.{prior-fits, observation-fits, observation-long}
 use Rattle.graph.specs.Record.{sizeAt, scalar, sizeFits, free, total, offset, valid}
-use Rattle.graph.specs.Registration.{refused, withVariable, addVariable, Verdict, accept, refuse, weighedVerdict, factorVerdict, priorVerdict}
+use Rattle.graph.specs.Registration.{refused, withVariable, addVariable, FactorVerdict, accept, refuse, weighedVerdict, factorVerdict, priorVerdict}
 use Rattle.graph.specs.Registration.{countsFit, observationVerdict}
 use Rattle.graph.specs.declared.Symbol.{Symbol}
 use Rattle.graph.specs.declared.Graph.{Graph}
@@ -113,7 +113,7 @@ pub record Passed (g : Graph) (f : Factor) (a mean variance store : List Float) 
   pub finite : givenFinite a mean variance ≡ true
 
 module _ (g : Graph) (f : Factor) (a mean variance store : List Float) where
-  abbrev pub checks : Verdict
+  abbrev pub checks : FactorVerdict
   checks = factorVerdict g f a mean variance store
 
   pub unlike : lengthsFit (g .sizes) f (length a) (length mean) (length variance) ≡ false → checks ≡ refuse LengthUnlike
@@ -138,11 +138,11 @@ module _ (g : Graph) (f : Factor) (a mean variance store : List Float) where
   unfolding factorVerdict
   weighs p = rw (p .lengths, lt-ltb _ _ (p .few), le-leb _ _ (p .room), p .finite)
 
-  module _ (P : Verdict → Type 0) (back : (why : Refusal) → P (refuse why)) where
+  module _ (P : FactorVerdict → Type 0) (back : (why : Refusal) → P (refuse why)) where
     weighed-cases : (v : Form) → ((xi w : List Float) → v ≡ form xi w → P (accept (a ++ xi ++ w))) → P (weighedVerdict a v)
     weighed-cases (form xi w) taken = taken xi w refl
-    weighed-cases noPivot taken = back _
-    weighed-cases noNumber taken = back _
+    weighed-cases pivot taken = back _
+    weighed-cases notFinite taken = back _
 
     pub factor-cases : (Passed g f a mean variance store → (xi w : List Float) → exchanged (f .rows) mean variance ≡ form xi w
         → P (accept (a ++ xi ++ w))) → P checks
@@ -196,7 +196,7 @@ module _ (g : Graph) (key : ℕ) (mean variance store : List Float) where
     unfolding priorVerdict
     prior-as l = rw (h30, lt-ltb _ _ l)
 
-  pub prior-cases : (P : Verdict → Type 0) → ((why : Refusal) → P (refuse why))
+  pub prior-cases : (P : FactorVerdict → Type 0) → ((why : Refusal) → P (refuse why))
       → ((xi w : List Float) → Taken g (priorOf key (sizeAt g key)) [] mean variance store xi w → P (accept ([] ++ xi ++ w)))
       → P (priorVerdict g key mean variance store)
   prior-cases P back taken =
@@ -230,7 +230,7 @@ pub counted-fits : (g : Graph) (keys : List ℕ) (rows : ℕ) → countsFit (len
 counted-fits g keys rows h4 h3 h11 = observation-fits keys (g .sizes) (g .variables) rows (few-keys _ _ h4) (some-rows _ _ h4) (most-rows _ _ h4) h3 h11
 
 module _ (g : Graph) (keys : List ℕ) (rows : ℕ) (a mean variance store : List Float) where
-  abbrev judged : Verdict
+  abbrev judged : FactorVerdict
   judged = observationVerdict g keys rows a mean variance store
 
   no-graph-observation : valid g ≡ false → judged ≡ refuse NoSuchGraph
@@ -256,7 +256,7 @@ module _ (g : Graph) (keys : List ℕ) (rows : ℕ) (a mean variance store : Lis
         unfolding observationVerdict
         observation-as h11 = rw (h30, h4, h3, h11)
 
-  pub observation-cases : (P : Verdict → Type 0) → ((why : Refusal) → P (refuse why))
+  pub observation-cases : (P : FactorVerdict → Type 0) → ((why : Refusal) → P (refuse why))
       → ((xi w : List Float) → Taken g (observationOf keys rows) a mean variance store xi w → P (accept (a ++ xi ++ w)))
       → P judged
   observation-cases P back taken =

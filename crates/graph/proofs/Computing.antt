@@ -3,7 +3,8 @@ use mathlib.Core.Bool.{Bool}
 use Rattle.cholesky.proofs.Computing.{computedExchange}
 use Rattle.factor.specs.Counting.{every, all, sum}
 use Rattle.factor.specs.Factor.{above, keyFits, rowsFit, fits, isClear, firstColumn, aNumbers, numbers, lengthsFit, givenFinite}
-use Rattle.graph.specs.Record.{scalar, sizeFits, same, free, total, registered, clear, place, variablesFit, factorPlace, factorsFit, offset, valid}
+use Rattle.graph.specs.Record.{scalar, sizeFits, same, free, total, registered, clear, variablePlace, variablesFit, factorPlace, factorsFit}
+use Rattle.graph.specs.Record.{offset, valid}
 use Rattle.graph.specs.Registration.{addVariable, factorVerdict, priorVerdict, addPrior, priorStore, countsFit, observationVerdict}
 use Rattle.graph.specs.Registration.{addObservation, observationStore}
 use Rattle.graph.specs.Reached.{Call, answered}
@@ -12,7 +13,7 @@ use Rattle.graph.specs.declared.Added.{Added}
 
 -- the test of a record
 unfoldable pub computedTest : Graph → Bool
-unfolding valid every all variablesFit factorsFit place registered clear same factorPlace fits keyFits rowsFit isClear above total sum scalar sizeFits free offset numbers aNumbers firstColumn
+unfolding valid every all variablesFit factorsFit variablePlace registered clear same factorPlace fits keyFits rowsFit isClear above total sum scalar sizeFits free offset numbers aNumbers firstColumn
 computedTest g = valid g
 
 unfoldable pub computedCall : Graph → Call → Added

@@ -10,14 +10,14 @@ use native.Mathlib.Omega.{arith}
 use lib.ListN.{length, replicate}
 use Rattle.factor.specs.Limits.{max-variables, max-total, max-factors, max-keys}
 use Rattle.factor.specs.Counting.{every, sum}
-use Rattle.factor.specs.Factor.{keyAt, noFactor, past}
+use Rattle.factor.specs.Factor.{keyAt, noFactor, absent}
 use Rattle.factor.specs.declared.Factor.{Factor}
 use Rattle.factor.proofs.Counting.{every-at, sum-le, sum-more, sum-ext, sum-stop}
 use Rattle.factor.proofs.Fitting.{fits-touched, fits-key, prior-touched, prior-is, some-rows, few-rows, touches, touches-long, touches-rising}
 use Rattle.factor.proofs.Fitting.{touches-known, observation-is, clear-is}
 use Rattle.graph.specs.Record.{noName, nameAt, sizeAt, factorAt, scalar, sizeFits, free, total, registered, valid}
 use Rattle.graph.specs.Registration.{withFactor}
-use Rattle.graph.specs.Reached.{Call, variable, after, yields, Reached}
+use Rattle.graph.specs.Reached.{Call, variable, graphAfter, yields, Reached}
 use Rattle.graph.specs.declared.Graph.{Graph}
 use Rattle.graph.proofs.Calls.{reached-more}
 use Rattle.graph.proofs.Filling.{fill, fill-set, fill-below, fill-above, fill-all}
@@ -51,7 +51,7 @@ module _ (g : Graph) (sh : Shaped g) (so : Sound g) where
       let a : sum (λ i. sizeAt g i) (k + 1) ≤ sum (λ i. sizeAt g i) max-variables = sum-le (λ i. sizeAt g i) (k + 1) max-variables (omega arith) in
       omega (arith, so .room, sum-more (λ i. sizeAt g i) k, total-of k (omega arith))
 
-  next-variable : (k : ℕ) → k < g .variables → valid (vars k) ≡ true → after (vars k) (variable (nameAt g k) (sizeAt g k)) ≡ vars (k + 1)
+  next-variable : (k : ℕ) → k < g .variables → valid (vars k) ≡ true → graphAfter (vars k) (variable (nameAt g k) (sizeAt g k)) ≡ vars (k + 1)
   unfolding registered
   next-variable k l v =
       let m : g .variables ≤ max-variables = so .few in
@@ -93,7 +93,7 @@ module _ (g : Graph) (sh : Shaped g) (so : Sound g) where
         symbols = g .symbols;
         sizes = g .sizes;
         variables = g .variables;
-        factors = fill (g .factors) max-factors (sh .factors) noFactor past k;
+        factors = fill (g .factors) max-factors (sh .factors) noFactor absent k;
         count = k;
       }
 
@@ -115,7 +115,7 @@ module _ (g : Graph) (sh : Shaped g) (so : Sound g) where
         symbols = g .symbols;
         sizes = g .sizes;
         variables = g .variables;
-        factors = fill-all (g .factors) max-factors (sh .factors) noFactor past (g .count) m
+        factors = fill-all (g .factors) max-factors (sh .factors) noFactor absent (g .count) m
             (λ j a b. clear-is (factorAt g j) (sh .keys j b) (so .none j a b)) i;
         count = g .count;
       }
@@ -129,17 +129,17 @@ module _ (g : Graph) (sh : Shaped g) (so : Sound g) where
         symbols = g .symbols;
         sizes = g .sizes;
         variables = g .variables;
-        factors = fill-set (g .factors) max-factors (sh .factors) noFactor past k b i;
+        factors = fill-set (g .factors) max-factors (sh .factors) noFactor absent k b i;
         count = k + 1;
       })
 
-  next-factor : (k : ℕ) → k < g .count → valid (facs k) ≡ true → (c : Call) × (after (facs k) c ≡ facs (k + 1))
+  next-factor : (k : ℕ) → k < g .count → valid (facs k) ≡ true → (c : Call) × (graphAfter (facs k) c ≡ facs (k + 1))
   next-factor k l v = go (factorAt g k .prior) refl
     where
       b : k < max-factors
       b = let m : g .count ≤ max-factors = so .few-factors in omega arith
 
-      go : (t : Bool) → factorAt g k .prior ≡ t → (c : Call) × (after (facs k) c ≡ facs (k + 1))
+      go : (t : Bool) → factorAt g k .prior ≡ t → (c : Call) × (graphAfter (facs k) c ≡ facs (k + 1))
       go true p =
           let t : factorAt g k .touched ≡ 1 = prior-touched (g .sizes) (g .variables) (factorAt g k) (so .good k l) p in
           let there : keyAt (factorAt g k) 0 < g .variables = fits-key (g .sizes) (g .variables) (factorAt g k) (so .good k l) 0 (omega arith) in (
@@ -166,7 +166,7 @@ module _ (g : Graph) (sh : Shaped g) (so : Sound g) where
   reach-factors zero l = let z : g .variables ≤ g .variables = omega arith in rw begun at (reach-variables (g .variables) z)
   reach-factors (suc k) l =
       let r : Reached (facs k) = reach-factors k (omega arith) in
-      let s : (c : Call) × (after (facs k) c ≡ facs (k + 1)) = next-factor k l (good-of (facs k) r .1) in
+      let s : (c : Call) × (graphAfter (facs k) c ≡ facs (k + 1)) = next-factor k l (good-of (facs k) r .1) in
       let t : Reached (facs (k + 1)) = reached-more (facs k) (facs (k + 1)) (s .0) r (s .1) in
       rw add-one at t
 

@@ -8,7 +8,7 @@ use Rattle.factor.specs.Told.{value, refusal}
 use Rattle.graph.specs.Record.{fresh}
 use Rattle.graph.specs.Registration.{refused, settle, refuse, addVariable, priorVerdict, addPrior, priorStore, observationVerdict}
 use Rattle.graph.specs.Registration.{addObservation, observationStore}
-use Rattle.graph.specs.Told.{outcomeTold}
+use Rattle.graph.specs.Told.{callTold}
 use Rattle.graph.specs.declared.Graph.{Graph}
 use Rattle.graph.specs.declared.refusal.Refusal.the-variants.{KeysNotRising, VariancePivot}
 use Rattle.graph.proofs.Computing.{computedCall}
@@ -41,12 +41,12 @@ unfolding computedCall
 pair = addVariable (addVariable fresh (97, 0) 1 .graph) (97, 1) 1 .graph
 
 -- the second variable's key is 1, and its name is then taken
-key-told : outcomeTold (addVariable (addVariable fresh (97, 0) 1 .graph) (97, 1) 1 .outcome) ≡ value (1 ∷ [])
-unfolding pair outcomeTold
+key-told : callTold (addVariable (addVariable fresh (97, 0) 1 .graph) (97, 1) 1 .outcome) ≡ value (1 ∷ [])
+unfolding pair callTold
 key-told = refl
 
-name-taken-told : outcomeTold (addVariable pair (97, 1) 1 .outcome) ≡ refusal 10 []
-unfolding pair outcomeTold
+name-taken-told : callTold (addVariable pair (97, 1) 1 .outcome) ≡ refusal 10 []
+unfolding pair callTold
 name-taken-told = refl
 
 -- equal keys are refused with 3
@@ -58,8 +58,8 @@ equal-keys : addObservation pair (1 ∷ 1 ∷ []) 1 (one ∷ one ∷ []) (one �
 unfolding addObservation
 equal-keys = ap (settle pair (observationOf (1 ∷ 1 ∷ []) 1)) equal-keys-refused
 
-equal-keys-told : outcomeTold (addObservation pair (1 ∷ 1 ∷ []) 1 (one ∷ one ∷ []) (one ∷ []) (one ∷ []) (nan ∷ nan ∷ nan ∷ nan ∷ []) .outcome) ≡ refusal 3 []
-unfolding outcomeTold
+equal-keys-told : callTold (addObservation pair (1 ∷ 1 ∷ []) 1 (one ∷ one ∷ []) (one ∷ []) (one ∷ []) (nan ∷ nan ∷ nan ∷ nan ∷ []) .outcome) ≡ refusal 3 []
+unfolding callTold
 equal-keys-told = rw equal-keys
 
 -- mean 2 and variance 4 are stored as xi 0.5 and W 0.25
@@ -67,8 +67,8 @@ prior-stored : priorStore pair 0 (two ∷ []) (four ∷ []) (nan ∷ nan ∷ nan
 unfolding pair
 prior-stored = refl
 
-prior-told : outcomeTold (addPrior pair 0 (two ∷ []) (four ∷ []) (nan ∷ nan ∷ nan ∷ []) .outcome) ≡ value (0 ∷ [])
-unfolding pair outcomeTold
+prior-told : callTold (addPrior pair 0 (two ∷ []) (four ∷ []) (nan ∷ nan ∷ nan ∷ []) .outcome) ≡ value (0 ∷ [])
+unfolding pair callTold
 prior-told = refl
 
 -- A = (-1 1), mean 4 and variance 1 are stored as they are

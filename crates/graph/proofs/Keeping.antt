@@ -11,14 +11,14 @@ use lib.ListN.{length, getD-replicate, length-set}
 use lib.Seq.{getD-set-same, getD-set-other}
 use Rattle.factor.specs.Limits.{max-variables, max-total, max-factors, max-keys}
 use Rattle.factor.specs.Counting.{every, all, sum}
-use Rattle.factor.specs.Factor.{noFactor, past, fits, isClear}
+use Rattle.factor.specs.Factor.{noFactor, absent, fits, isClear}
 use Rattle.factor.specs.declared.Factor.{Factor}
 use Rattle.factor.proofs.Counting.{every-at, every-3, every-5, by-test, all-of, all-ext, sum-put}
 use Rattle.factor.proofs.Fitting.{fits-more}
-use Rattle.graph.specs.Record.{noName, nameAt, sizeAt, factorAt, fresh, scalar, sizeFits, same, free, total, registered, clear, place}
+use Rattle.graph.specs.Record.{noName, nameAt, sizeAt, factorAt, fresh, scalar, sizeFits, same, free, total, registered, clear, variablePlace}
 use Rattle.graph.specs.Record.{variablesFit, factorPlace, factorsFit, valid}
 use Rattle.graph.specs.Registration.{withVariable, withFactor}
-use Rattle.graph.specs.Reached.{Call, after, yields, Reached}
+use Rattle.graph.specs.Reached.{Call, graphAfter, yields, Reached}
 use Rattle.graph.specs.declared.Symbol.{Symbol}
 use Rattle.graph.specs.declared.Graph.{Graph}
 use Rattle.graph.specs.declared.Added.{Added}
@@ -56,12 +56,12 @@ sound-of g v =
     }
 
 valid-of : (g : Graph) → Sound g → valid g ≡ true
-unfolding valid variablesFit factorsFit place factorPlace
+unfolding valid variablesFit factorsFit variablePlace factorPlace
 valid-of g s =
     every-5 _ _ _ _ _
     (le-leb _ _ (s .few))
     (le-leb _ _ (s .few-factors))
-    (all-of (λ i. place g i) max-variables (λ i l. by-test _ _ _ (λ t. s .used i (ltb-true _ _ t)) (λ t. s .unused i (ltb-false _ _ t) l)))
+    (all-of (λ i. variablePlace g i) max-variables (λ i l. by-test _ _ _ (λ t. s .used i (ltb-true _ _ t)) (λ t. s .unused i (ltb-false _ _ t) l)))
     (le-leb _ _ (s .room))
     (all-of (λ i. factorPlace g i) max-factors (λ i l. by-test _ _ _ (λ t. s .good i (ltb-true _ _ t)) (λ t. s .none i (ltb-false _ _ t) l)))
 
@@ -161,10 +161,10 @@ module _ (g : Graph) (sh : Shaped g) (so : Sound g) (name : Symbol) (size : ℕ)
 module _ (g : Graph) (sh : Shaped g) (so : Sound g) (f : Factor) (h12 : g .count < max-factors) (fit : fits (g .sizes) (g .variables) f ≡ true)
     (long : length (f .keys) ≡ max-keys) where
   factor-at : factorAt (withFactor g f) (g .count) ≡ f
-  factor-at = getD-set-same (g .factors) (g .count) f past (omega (arith, sh .factors))
+  factor-at = getD-set-same (g .factors) (g .count) f absent (omega (arith, sh .factors))
 
   factor-else : (i : ℕ) → (i ≡ g .count → ⊥) → factorAt (withFactor g f) i ≡ factorAt g i
-  factor-else i d = getD-set-other (g .factors) (g .count) i f past d
+  factor-else i d = getD-set-other (g .factors) (g .count) i f absent d
 
   good-more : (i : ℕ) → i < g .count + 1 → fits (g .sizes) (g .variables) (factorAt (withFactor g f) i) ≡ true
   good-more i l = go (decLt i (g .count))
@@ -219,14 +219,14 @@ module _ (g : Graph) (ok : Good g) where
       (factor-shaped g (ok .0) so f few (t .fit) (t .long), valid-of _ (factor-sound g (ok .0) so f few (t .fit) (t .long)))
 
 fresh-good : Good fresh
-unfolding valid variablesFit factorsFit every all place clear same factorPlace isClear total sum
+unfolding valid variablesFit factorsFit every all variablePlace clear same factorPlace isClear total sum
 fresh-good = (
   record {
     symbols = refl;
     sizes = refl;
     factors = refl;
     keys = λ i l. ap (λ (x : Factor). length (x .keys))
-        (getD-replicate max-factors i noFactor past l);
+        (getD-replicate max-factors i noFactor absent l);
   },
   refl,
 )
@@ -234,7 +234,7 @@ fresh-good = (
 yields-good : (cs : List Call) (g : Graph) → Good g → Good (yields g cs)
 unfolding yields
 yields-good [] g ok = ok
-yields-good (c ∷ cs) g ok = yields-good cs (after g c) (comes-good g ok (comes g [] c))
+yields-good (c ∷ cs) g ok = yields-good cs (graphAfter g c) (comes-good g ok (comes g [] c))
 
 -- a graph that some list of calls yields is valid
 pub good-of : (g : Graph) → Reached g → Good g

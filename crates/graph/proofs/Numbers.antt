@@ -3,7 +3,7 @@ use Prim.Native.Nat.{ℕ}
 use mathlib.Core.Path.{_≡_, refl, sym, ap, _∙_}
 use mathlib.Core.List.{[], _∷_}
 use lib.ListN.{getD}
-use Rattle.graph.specs.Refusals.{numberOf}
+use Rattle.graph.specs.Refusals.{refusalNumber}
 use Rattle.graph.specs.declared.refusal.Refusal.{Refusal}
 use Rattle.graph.specs.declared.refusal.Refusal.the-variants.{NeitherKeptNorCleared, NotALetter, SizeOutside, KeysNotRising, CountOutside}
 use Rattle.graph.specs.declared.refusal.Refusal.the-variants.{LengthUnlike, NotFinite, VariancePivot, BadRecord, KeptAndCleared, NameTaken}
@@ -37,7 +37,7 @@ named n =
     n
     NoSuchGraph
 
-back : (why : Refusal) → named (numberOf why) ≡ why
+back : (why : Refusal) → named (refusalNumber why) ≡ why
 back NeitherKeptNorCleared = refl
 back NotALetter = refl
 back SizeOutside = refl
@@ -59,5 +59,5 @@ back ResultNotFinite = refl
 back CountedTwice = refl
 back NoSuchGraph = refl
 
-pub same-refusal : (a b : Refusal) → numberOf a ≡ numberOf b → a ≡ b
+pub same-refusal : (a b : Refusal) → refusalNumber a ≡ refusalNumber b → a ≡ b
 same-refusal a b e = sym (back a) ∙ (ap named e ∙ back b)

@@ -17,15 +17,15 @@ use Rattle.factor.specs.declared.Factor.{Factor}
 use Rattle.factor.proofs.Counting.{every-3}
 use Rattle.cholesky.proofs.Forms.{identity-exchanged}
 use Rattle.graph.specs.Record.{sizeAt, offset, valid}
-use Rattle.graph.specs.Registration.{withVariable, Verdict, accept, withFactor, settle, weighedVerdict, factorVerdict, priorVerdict, addPrior}
+use Rattle.graph.specs.Registration.{withVariable, FactorVerdict, accept, withFactor, settle, weighedVerdict, factorVerdict, priorVerdict, addPrior}
 use Rattle.graph.specs.Registration.{countsFit, observationVerdict, addObservation}
-use Rattle.graph.specs.Reached.{Call, prior, observation, variable, register, after}
+use Rattle.graph.specs.Reached.{Call, prior, observation, variable, register, graphAfter}
 use Rattle.graph.specs.declared.Symbol.{Symbol}
 use Rattle.graph.specs.declared.Graph.{Graph}
 use Rattle.graph.specs.declared.Added.{Added}
 use Rattle.graph.proofs.Checking.{Named, named, weighs, prior-as, observation-as}
 
-pub variable-taken : (g : Graph) (name : Symbol) (size : ℕ) → Named g name size → after g (variable name size) ≡ withVariable g name size
+pub variable-taken : (g : Graph) (name : Symbol) (size : ℕ) → Named g name size → graphAfter g (variable name size) ≡ withVariable g name size
 variable-taken g name size n = ap (λ (a : Added). a .graph) (named g name size n)
 
 -- numbers that are all zero
@@ -63,9 +63,9 @@ module _ (g : Graph) (h30 : valid g ≡ true) (h12 : g .count < max-factors) (ke
   unfolding aNumbers allFinite
   prior-passes = prior-as g key _ _ _ h30 h11 ∙ factor-passes g (priorOf key (sizeAt g key)) h12 [] refl refl
 
-  pub prior-taken : after g (prior-call g key) ≡ withFactor g (priorOf key (sizeAt g key))
+  pub prior-taken : graphAfter g (prior-call g key) ≡ withFactor g (priorOf key (sizeAt g key))
   unfolding addPrior
-  prior-taken = ap (λ (v : Verdict). settle g (priorOf key (sizeAt g key)) v .graph) prior-passes
+  prior-taken = ap (λ (v : FactorVerdict). settle g (priorOf key (sizeAt g key)) v .graph) prior-passes
 
 -- ---- an observation
 
@@ -88,6 +88,6 @@ module _ (g : Graph) (h30 : valid g ≡ true) (h12 : g .count < max-factors) (ke
       ∙ factor-passes g (observationOf keys y) h12 a (length-replicate (aNumbers (g .sizes) (observationOf keys y)) plus-zero)
       (zeros-finite (aNumbers (g .sizes) (observationOf keys y)))
 
-  pub observation-taken : after g (observation-call g keys y) ≡ withFactor g (observationOf keys y)
+  pub observation-taken : graphAfter g (observation-call g keys y) ≡ withFactor g (observationOf keys y)
   unfolding addObservation
-  observation-taken = ap (λ (v : Verdict). settle g (observationOf keys y) v .graph) observation-passes
+  observation-taken = ap (λ (v : FactorVerdict). settle g (observationOf keys y) v .graph) observation-passes

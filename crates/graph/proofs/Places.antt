@@ -12,7 +12,7 @@ use Rattle.factor.proofs.Counting.{all-ext}
 use Rattle.factor.specs.Counting.{all, every}
 use Rattle.factor.specs.Factor.{fits, isClear}
 use Rattle.factor.specs.declared.Factor.{Factor}
-use Rattle.graph.specs.Record.{clear, factorAt, factorPlace, free, nameAt, noName, place, registered, same, scalar, sizeAt, sizeFits}
+use Rattle.graph.specs.Record.{clear, factorAt, factorPlace, free, nameAt, noName, variablePlace, registered, same, scalar, sizeAt, sizeFits}
 use Rattle.graph.specs.declared.Graph.{Graph}
 use Rattle.graph.specs.declared.Symbol.{Symbol}
 
@@ -57,8 +57,8 @@ module _ (g : Graph) (letters indices : List ℕ) (i : ℕ) where
       → r ≡ cond used
       (every (scalar (nameAt g i .0) ∷ sizeFits (sizeAt g i) ∷ all (λ j. not (same (getD letters j 0, getD indices j 0) (nameAt g i))) i ∷ []))
       (every (same (nameAt g i) noName ∷ eqb (sizeAt g i) 0 ∷ []))
-      → r ≡ place g i
-  unfolding place registered clear
+      → r ≡ variablePlace g i
+  unfolding variablePlace registered clear
   variable-placed used r h eu e = e ∙ rw (eu, new-is-free (nameAt g i) h)
 
 -- one name more

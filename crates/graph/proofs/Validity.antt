@@ -10,7 +10,7 @@ use Rattle.factor.proofs.Counting.{every-at, all-at, pick-true, pick-false, sum
 use Rattle.factor.specs.declared.Factor.{Factor}
 use Rattle.factor.proofs.Fitting.{fits-touched, fits-key, prior-touched, prior-rows, few-rows}
 use Rattle.factor.proofs.KeyOrder.{width-within}
-use Rattle.graph.specs.Record.{sizeAt, factorAt, sizeFits, registered, clear, place, variablesFit, factorPlace, factorsFit, offset, total, valid}
+use Rattle.graph.specs.Record.{sizeAt, factorAt, sizeFits, registered, clear, variablePlace, variablesFit, factorPlace, factorsFit, offset, total, valid}
 use Rattle.graph.specs.declared.Graph.{Graph}
 
 -- a size is within the limit
@@ -31,16 +31,16 @@ module _ (g : Graph) (v : valid g ≡ true) where
   unfolding valid
   valid-total = leb-true _ _ (every-at _ 3 v)
 
-  valid-place : (i : ℕ) → i < max-variables → place g i ≡ true
+  valid-place : (i : ℕ) → i < max-variables → variablePlace g i ≡ true
   unfolding valid variablesFit
-  valid-place i l = all-at (λ k. place g k) max-variables i (every-at _ 2 v) l
+  valid-place i l = all-at (λ k. variablePlace g k) max-variables i (every-at _ 2 v) l
 
   pub valid-registered : (i : ℕ) → i < g .variables → registered g i ≡ true
-  unfolding place
+  unfolding variablePlace
   valid-registered i l = pick-true _ (clear g i) (lt-ltb _ _ l) (valid-place i (omega (arith, valid-variables)))
 
   pub valid-clear : (i : ℕ) → g .variables ≤ i → i < max-variables → clear g i ≡ true
-  unfolding place
+  unfolding variablePlace
   valid-clear i l m = pick-false (registered g i) (clear g i) (le-ltb _ _ l) (valid-place i m)
 
   -- the size of a registered key

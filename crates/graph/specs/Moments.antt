@@ -14,8 +14,8 @@ unfoldable pub startOf : List ℕ → ℕ → ℕ
 startOf sizes k = sum (λ i. momentNumbers (getD sizes i 0)) k
 
 -- the mean of component c of key k, and its variance, which stands on the diagonal of the covariance
-abbrev pub meanAt : (sizes : List ℕ) (k c : ℕ) → ℕ
-meanAt sizes k c = startOf sizes k + c
+abbrev pub meanPlace : (sizes : List ℕ) (k c : ℕ) → ℕ
+meanPlace sizes k c = startOf sizes k + c
 
-abbrev pub varianceAt : (sizes : List ℕ) (k c : ℕ) → ℕ
-varianceAt sizes k c = startOf sizes k + getD sizes k 0 + (c * getD sizes k 0 + c)
+abbrev pub variancePlace : (sizes : List ℕ) (k c : ℕ) → ℕ
+variancePlace sizes k c = startOf sizes k + getD sizes k 0 + (c * getD sizes k 0 + c)

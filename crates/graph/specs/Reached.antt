@@ -25,8 +25,8 @@ answered g (variable name size) = addVariable g name size
 answered g (register (prior key mean variance) store) = addPrior g key mean variance store
 answered g (register (observation keys rows a mean variance) store) = addObservation g keys rows a mean variance store
 
-abbrev pub after : Graph → Call → Graph
-after g c = answered g c .graph
+abbrev pub graphAfter : Graph → Call → Graph
+graphAfter g c = answered g c .graph
 
 -- the store that a call is lent, and the store after it; a variable's call leaves the one that there is
 abbrev pub lent : List Float → Call → List Float
@@ -39,15 +39,15 @@ storeAfter g store (register (prior key mean variance) own) = priorStore g key m
 storeAfter g store (register (observation keys rows a mean variance) own) = observationStore g keys rows a mean variance own
 
 -- the keys that a call gives for its factor
-abbrev pub given : Call → List ℕ
-given (variable name size) = []
-given (register (prior key mean variance) store) = key ∷ []
-given (register (observation keys rows a mean variance) store) = keys
+abbrev pub keysGiven : Call → List ℕ
+keysGiven (variable name size) = []
+keysGiven (register (prior key mean variance) store) = key ∷ []
+keysGiven (register (observation keys rows a mean variance) store) = keys
 
 -- each call gets the graph that the last one returned, refused or not
 unfoldable pub yields : Graph → List Call → Graph
 yields g [] = g
-yields g (c ∷ cs) = yields (after g c) cs
+yields g (c ∷ cs) = yields (graphAfter g c) cs
 
 abbrev pub Reached : Graph → Type 0
 Reached g = (cs : List Call) × (yields fresh cs ≡ g)

@@ -26,7 +26,7 @@ ghost use Rattle.factor.specs.Factor.{fits, isClear};
 ghost use Rattle.graph.specs.Record as spec;
 ghost use Rattle.graph.specs.Registration as calls;
 ghost use Rattle.graph.specs.Reached.{Reached};
-ghost use Rattle.graph.specs.Told.{outcomeTold, verdictTold};
+ghost use Rattle.graph.specs.Told.{callTold, factorVerdictTold};
 
 // The name of a variable: a letter and an index.
 pub struct Symbol(pub u32, pub u32);
@@ -260,7 +260,7 @@ impl Graph {
     // A variable gets the next key.
     pub fn add_variable(mut self, name: Symbol, size: usize) -> Added
         ensures { λ r. ⌜ r ≡ calls.addVariable self name size ⌝ }
-        ensures { λ r. ⌜ outcomeTold (r .outcome) ≡ outcomeTold (calls.addVariable self name size .outcome) ⌝ }
+        ensures { λ r. ⌜ callTold (r .outcome) ≡ callTold (calls.addVariable self name size .outcome) ⌝ }
     {
         if !self.valid() {
             return self.refused(Refusal::NoSuchGraph);
@@ -301,7 +301,7 @@ impl Graph {
         match factor::weighing::store_factor(store, start, a, mean, variance, mean.len()) {
             Exchanged::Done => {}
             Exchanged::Pivot => return self.refused(Refusal::VariancePivot),
-            Exchanged::Unbounded => return self.refused(Refusal::NotFinite),
+            Exchanged::NotFinite => return self.refused(Refusal::NotFinite),
         }
         self.factors[n] = f;
         self.count = n + 1;
@@ -341,8 +341,8 @@ impl Graph {
     ) -> Added
         ensures { λ r. ⌜ r ≡ calls.addPrior self key (now (mean .entry)) (now (variance .entry)) (now (store .entry)) ⌝ }
         ensures { λ _. ⌜ now (store .exit) ≡ calls.priorStore self key (now (mean .entry)) (now (variance .entry)) (now (store .entry)) ⌝ }
-        ensures { λ r. ⌜ outcomeTold (r .outcome) ≡
-            verdictTold self (calls.priorVerdict self key (now (mean .entry)) (now (variance .entry)) (now (store .entry))) ⌝ }
+        ensures { λ r. ⌜ callTold (r .outcome) ≡
+            factorVerdictTold self (calls.priorVerdict self key (now (mean .entry)) (now (variance .entry)) (now (store .entry))) ⌝ }
     {
         if !self.valid() {
             return self.refused(Refusal::NoSuchGraph);
@@ -393,7 +393,7 @@ impl Graph {
             calls.addObservation self (now (keys .entry)) rows (now (a .entry)) (now (mean .entry)) (now (variance .entry)) (now (store .entry)) ⌝ }
         ensures { λ _. ⌜ now (store .exit) ≡
             calls.observationStore self (now (keys .entry)) rows (now (a .entry)) (now (mean .entry)) (now (variance .entry)) (now (store .entry)) ⌝ }
-        ensures { λ r. ⌜ outcomeTold (r .outcome) ≡ verdictTold self
+        ensures { λ r. ⌜ callTold (r .outcome) ≡ factorVerdictTold self
             (calls.observationVerdict self (now (keys .entry)) rows (now (a .entry)) (now (mean .entry)) (now (variance .entry)) (now (store .entry))) ⌝ }
     {
         if !self.valid() {

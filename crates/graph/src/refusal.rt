@@ -1,6 +1,6 @@
 // Why a call is turned back.
 ghost use mathlib.Core.Path.{_≡_};
-ghost use Rattle.graph.specs.Refusals.{numberOf};
+ghost use Rattle.graph.specs.Refusals.{refusalNumber};
 
 pub enum Refusal {
     NeitherKeptNorCleared,
@@ -27,7 +27,7 @@ pub enum Refusal {
 
 // The number of a refusal in document 01.
 pub fn code(why: Refusal) -> usize
-    ensures { λ r. ⌜ r ≡ numberOf why ⌝ }
+    ensures { λ r. ⌜ r ≡ refusalNumber why ⌝ }
 {
     match why {
         Refusal::NeitherKeptNorCleared => 0,

@@ -11,7 +11,7 @@ use lib.ListN.{length}
 use Rattle.factor.specs.Limits.{max-variables}
 use Rattle.factor.proofs.Counting.{sum-le}
 use Rattle.graph.specs.Record.{valid}
-use Rattle.graph.specs.Refusals.{numberOf}
+use Rattle.graph.specs.Refusals.{refusalNumber}
 use Rattle.graph.specs.declared.Graph.{Graph}
 use Rattle.graph.specs.declared.refusal.Refusal.{Refusal}
 use Rattle.graph.proofs.Validity.{valid-variables}
@@ -20,11 +20,11 @@ use Rattle.records.specs.declared.answer.Read.{Read}
 use Rattle.records.specs.declared.answer.Ended.the-variants as reading
 use Rattle.workspace.specs.Frames.{work-numbers}
 use Rattle.marginals.proofs.Rooms.{numbers-most}
-use Rattle.solver.specs.Run.{run, verdict}
+use Rattle.solver.specs.Run.{run, runVerdict}
 use Rattle.solver.specs.declared.run.Ran.{Ran}
 use Rattle.solver.specs.declared.run.Ended.the-variants as ending
 use Rattle.graph.specs.Moments.{startOf}
-use Rattle.lines.specs.Lines.{numbersOf, linesText, refusalText, written, laidIn}
+use Rattle.lines.specs.Lines.{lineNumbers, linesText, refusalText, written, laidIn}
 use Rattle.lines.specs.declared.Written.{Written}
 use Rattle.lines.specs.declared.Written.the-variants.{Length, Short}
 use Rattle.job.specs.Job.{factor-room, message-room, marginal-room, zeros, reading-stage, endedText, verdictText, runText, readText, jobText}
@@ -58,12 +58,12 @@ short-of out text r e s = by (leb (length text) (length out)) refl (sym e ∙ s)
 -- the marginal store has room for the numbers of every graph
 pub marginals-fit : (g : Graph) → valid g ≡ true → startOf (g .sizes) (g .variables) ≤ marginal-room
 unfolding startOf
-marginals-fit g v = omega (arith, sum-le (λ k. numbersOf g k) (g .variables) max-variables (valid-variables g v), numbers-most g v)
+marginals-fit g v = omega (arith, sum-le (λ k. lineNumbers g k) (g .variables) max-variables (valid-variables g v), numbers-most g v)
 
 -- ---- how the run ended
 
 module _ (g : Graph) (factors messages marginals : List Float) (ran : Ran)
-    (is : verdict ran messages marginals ≡ run g factors (zeros message-room) work-numbers (zeros marginal-room)) where
+    (is : runVerdict ran messages marginals ≡ run g factors (zeros message-room) work-numbers (zeros marginal-room)) where
   ended : endedText g (ran .ended) marginals ≡ runText g factors
   unfolding runText
   ended = ap (verdictText g) is
@@ -71,7 +71,7 @@ module _ (g : Graph) (factors messages marginals : List Float) (ran : Ran)
   pub all-done : ran .ended ≡ ending.Done → linesText g marginals (g .variables) ≡ runText g factors
   all-done e = sym (ap (λ x. endedText g x marginals) e) ∙ ended
 
-  pub run-refused : (why : Refusal) (stage key : ℕ) → ran .ended ≡ ending.Refused why stage key → refusalText (numberOf why) stage key ≡ runText g factors
+  pub run-refused : (why : Refusal) (stage key : ℕ) → ran .ended ≡ ending.Refused why stage key → refusalText (refusalNumber why) stage key ≡ runText g factors
   run-refused why stage key e = sym (ap (λ x. endedText g x marginals) e) ∙ ended
 
 -- ---- how the reading ended
@@ -82,8 +82,8 @@ module _ (bytes : List ℕ) (store : List Float) (r : Read) (is : r ≡ readAll 
   unfolding jobText
   read = rw (is, stored)
 
-  pub whole : r .ended ≡ reading.Whole → runText (r .graph) store ≡ jobText bytes
+  pub whole : r .ended ≡ reading.Done → runText (r .graph) store ≡ jobText bytes
   whole e = sym (ap (λ x. readText x (r .graph) store) e) ∙ read
 
-  pub reading-refused : (why : Refusal) (place : ℕ) → r .ended ≡ reading.Refused why place → refusalText (numberOf why) reading-stage place ≡ jobText bytes
+  pub reading-refused : (why : Refusal) (place : ℕ) → r .ended ≡ reading.Refused why place → refusalText (refusalNumber why) reading-stage place ≡ jobText bytes
   reading-refused why place e = sym (ap (λ x. readText x (r .graph) store) e) ∙ read

@@ -10,7 +10,7 @@ use lib.ListN.{length, take, length-take, length-replicate}
 use Rattle.matrix.specs.Sums.{plus-zero}
 use Rattle.factor.specs.Limits.{max-variables}
 use Rattle.graph.specs.Record.{valid, fresh}
-use Rattle.graph.specs.Refusals.{numberOf}
+use Rattle.graph.specs.Refusals.{refusalNumber}
 use Rattle.graph.specs.Reached.{Reached}
 use Rattle.graph.specs.declared.Graph.{Graph}
 use Rattle.graph.proofs.Keeping.{good-of}
@@ -49,7 +49,7 @@ ended-most : (g : Graph) (e : Ended) (marginals : List Float) → valid g ≡ tr
 ended-most g Done marginals v k = lines-most g marginals v
 ended-most g (Refused why stage key) marginals v k = omega (
   arith,
-  refusal-most (numberOf why) stage key (omega (arith, number-most why)) (omega (arith, k .0)) (omega (arith, k .1)),
+  refusal-most (refusalNumber why) stage key (omega (arith, number-most why)) (omega (arith, k .0)) (omega (arith, k .1)),
 )
 
 run-most : (g : Graph) (factors : List Float) → valid g ≡ true → length (runText g factors) ≤ text-most
@@ -59,10 +59,10 @@ run-most g factors v =
     ended-most g (all .answer .ended) (all .marginals) v (run-keyed g factors (zeros message-room) work-numbers (zeros marginal-room))
 
 read-most : (e : records.Ended) (g : Graph) (factors : List Float) → Reached g → Placed deciding-bytes e → length (readText e g factors) ≤ text-most
-read-most reads.Whole g factors r l = run-most g factors (good-of g r .1)
+read-most reads.Done g factors r l = run-most g factors (good-of g r .1)
 read-most (reads.Refused why place) g factors r l = omega (
   arith,
-  refusal-most (numberOf why) 0 place (omega (arith, number-most why)) (omega arith) (omega arith),
+  refusal-most (refusalNumber why) 0 place (omega (arith, number-most why)) (omega arith) (omega arith),
 )
 
 taken-most : (bytes : List ℕ) → length bytes ≤ deciding-bytes → length (jobText bytes) ≤ text-most

@@ -20,8 +20,8 @@ abbrev ranLine : Graph → List Float → Told → List ℕ
 ranLine g marginals (value values) = linesText g marginals (g .variables)
 ranLine g marginals (refusal number values) = refusalText number (getD values 1 0) (getD values 2 0)
 
-pub run-printed : (g : Graph) (marginals : List Float) (figure : ℕ) (e : solver.Ended) → endedText g e marginals ≡ ranLine g marginals (ran.endedTold figure e)
-unfolding ran.endedTold
+pub run-printed : (g : Graph) (marginals : List Float) (figure : ℕ) (e : solver.Ended) → endedText g e marginals ≡ ranLine g marginals (ran.runTold figure e)
+unfolding ran.runTold
 run-printed g marginals figure ending.Done = refl
 run-printed g marginals figure (ending.Refused why stage key) = refl
 
@@ -30,7 +30,7 @@ abbrev readLine : Graph → List Float → Told → List ℕ
 readLine g factors (value values) = runText g factors
 readLine g factors (refusal number values) = refusalText number reading-stage (getD values 0 0)
 
-pub reading-printed : (g : Graph) (factors : List Float) (e : records.Ended) → readText e g factors ≡ readLine g factors (read.endedTold e)
-unfolding read.endedTold
-reading-printed g factors reading.Whole = refl
+pub reading-printed : (g : Graph) (factors : List Float) (e : records.Ended) → readText e g factors ≡ readLine g factors (read.readTold e)
+unfolding read.readTold
+reading-printed g factors reading.Done = refl
 reading-printed g factors (reading.Refused why place) = refl

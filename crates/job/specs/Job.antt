@@ -6,13 +6,13 @@ use lib.Ieee.{Float}
 use lib.ListN.{take, replicate}
 use Rattle.matrix.specs.Sums.{plus-zero}
 use Rattle.factor.specs.Limits.{max-size, max-total}
-use Rattle.graph.specs.Refusals.{numberOf}
+use Rattle.graph.specs.Refusals.{refusalNumber}
 use Rattle.graph.specs.declared.Graph.{Graph}
 use Rattle.records.specs.Records.{enough, Reading, readAll}
 use Rattle.records.specs.declared.answer.Ended as records
 use Rattle.records.specs.declared.answer.Ended.the-variants as reading
 use Rattle.workspace.specs.Frames.{work-numbers}
-use Rattle.solver.specs.Run.{Verdict, run}
+use Rattle.solver.specs.Run.{RunVerdict, run}
 use Rattle.solver.specs.declared.run.Ended as solver
 use Rattle.solver.specs.declared.run.Ended.the-variants as ending
 use Rattle.lines.specs.Lines.{linesText, refusalText}
@@ -41,9 +41,9 @@ reading-stage = 0
 -- how a run ended, with the marginals that it left
 abbrev pub endedText : Graph → solver.Ended → List Float → List ℕ
 endedText g ending.Done marginals = linesText g marginals (g .variables)
-endedText g (ending.Refused why stage key) marginals = refusalText (numberOf why) stage key
+endedText g (ending.Refused why stage key) marginals = refusalText (refusalNumber why) stage key
 
-abbrev pub verdictText : Graph → Verdict → List ℕ
+abbrev pub verdictText : Graph → RunVerdict → List ℕ
 verdictText g v = endedText g (v .answer .ended) (v .marginals)
 
 -- the run of a graph whose factors stand in a store
@@ -52,8 +52,8 @@ runText g factors = verdictText g (run g factors (zeros message-room) work-numbe
 
 -- how the reading ended: a refused job isn't run
 abbrev pub readText : records.Ended → Graph → List Float → List ℕ
-readText reading.Whole g factors = runText g factors
-readText (reading.Refused why place) g factors = refusalText (numberOf why) reading-stage place
+readText reading.Done g factors = runText g factors
+readText (reading.Refused why place) g factors = refusalText (refusalNumber why) reading-stage place
 
 abbrev pub readingText : Reading → List ℕ
 readingText r = readText (r .answer .ended) (r .answer .graph) (r .store)

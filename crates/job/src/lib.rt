@@ -75,7 +75,7 @@ pub fn solve(bytes: &[u8], out: &mut [u8]) -> Written
     let g = read.graph;
     let ended = read.ended;
     match ended {
-        records::answer::Ended::Whole => solve_graph(g, &factors, out),
+        records::answer::Ended::Done => solve_graph(g, &factors, out),
         records::answer::Ended::Refused(why, place) => lay_refusal(why, READING, place, out),
     }
 }

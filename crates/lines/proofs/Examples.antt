@@ -5,7 +5,7 @@ use mathlib.Core.List.{List, [], _∷_, _++_}
 use lib.Ieee.{Float, binary64, ofBits, toBits}
 use Rattle.factor.specs.Counting.{sum}
 use Rattle.graph.specs.Record.{fresh}
-use Rattle.graph.specs.Refusals.{numberOf}
+use Rattle.graph.specs.Refusals.{refusalNumber}
 use Rattle.graph.specs.Registration.{withVariable}
 use Rattle.graph.specs.declared.Graph.{Graph}
 use Rattle.graph.specs.declared.refusal.Refusal.the-variants.{MarginalPivot}
@@ -41,7 +41,7 @@ unfolding text
 root-of-two = refl
 
 -- `refused 16 3 0`
-refused-16 : refusalText (numberOf MarginalPivot) 3 0 ≡ 114 ∷ 101 ∷ 102 ∷ 117 ∷ 115 ∷ 101 ∷ 100 ∷ 32 ∷ 49 ∷ 54 ∷ 32 ∷ 51 ∷ 32 ∷ 48 ∷ 10 ∷ []
+refused-16 : refusalText (refusalNumber MarginalPivot) 3 0 ≡ 114 ∷ 101 ∷ 102 ∷ 117 ∷ 115 ∷ 101 ∷ 100 ∷ 32 ∷ 49 ∷ 54 ∷ 32 ∷ 51 ∷ 32 ∷ 48 ∷ 10 ∷ []
 unfolding text refusalText fieldText
 refused-16 = refl
 

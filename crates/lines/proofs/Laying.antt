@@ -9,15 +9,15 @@ use lib.Seq.{set-split, append-snoc}
 use Rattle.factor.specs.Factor.{lay}
 use Rattle.factor.proofs.Laying.{lay-none, two-laid}
 use borrow.Author.Tests.{le-leb, lt-leb}
-use Rattle.lines.specs.Lines.{Puts, written, laidIn}
+use Rattle.lines.specs.Lines.{PutsWithin, written, laidIn}
 use Rattle.lines.specs.declared.Written.the-variants.{Length, Short}
 
 -- nothing
-pub puts-none : (out : List ℕ) (at : ℕ) → Puts out out at at []
+pub puts-none : (out : List ℕ) (at : ℕ) → PutsWithin out out at at []
 puts-none out at = (lay-none out at, omega arith)
 
 -- one byte
-pub puts-one : (out : List ℕ) (at x : ℕ) → at < length out → Puts out (set out at x) at (at + 1) (x ∷ [])
+pub puts-one : (out : List ℕ) (at x : ℕ) → at < length out → PutsWithin out (set out at x) at (at + 1) (x ∷ [])
 puts-one out at x l = (
   set-split out at x l ∙ ap (λ (k : ℕ). take at out ++ x ∷ drop k out) (sym (add-one at))
       ∙ sym (append-snoc (take at out) x (drop (at + 1) out)),
@@ -25,23 +25,23 @@ puts-one out at x l = (
 )
 
 -- a piece after another is the two as one
-pub puts-both : (a b c : List ℕ) (at m n : ℕ) (s t : List ℕ) → at ≤ length a → Puts a b at m s → Puts b c m n t → Puts a c at n (s ++ t)
+pub puts-both : (a b c : List ℕ) (at m n : ℕ) (s t : List ℕ) → at ≤ length a → PutsWithin a b at m s → PutsWithin b c m n t → PutsWithin a c at n (s ++ t)
 puts-both a b c at m n s t l p q =
     (two-laid a s at l t b c m (p .1) (p .0) (q .0), let e : length (s ++ t) ≡ length s + length t = length-append s t in omega arith)
 
 -- a loop that stores a byte a turn
-pub puts-begun : (out : List ℕ) (at : ℕ) → Puts out out at (at + 0) []
+pub puts-begun : (out : List ℕ) (at : ℕ) → PutsWithin out out at (at + 0) []
 puts-begun out at = (puts-none out at .0, refl)
 
-pub puts-next : (out₀ out : List ℕ) (at i x : ℕ) (s t : List ℕ) → length out ≡ length out₀ → at + i < length out₀ → Puts out₀ out at (at + i) s → t
-    ≡ s ++ (x ∷ []) → Puts out₀ (set out (at + i) x) at (at + (i + 1)) t
+pub puts-next : (out₀ out : List ℕ) (at i x : ℕ) (s t : List ℕ) → length out ≡ length out₀ → at + i < length out₀ → PutsWithin out₀ out at (at + i) s → t
+    ≡ s ++ (x ∷ []) → PutsWithin out₀ (set out (at + i) x) at (at + (i + 1)) t
 puts-next out₀ out at i x s t k l p e =
-    let q : Puts out₀ (set out (at + i) x) at (at + i + 1) (s ++ (x ∷ [])) = puts-both out₀ out (set out (at + i) x) at (at + i) (at + i + 1) s
+    let q : PutsWithin out₀ (set out (at + i) x) at (at + i + 1) (s ++ (x ∷ [])) = puts-both out₀ out (set out (at + i) x) at (at + i) (at + i + 1) s
     (x ∷ []) (omega arith) p (puts-one out (at + i) x (omega arith)) in
     rw e (q .0, omega (arith, q .1))
 
 -- an equal text
-pub puts-same : (a b : List ℕ) (at n : ℕ) (s t : List ℕ) → s ≡ t → Puts a b at n s → Puts a b at n t
+pub puts-same : (a b : List ℕ) (at n : ℕ) (s t : List ℕ) → s ≡ t → PutsWithin a b at n s → PutsWithin a b at n t
 puts-same a b at n s t e p = rw e at p
 
 -- ---- the two ways out of a laying

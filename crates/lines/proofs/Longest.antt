@@ -13,12 +13,12 @@ use Rattle.graph.specs.Record.{sizeAt, valid}
 use Rattle.graph.specs.declared.Graph.{Graph}
 use Rattle.graph.proofs.Validity.{valid-variables, valid-size, size-most}
 use Rattle.text.specs.Decimals.{decimal}
-use Rattle.lines.specs.Lines.{numbersOf, linesText, linesLength, refusalText}
+use Rattle.lines.specs.Lines.{lineNumbers, linesText, linesLength, refusalText}
 use Rattle.text.proofs.Decimals.{few-digits}
 use Rattle.lines.proofs.Texts.{lines-long, refusal-length}
 
 -- a line has a key of two digits, at most 42 numbers, and its end
-line-most : (g : Graph) (k : ℕ) → valid g ≡ true → k < g .variables → length (decimal k) + 17 * numbersOf g k + 1 ≤ 717
+line-most : (g : Graph) (k : ℕ) → valid g ≡ true → k < g .variables → length (decimal k) + 17 * lineNumbers g k + 1 ≤ 717
 line-most g k v l =
     let n : g .variables ≤ max-variables = valid-variables g v in
     let s : sizeAt g k ≤ max-size = size-most _ (valid-size g v k l) in
@@ -31,7 +31,7 @@ lines-most g values v =
       arith,
       lines-long g values (g .variables),
       valid-variables g v,
-      sum-most (λ k. length (decimal k) + 17 * numbersOf g k + 1) 717 (g .variables) (λ k l. line-most g k v l),
+      sum-most (λ k. length (decimal k) + 17 * lineNumbers g k + 1) 717 (g .variables) (λ k l. line-most g k v l),
     )
 
 -- a refusal has three numbers of a machine word

@@ -12,7 +12,7 @@ use Rattle.graph.specs.declared.Graph.{Graph}
 use Rattle.text.specs.Decimals.{decimal, feed}
 use Rattle.text.proofs.Decimals.{field-length}
 use Rattle.graph.specs.Moments.{startOf}
-use Rattle.lines.specs.Lines.{hexDigit, hexBy, numberText, number-bytes, numbersText, numbersOf, lineText, linesText, linesLength, refusalText}
+use Rattle.lines.specs.Lines.{hexDigit, hexBy, numberText, number-bytes, numbersText, lineNumbers, lineText, linesText, linesLength, refusalText}
 
 -- ---- hexadecimals and floats
 
@@ -48,12 +48,12 @@ line-length key values from n =
     length-append (decimal key ++ numbersText values from n) (feed ∷ [])
     ∙ omega (arith, length-append (decimal key) (numbersText values from n), numbers-length values from n)
 
-pub length-more : (g : Graph) (k : ℕ) → linesLength g (k + 1) ≡ linesLength g k + (length (decimal k) + number-bytes * numbersOf g k + 1)
+pub length-more : (g : Graph) (k : ℕ) → linesLength g (k + 1) ≡ linesLength g k + (length (decimal k) + number-bytes * lineNumbers g k + 1)
 unfolding linesLength
-length-more g k = sum-more (λ i. length (decimal i) + number-bytes * numbersOf g i + 1) k
+length-more g k = sum-more (λ i. length (decimal i) + number-bytes * lineNumbers g i + 1) k
 
 pub lines-more : (g : Graph) (values : List Float) (k : ℕ) → linesText g values (k + 1)
-    ≡ linesText g values k ++ lineText k values (startOf (g .sizes) k) (numbersOf g k)
+    ≡ linesText g values k ++ lineText k values (startOf (g .sizes) k) (lineNumbers g k)
 unfolding linesText
 lines-more g values k = rw add-one
 
@@ -61,11 +61,11 @@ pub lines-long : (g : Graph) (values : List Float) (k : ℕ) → length (linesTe
 unfolding linesText linesLength sum
 lines-long g values zero = refl
 lines-long g values (suc k) =
-    length-append (linesText g values k) (lineText k values (startOf (g .sizes) k) (numbersOf g k))
+    length-append (linesText g values k) (lineText k values (startOf (g .sizes) k) (lineNumbers g k))
     ∙ omega (
       arith,
       lines-long g values k,
-      line-length k values (startOf (g .sizes) k) (numbersOf g k),
+      line-length k values (startOf (g .sizes) k) (lineNumbers g k),
       length-more g k,
       ap (λ (n : ℕ). linesLength g n) (add-one k),
     )

@@ -42,8 +42,8 @@ numbersText values from (suc n) = numbersText values from n ++ numberText (getD 
 -- ---- a line a key
 
 -- the numbers of key k in the marginal store
-abbrev pub numbersOf : Graph → ℕ → ℕ
-numbersOf g k = momentNumbers (sizeAt g k)
+abbrev pub lineNumbers : Graph → ℕ → ℕ
+lineNumbers g k = momentNumbers (sizeAt g k)
 
 unfoldable pub lineText : (key : ℕ) (values : List Float) (from n : ℕ) → List ℕ
 lineText key values from n = decimal key ++ numbersText values from n ++ (feed ∷ [])
@@ -51,11 +51,11 @@ lineText key values from n = decimal key ++ numbersText values from n ++ (feed �
 -- the lines of the first n keys
 unfoldable pub linesText : Graph → List Float → ℕ → List ℕ
 linesText g values zero = []
-linesText g values (suc n) = linesText g values n ++ lineText n values (startOf (g .sizes) n) (numbersOf g n)
+linesText g values (suc n) = linesText g values n ++ lineText n values (startOf (g .sizes) n) (lineNumbers g n)
 
 -- as many bytes: a line has its key, the bytes of each number, and its end
 unfoldable pub linesLength : Graph → ℕ → ℕ
-linesLength g n = sum (λ k. length (decimal k) + number-bytes * numbersOf g k + 1) n
+linesLength g n = sum (λ k. length (decimal k) + number-bytes * lineNumbers g k + 1) n
 
 -- ---- a refusal
 
@@ -70,8 +70,8 @@ refusalText number stage place = refusedWord ++ fieldText number ++ fieldText st
 -- ---- text in a lent buffer
 
 -- text put from a place on: the buffer, and the place after the text
-abbrev pub Puts : (out after : List ℕ) (at next : ℕ) (text : List ℕ) → Type 0
-Puts out after at next text = (after ≡ lay out at text) × (next ≡ at + length text)
+abbrev pub PutsWithin : (out after : List ℕ) (at next : ℕ) (text : List ℕ) → Type 0
+PutsWithin out after at next text = (after ≡ lay out at text) × (next ≡ at + length text)
 
 -- a text that fits stands at the buffer's start; a buffer that is too short is left as it was
 unfoldable pub written : (out text : List ℕ) → Written

@@ -8,14 +8,13 @@ use text::put_field;
 use text::put_word;
 ghost use mathlib.Core.Path.{_≡_};
 ghost use mathlib.Core.Bool.{true};
-ghost use mathlib.Core.List.{[], _∷_};
 ghost use Prim.Native.Nat.{_+_, _*_, _<_, _≤_};
 ghost use lib.Ieee.{binary64, toBits};
 ghost use lib.ListN.{length};
 ghost use Rattle.factor.specs.Factor.{lay};
 ghost use Rattle.graph.specs.Record.{valid};
 ghost use Rattle.graph.specs.Moments.{startOf};
-ghost use Rattle.graph.specs.Refusals.{numberOf};
+ghost use Rattle.graph.specs.Refusals.{refusalNumber};
 ghost use Rattle.text.specs.Decimals.{decimal};
 ghost use Rattle.text.specs.Putting as text;
 ghost use Rattle.lines.specs.Lines as spec;
@@ -40,7 +39,7 @@ fn hex_digit(d: u8) -> u8
 // The 16 digits of a pattern, the highest first.
 fn put_hex(out: &mut [u8], at: usize, bits: u64) -> usize
     requires { ⌜ at + 16 ≤ length (now out) ⌝ }
-    ensures { λ r. ⌜ spec.Puts (now (out .entry)) (now (out .exit)) at r (spec.hexBy 16 bits) ⌝ }
+    ensures { λ r. ⌜ spec.PutsWithin (now (out .entry)) (now (out .exit)) at r (spec.hexBy 16 bits) ⌝ }
 {
     for i in 0..16 {
         let d = (bits >> (60 - 4 * i)) % 16;
@@ -62,7 +61,7 @@ pub fn bits_of(x: f64) -> u64
 // A space and a float.
 fn put_number(out: &mut [u8], at: usize, x: f64) -> usize
     requires { ⌜ at + spec.number-bytes ≤ length (now out) ⌝ }
-    ensures { λ r. ⌜ spec.Puts (now (out .entry)) (now (out .exit)) at r (spec.numberText x) ⌝ }
+    ensures { λ r. ⌜ spec.PutsWithin (now (out .entry)) (now (out .exit)) at r (spec.numberText x) ⌝ }
 {
     let next = put(out, at, b' ');
     put_hex(out, next, bits_of(x))
@@ -71,7 +70,7 @@ fn put_number(out: &mut [u8], at: usize, x: f64) -> usize
 // So many floats from a place of the values on.
 fn put_numbers(out: &mut [u8], at: usize, values: &[f64], from: usize, n: usize) -> usize
     requires { ⌜ (at + spec.number-bytes * n ≤ length (now out)) × (from + n ≤ length (now values)) ⌝ }
-    ensures { λ r. ⌜ spec.Puts (now (out .entry)) (now (out .exit)) at r (spec.numbersText (now (values .entry)) from n) ⌝ }
+    ensures { λ r. ⌜ spec.PutsWithin (now (out .entry)) (now (out .exit)) at r (spec.numbersText (now (values .entry)) from n) ⌝ }
 {
     let mut next = at;
     for i in 0..n {
@@ -83,7 +82,7 @@ fn put_numbers(out: &mut [u8], at: usize, values: &[f64], from: usize, n: usize)
 // The line of a key, from where its numbers begin in the values on.
 fn put_line(out: &mut [u8], at: usize, key: usize, values: &[f64], from: usize, n: usize) -> usize
     requires { ⌜ (at + length (decimal key) + spec.number-bytes * n + 1 ≤ length (now out)) × (from + n ≤ length (now values)) ⌝ }
-    ensures { λ r. ⌜ spec.Puts (now (out .entry)) (now (out .exit)) at r (spec.lineText key (now (values .entry)) from n) ⌝ }
+    ensures { λ r. ⌜ spec.PutsWithin (now (out .entry)) (now (out .exit)) at r (spec.lineText key (now (values .entry)) from n) ⌝ }
 {
     let second = put_decimal(out, at, key);
     let last = put_numbers(out, second, values, from, n);
@@ -93,7 +92,7 @@ fn put_line(out: &mut [u8], at: usize, key: usize, values: &[f64], from: usize, 
 // How many numbers the marginal of a key has.
 fn numbers_of(g: Graph, key: usize) -> usize
     requires { ⌜ (valid g ≡ true) × (key < g .variables) ⌝ }
-    ensures { λ r. ⌜ (r ≡ spec.numbersOf g key) × (r ≤ 42) ⌝ }
+    ensures { λ r. ⌜ (r ≡ spec.lineNumbers g key) × (r ≤ 42) ⌝ }
 {
     let sizes = g.sizes;
     let s = factor::size_of(sizes, key);
@@ -152,8 +151,8 @@ fn put_refusal(out: &mut [u8], number: usize, stage: usize, place: usize) -> usi
 
 // The line of a refusal. A short buffer is left as it was. The first run is into one byte that nobody reads: it finds the length.
 pub fn lay_refusal(why: Refusal, stage: usize, place: usize, out: &mut [u8]) -> Written
-    ensures { λ r. ⌜ r ≡ spec.written (now (out .entry)) (spec.refusalText (numberOf why) stage place) ⌝ }
-    ensures { λ _. ⌜ now (out .exit) ≡ spec.laidIn (now (out .entry)) (spec.refusalText (numberOf why) stage place) ⌝ }
+    ensures { λ r. ⌜ r ≡ spec.written (now (out .entry)) (spec.refusalText (refusalNumber why) stage place) ⌝ }
+    ensures { λ _. ⌜ now (out .exit) ≡ spec.laidIn (now (out .entry)) (spec.refusalText (refusalNumber why) stage place) ⌝ }
 {
     let number = graph::refusal::code(why);
     let mut nowhere = [0u8; 1];

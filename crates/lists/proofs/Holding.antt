@@ -10,12 +10,12 @@ use lib.Seq.{getD-drop}
 use Rattle.factor.specs.Limits.{max-variables, max-factors}
 use Rattle.schedule.specs.Pass.{at}
 use Rattle.plan.specs.Mask.{keysIn}
-use Rattle.plan.specs.Pass.{slotOf, messagesOf, msgAt, Ready}
+use Rattle.plan.specs.Pass.{passSlot, messagesOf, msgAt, PassReady}
 use Rattle.plan.specs.Gather.{gatheredOf, Held}
 use Rattle.plan.specs.declared.pass.Pass.{Pass}
 use Rattle.plan.specs.declared.gather.Gathered.{Gathered}
 use Rattle.plan.proofs.Unions.{at-msg}
-use Rattle.lists.specs.Lists.{backward-shift, first-backward, numberOf, raised, Holds, HoldsGathered}
+use Rattle.lists.specs.Lists.{backward-shift, first-backward, slotNumber, raised, Holds, HoldsGathered}
 use Rattle.lists.proofs.Writing.{raised-is}
 
 map-same : (f : ℕ → ℕ) (l : List ℕ) → ((x : ℕ) → f x ≡ x) → map f l ≡ l
@@ -34,7 +34,7 @@ raised-none s = go (ltb s max-factors)
     go true = refl
     go false = omega arith
 
-pub message-holds : (p : Pass) (j shift : ℕ) (kept cleared slots : List ℕ) (k c n : ℕ) → j < p .count → shift ≤ backward-shift → Ready max-variables p
+pub message-holds : (p : Pass) (j shift : ℕ) (kept cleared slots : List ℕ) (k c n : ℕ) → j < p .count → shift ≤ backward-shift → PassReady max-variables p
     → take k kept ≡ map (λ i. 0 + i) (keysIn (getD (p .masks) (max-factors + j) 0)) → k ≤ 0 + max-variables
     → take c cleared ≡ map (λ i. 0 + i) (keysIn (getD (p .cleared) j 0)) → c ≤ 0 + max-variables
     → take n slots ≡ map (raised shift) (drop (getD (p .starts) j 0) (take (getD (p .ends) j 0) (p .board .content)))
@@ -47,7 +47,7 @@ message-holds p j shift kept cleared slots k c n l low ready ek hk ec hc en hn =
       kept = ek ∙ map-same (λ i. 0 + i) (keysIn (getD (p .masks) (max-factors + j) 0)) (λ x. omega arith)
           ∙ ap keysIn (sym (getD-drop max-factors (p .masks) j 0));
       cleared = ec ∙ map-same (λ i. 0 + i) (keysIn (getD (p .cleared) j 0)) (λ x. omega arith);
-      slots = en ∙ map-map (numberOf shift) slotOf (raised shift) (drop (getD (p .starts) j 0) (take (getD (p .ends) j 0) (p .board .content)))
+      slots = en ∙ map-map (slotNumber shift) passSlot (raised shift) (drop (getD (p .starts) j 0) (take (getD (p .ends) j 0) (p .board .content)))
           (raised-is shift);
       few-kept = omega arith;
       few-cleared = omega arith;

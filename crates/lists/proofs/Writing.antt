@@ -10,12 +10,12 @@ use lib.Dec.{ltb}
 use lib.ListN.{length, getD, take, drop, set, length-take, length-set, drop-of-length-le}
 use lib.Seq.{take-suc, take-suc-set, drop-append-le}
 use Rattle.factor.specs.Limits.{max-variables, max-factors}
-use Rattle.schedule.specs.Count.{rising}
+use Rattle.schedule.specs.Count.{risingWhere}
 use Rattle.plan.specs.Mask.{has, keysIn}
-use Rattle.plan.specs.Pass.{pickSlot, slotOf}
+use Rattle.plan.specs.Pass.{pickSlot, passSlot}
 use Rattle.plan.proofs.Prefixes.{map-append}
 use Rattle.plan.proofs.Unions.{rising-more}
-use Rattle.lists.specs.Lists.{numberOf, raised}
+use Rattle.lists.specs.Lists.{slotNumber, raised}
 
 -- one entry more
 grown : (list base : List ℕ) (to x : ℕ) → to < length list → take to list ≡ base → take (to + 1) (set list to x) ≡ base ++ (x ∷ [])
@@ -24,22 +24,22 @@ grown list base to x h e = ap (λ (m : ℕ). take m (set list to x)) (add-one to
 module _ (f : ℕ → ℕ) where
   -- after j turns the members of a set below j follow what stood before
   abbrev pub Put : (p : ℕ → Bool) (list₀ : List ℕ) (at : ℕ) (list : List ℕ) (to j : ℕ) → Type 0
-  Put p list₀ at list to j = (j ≤ max-variables) × (to ≤ at + j) × (length list ≡ length list₀) × (take to list ≡ take at list₀ ++ map f (rising j p))
+  Put p list₀ at list to j = (j ≤ max-variables) × (to ≤ at + j) × (length list ≡ length list₀) × (take to list ≡ take at list₀ ++ map f (risingWhere j p))
 
   module _ (p : ℕ → Bool) (list₀ list l : List ℕ) (at to j : ℕ) (low : j < max-variables) (room : at + max-variables ≤ length list₀)
       (put : Put p list₀ at list to j) where
     pub put-in : (t : ℕ) → p j ≡ true → l ≡ set list to (f j) → t ≡ to + 1 → Put p list₀ at l t (j + 1)
     put-in t h el et =
-        rw (el, et, rising-more p j, h, map-append f (rising j p) (j ∷ [])) (
+        rw (el, et, rising-more p j, h, map-append f (risingWhere j p) (j ∷ [])) (
           omega arith,
           omega (arith, put .1),
           length-set list to (f j) ∙ put .2,
-          grown list (take at list₀ ++ map f (rising j p)) to (f j) (omega (arith, put .1, put .2)) (put .3)
-              ∙ append-assoc (take at list₀) (map f (rising j p)) (f j ∷ []),
+          grown list (take at list₀ ++ map f (risingWhere j p)) to (f j) (omega (arith, put .1, put .2)) (put .3)
+              ∙ append-assoc (take at list₀) (map f (risingWhere j p)) (f j ∷ []),
         )
 
     pub put-off : (t : ℕ) → p j ≡ false → l ≡ list → t ≡ to → Put p list₀ at l t (j + 1)
-    put-off t h el et = rw (el, et, rising-more p j, h, append-nil (rising j p)) (omega arith, omega (arith, put .1), put .2, put .3)
+    put-off t h el et = rw (el, et, rising-more p j, h, append-nil (risingWhere j p)) (omega arith, omega (arith, put .1), put .2, put .3)
 
   pub put-done : (mask : ℕ) (list₀ list : List ℕ) (at to j : ℕ) → Put (λ i. has i mask) list₀ at list to j → max-variables ≤ j
       → (take to list ≡ take at list₀ ++ map f (keysIn mask)) × (to ≤ at + max-variables)
@@ -64,10 +64,10 @@ module _ (f : ℕ → ℕ) where
       ∙ append-assoc base (map f (drop from (take i slots))) (f (getD slots i 0) ∷ []))
 
 -- the slot of a number, and the number that it has among the lists
-pub raised-is : (shift s : ℕ) → raised shift s ≡ numberOf shift (slotOf s)
-unfolding raised slotOf numberOf
+pub raised-is : (shift s : ℕ) → raised shift s ≡ slotNumber shift (passSlot s)
+unfolding raised passSlot slotNumber
 raised-is shift s = go (ltb s max-factors) refl
   where
-    go : (b : Bool) → ltb s max-factors ≡ b → cond b s (s + shift) ≡ numberOf shift (pickSlot b s)
+    go : (b : Bool) → ltb s max-factors ≡ b → cond b s (s + shift) ≡ slotNumber shift (pickSlot b s)
     go true e = refl
     go false e = omega (arith, ltb-false s max-factors e)

@@ -1,5 +1,5 @@
--- The lists of an elimination, out of a plan's arrays. A slot's number in them: an original has its own, the forward messages follow the originals, and the
--- backward ones follow the forward ones. Definitions only.
+-- Inner: the lists of an elimination, out of a plan's arrays. A slot's number in them: an original has its own, the forward messages follow the
+-- originals, and the backward ones follow the forward ones.
 use mathlib.Core.Path.{_≡_}
 use mathlib.Core.Bool.{cond}
 use mathlib.Core.List.{List, [], _∷_, _++_, map}
@@ -25,11 +25,11 @@ abbrev pub messageNumber : (shift j : ℕ) → ℕ
 messageNumber shift j = max-factors + shift + j
 
 -- the number of a slot of a pass
-unfoldable pub numberOf : ℕ → Slot → ℕ
-numberOf shift (original i) = i
-numberOf shift (closed j) = messageNumber shift j
+unfoldable pub slotNumber : ℕ → Slot → ℕ
+slotNumber shift (original i) = i
+slotNumber shift (closed j) = messageNumber shift j
 
--- the same from the number that it has in the pass
+-- `slotNumber` from the number that the slot has in the pass
 unfoldable pub raised : (shift s : ℕ) → ℕ
 raised shift s = cond (ltb s max-factors) s (s + shift)
 
@@ -37,7 +37,7 @@ raised shift s = cond (ltb s max-factors) s (s + shift)
 pub record Holds (shift : ℕ) (m : ClosedFactor) (l : Lists) : Type 0 where
   pub kept : take (l .keeps) (l .kept) ≡ m .kept
   pub cleared : take (l .clears) (l .cleared) ≡ m .cleared
-  pub slots : take (l .count) (l .slots) ≡ map (numberOf shift) (m .content)
+  pub slots : take (l .count) (l .slots) ≡ map (slotNumber shift) (m .content)
   pub few-kept : l .keeps ≤ max-variables
   pub few-cleared : l .clears ≤ max-variables
   pub few : l .count ≤ pass-slots

@@ -12,7 +12,7 @@ ghost use lib.ListN.{length, take, drop};
 ghost use Rattle.factor.specs.Limits.{max-variables};
 ghost use Rattle.schedule.specs.Pass.{at};
 ghost use Rattle.plan.specs.Mask.{keysIn};
-ghost use Rattle.plan.specs.Pass.{Ready, messagesOf};
+ghost use Rattle.plan.specs.Pass.{PassReady, messagesOf};
 ghost use Rattle.plan.specs.Gather.{Held, gatheredOf};
 ghost use Rattle.lists.specs.Lists.{backward-shift, first-backward, raised, Holds, HoldsGathered};
 
@@ -76,7 +76,7 @@ fn put_slots(
 
 // The lists of one message of a pass.
 pub fn message_lists(p: Pass, j: usize, shift: usize) -> Lists
-    requires { ⌜ Ready max-variables p × (j < p .count) × (shift ≤ backward-shift) ⌝ }
+    requires { ⌜ PassReady max-variables p × (j < p .count) × (shift ≤ backward-shift) ⌝ }
     ensures { λ r. ⌜ Holds shift (at (messagesOf p) j) r ⌝ }
 {
     let b = p.board;

@@ -1,15 +1,15 @@
--- In the marginals of all keys, the mean and the variance of a component stand where `meanAt` and `varianceAt` say. Assumes nothing.
+-- In the marginals of all keys, the mean and the variance of a component stand where `meanPlace` and `variancePlace` say. Assumes nothing.
 use Prim.Native.Nat.{ℕ, zero, suc, _+_, _-_, _*_, _≤_, _<_}
-use mathlib.Core.Path.{_≡_, refl, ap, _∙_}
+use mathlib.Core.Path.{_≡_, ap, _∙_}
 use mathlib.Core.List.{List, [], _∷_, _++_}
 use native.Mathlib.Omega.{arith}
 use native.Mathlib.Nat.{mul-le-mul}
 use lib.Ieee.{Float, nan}
 use lib.ListN.{length, getD, length-append, List·getD-append}
 use lib.Seq.{getD-append-add}
-use Rattle.graph.specs.Moments.{momentNumbers, startOf, meanAt, varianceAt}
+use Rattle.graph.specs.Moments.{momentNumbers, startOf, meanPlace, variancePlace}
 use Rattle.graph.proofs.Moments.{start-none, start-more}
-use Rattle.marginals.specs.Marginals.{Found, found, missing, marginalsIn}
+use Rattle.marginals.specs.Marginals.{Found, found, refused, marginalsIn}
 
 -- the marginals of the keys from j on, all found, each with as many numbers as its key's size asks for
 pub data Whole (sizes : List ℕ) : (j : ℕ) → List Found → Type 0 where
@@ -38,7 +38,7 @@ numbers-at sizes j zero (found m c ∷ rest) mean covariance (one hm hc w) e l x
   where
     numbersOf : Found → List Float
     numbersOf (found m c) = m ++ c
-    numbersOf (missing why) = []
+    numbersOf (refused why) = []
 numbers-at sizes j (suc i) (found m c ∷ rest) mean covariance (one hm hc w) e l x h =
     let k : j + suc i ≡ j + 1 + i = omega arith in
     let p : startOf sizes (j + suc i) - startOf sizes j + x ≡ length (m ++ c) + (startOf sizes (j + 1 + i) - startOf sizes (j + 1) + x) =
@@ -57,15 +57,15 @@ module _ (sizes : List ℕ) (all : List Found) (w : Whole sizes 0 all) (k : ℕ)
       ap (λ (y : ℕ). getD (marginalsIn all) y nan) p ∙ numbers-at sizes 0 k all mean covariance w e l x
       (omega (arith, ap (λ (y : ℕ). momentNumbers (getD sizes y 0)) z))
 
-  pub mean-there : getD (marginalsIn all) (meanAt sizes k c) nan ≡ getD mean c nan
+  pub mean-there : getD (marginalsIn all) (meanPlace sizes k c) nan ≡ getD mean c nan
   mean-there = at-key c (omega arith) ∙ List·getD-append mean covariance nan c (omega (arith, hm))
 
-  pub variance-there : getD (marginalsIn all) (varianceAt sizes k c) nan ≡ getD covariance (c * getD sizes k 0 + c) nan
+  pub variance-there : getD (marginalsIn all) (variancePlace sizes k c) nan ≡ getD covariance (c * getD sizes k 0 + c) nan
   variance-there =
       let s : ℕ = getD sizes k 0 in
       let x : ℕ = c * s + c in
       let most : c * s + s ≤ s * s = square c s h in
-      let p : varianceAt sizes k c ≡ startOf sizes k + (s + x) = omega arith in
+      let p : variancePlace sizes k c ≡ startOf sizes k + (s + x) = omega arith in
       let q : s + x ≡ length mean + x = omega (arith, hm) in
       ap (λ (y : ℕ). getD (marginalsIn all) y nan) p ∙ at-key (s + x) (omega arith) ∙ ap (λ (y : ℕ). getD (mean ++ covariance) y nan) q
       ∙ getD-append-add mean covariance x nan

@@ -12,19 +12,20 @@ use Rattle.graph.specs.declared.refusal.Refusal.the-variants.{ClearedPivot, Mar
 use Rattle.schedule.specs.Gather.{Gathered}
 use Rattle.plan.specs.Gather.{gatheredOf}
 use Rattle.plan.specs.declared.gather.Gathered as arrays
-use Rattle.gaussian.specs.Elimination.{Outcome, pivot, unbounded, message, eliminate}
-use Rattle.gaussian.specs.Answers.{viewsOf, answerOf, marginalFrom, refusedAs}
+use Rattle.gaussian.specs.Elimination.{Outcome, pivot, notFinite, message, eliminate}
+use Rattle.gaussian.specs.Answers.{viewsOf, marginalAnswer, marginalFrom, refusedAs}
 use Rattle.gaussian.specs.Asked.{Asked}
-use Rattle.cholesky.specs.Forms.{Form, form, noPivot, noNumber}
+use Rattle.cholesky.specs.Forms.{Form}
+use Rattle.cholesky.specs.Forms as forms
 use Rattle.gaussian.specs.Marginals.{momentsOf}
 use Rattle.gaussian.specs.declared.marginal.Answer.{Answer}
 use Rattle.gaussian.specs.declared.marginal.Ending.{Ending}
 use Rattle.gaussian.specs.declared.marginal.Ending.the-variants as ending
 use Rattle.lists.specs.Lists.{HoldsGathered}
 use Rattle.lists.specs.declared.Lists.{Lists}
-use Rattle.messages.specs.Values.{none, stopped}
-use Rattle.messages.specs.Asked.{clearedOf, slotsOf}
-use Rattle.marginals.specs.Marginals.{twice, Found, found, missing, foundBy, foundIn, missingFrom, marginalsIn}
+use Rattle.messages.specs.Values.{none, refusedAt}
+use Rattle.messages.specs.Asked.{clearedOf, listedSlots}
+use Rattle.marginals.specs.Marginals.{twice, Found, found, refused, foundBy, foundIn, missingFrom, marginalsIn}
 use Rattle.marginals.specs.Asked.{lastBy, foundAt, AskedAt}
 use Rattle.marginals.proofs.Lengths.{moments-long}
 use Rattle.factor.proofs.Laying.{lay-none}
@@ -33,10 +34,11 @@ use Rattle.factor.proofs.Laying.{lay-none}
 
 module _ (sizes : List ℕ) (factors messages : List Float) (keys heads : List ℕ) (key : ℕ) (q : Gathered) (l : Lists) (h : HoldsGathered key q l) where
   pub lists-asked : (work : ℕ) → AskedAt sizes factors messages work keys heads key q
-      → Asked (key ∷ []) (clearedOf l) sizes factors messages work keys heads (slotsOf l)
+      → Asked (key ∷ []) (clearedOf l) sizes factors messages work keys heads (listedSlots l)
   lists-asked work a = rw (h .cleared, h .slots) a
 
-  pub lists-last : (s : ℕ) (r : Answer) → r ≡ marginalFrom key s (eliminate (viewsOf factors messages keys heads (slotsOf l)) (key ∷ []) (clearedOf l) sizes)
+  pub lists-last : (s : ℕ) (r : Answer) → r ≡ marginalFrom key s
+      (eliminate (viewsOf factors messages keys heads (listedSlots l)) (key ∷ []) (clearedOf l) sizes)
       → r ≡ marginalFrom key s (lastBy sizes factors messages keys heads key q)
   lists-last s r e = rw (h .cleared, h .slots) at e
 
@@ -48,28 +50,28 @@ Tells s a f = toldBy (a .ending)
   where
     toldBy : Ending → Type 0
     toldBy ending.Done = (a .marginal .size ≡ s) × (f ≡ found (take s (a .marginal .mean)) (take (s * s) (a .marginal .covariance)))
-    toldBy ending.Cleared = f ≡ missing ClearedPivot
-    toldBy ending.Pivot = f ≡ missing MarginalPivot
-    toldBy ending.Unbounded = f ≡ missing ResultNotFinite
+    toldBy ending.ClearedPivot = f ≡ refused ClearedPivot
+    toldBy ending.Pivot = f ≡ refused MarginalPivot
+    toldBy ending.NotFinite = f ≡ refused ResultNotFinite
 
-tells-moments : (key s r : ℕ) (a xi w : List Float) (m : Form) → momentsOf r s a xi w ≡ m → Tells s (answerOf key s m) (foundBy m)
-unfolding answerOf foundBy refusedAs
-tells-moments key s r a xi w (form mean covariance) e =
+tells-moments : (key s r : ℕ) (a xi w : List Float) (m : Form) → momentsOf r s a xi w ≡ m → Tells s (marginalAnswer key s m) (foundBy m)
+unfolding marginalAnswer foundBy refusedAs
+tells-moments key s r a xi w (forms.form mean covariance) e =
     let long = moments-long s mean covariance r a xi w e in
     (refl, rw (take-at mean _ s (long .0), take-at covariance _ (s * s) (long .1)) refl)
-tells-moments key s r a xi w noPivot e = refl
-tells-moments key s r a xi w noNumber e = refl
+tells-moments key s r a xi w forms.pivot e = refl
+tells-moments key s r a xi w forms.notFinite e = refl
 
 tells : (key s : ℕ) (o : Outcome) → Tells s (marginalFrom key s o) (foundIn s o)
 unfolding marginalFrom foundIn refusedAs
 tells key s pivot = refl
-tells key s unbounded = refl
+tells key s notFinite = refl
 tells key s (message r a xi w) = tells-moments key s r a xi w (momentsOf r s a xi w) refl
 
 -- ---- the results
 
 module _ (f : Found) (key to : ℕ) (results : List Float) where
-  pub refused-is : (why : Refusal) → f ≡ missing why → (stopped key why ≡ missingFrom key (f ∷ [])) × (results ≡ lay results to (marginalsIn (f ∷ [])))
+  pub refused-is : (why : Refusal) → f ≡ refused why → (refusedAt key why ≡ missingFrom key (f ∷ [])) × (results ≡ lay results to (marginalsIn (f ∷ [])))
   unfolding missingFrom marginalsIn
   refused-is why e = rw e (refl, lay-none results to)
 
@@ -86,7 +88,7 @@ module _ (sizes : List ℕ) (factors messages : List Float) (keys heads : List �
   abbrev f : Found
   f = foundAt sizes factors messages keys heads key (gatheredOf q)
 
-  pub twice-told : b ≡ true → (stopped key CountedTwice ≡ missingFrom key (f ∷ [])) × (results ≡ lay results to (marginalsIn (f ∷ [])))
+  pub twice-told : b ≡ true → (refusedAt key CountedTwice ≡ missingFrom key (f ∷ [])) × (results ≡ lay results to (marginalsIn (f ∷ [])))
   unfolding foundAt gatheredOf
   twice-told h = let e : twice (take (q .count) (q .items)) ≡ true = sym eb ∙ h in refused-is f key to results CountedTwice (rw e refl)
 
@@ -98,13 +100,14 @@ module _ (sizes : List ℕ) (factors messages : List Float) (keys heads : List �
     told : Tells s a f
     told = rw (ea, once) (tells key s (lastBy sizes factors messages keys heads key (gatheredOf q)))
 
-    pub cleared-told : a .ending ≡ ending.Cleared → (stopped key ClearedPivot ≡ missingFrom key (f ∷ [])) × (results ≡ lay results to (marginalsIn (f ∷ [])))
+    pub cleared-told : a .ending ≡ ending.ClearedPivot → (refusedAt key ClearedPivot ≡ missingFrom key (f ∷ [])) ×
+        (results ≡ lay results to (marginalsIn (f ∷ [])))
     cleared-told e = refused-is f key to results ClearedPivot (rw e at told)
 
-    pub pivot-told : a .ending ≡ ending.Pivot → (stopped key MarginalPivot ≡ missingFrom key (f ∷ [])) × (results ≡ lay results to (marginalsIn (f ∷ [])))
+    pub pivot-told : a .ending ≡ ending.Pivot → (refusedAt key MarginalPivot ≡ missingFrom key (f ∷ [])) × (results ≡ lay results to (marginalsIn (f ∷ [])))
     pivot-told e = refused-is f key to results MarginalPivot (rw e at told)
 
-    pub unbounded-told : a .ending ≡ ending.Unbounded → (stopped key ResultNotFinite ≡ missingFrom key (f ∷ [])) ×
+    pub unbounded-told : a .ending ≡ ending.NotFinite → (refusedAt key ResultNotFinite ≡ missingFrom key (f ∷ [])) ×
         (results ≡ lay results to (marginalsIn (f ∷ [])))
     unbounded-told e = refused-is f key to results ResultNotFinite (rw e at told)
 

@@ -11,11 +11,11 @@ use lib.Seq.{length-take-le, getD-take}
 use Rattle.factor.specs.Limits.{max-variables}
 use Rattle.graph.specs.declared.Graph.{Graph}
 use Rattle.graph.proofs.Validity.{valid-count}
-use Rattle.schedule.specs.Count.{hit, count, In, rising, from}
+use Rattle.schedule.specs.Count.{hit, count, In, risingWhere, from}
 use Rattle.schedule.specs.Pass as pass
 use Rattle.schedule.specs.Pass.{original, closed, ClosedFactor}
 use Rattle.schedule.specs.Gather.{Gathered}
-use Rattle.schedule.specs.Plan as lists
+use Rattle.schedule.specs.Plan as schedule
 use Rattle.schedule.proofs.Counts.{count-cons, count-nil, hit-cases, mem-in, rising-in}
 use Rattle.schedule.specs.Messages.{Settled}
 use Rattle.schedule.proofs.Runs.{from-lt}
@@ -26,21 +26,21 @@ use Rattle.plan.specs.declared.gather.Gathered as arrays
 use Rattle.plan.proofs.Prefixes.{map-append}
 use Rattle.workspace.specs.Frames.{work-numbers}
 use Rattle.slots.specs.Limits.{max-slots}
-use Rattle.slots.specs.Tables.{headOf, storeOf, readView}
+use Rattle.slots.specs.Tables.{headOf, slotStore, readView}
 use Rattle.slots.specs.Views.{FactorView}
 use Rattle.gaussian.specs.Answers.{viewsOf}
 use Rattle.gaussian.specs.Asked.{HeadFits}
 use Rattle.tables.specs.Originals.{originalView}
 use Rattle.tables.proofs.Dimensions.{total-within, kept-listed, cleared-listed}
-use Rattle.lists.specs.Lists.{backward-shift, messageNumber, numberOf, gatheredNumbers}
+use Rattle.lists.specs.Lists.{backward-shift, messageNumber, slotNumber, gatheredNumbers}
 use Rattle.messages.specs.Figure.{need}
 use Rattle.messages.specs.Values.{slotView, values}
 use Rattle.messages.proofs.Members.{at-in, at-map, below-cleared, below-kept, once, kept-length}
 use Rattle.messages.proofs.Slots.{slot-fits}
 use Rattle.messages.proofs.Reading.{slot-view}
 use Rattle.marginals.specs.Marginals.{marginalNumbers, gatheredViews, marginal, marginalsFrom}
-use Rattle.marginals.specs.Asked.{foundAt, foundFrom, AskedAt, Findable, Gatherable}
-use Rattle.graph.specs.Record.{keysOf}
+use Rattle.marginals.specs.Asked.{foundAt, foundFrom, AskedAt, Findable, PlanCarried}
+use Rattle.graph.specs.Record.{factorKeys}
 
 -- ---- lists, entry by entry
 
@@ -68,13 +68,13 @@ map-same f h (x ∷ l) e = rw (e x (List·Memᴰ·head refl), map-same f h l (λ
 
 set-few : (m : ℕ) → length (keysIn m) ≤ max-variables
 unfolding keysIn
-set-few m = kept-length max-variables [] (rising max-variables (λ j. has j m)) (λ x. apart x)
+set-few m = kept-length max-variables [] (risingWhere max-variables (λ j. has j m)) (λ x. apart x)
     (λ x h. rising-in max-variables (λ j. has j m) x (omega (arith, count-nil x)) .1)
   where
-    apart : (x : ℕ) → count x [] + count x (rising max-variables (λ j. has j m)) ≤ 1
-    apart x = go (decLt 0 (count x (rising max-variables (λ j. has j m))))
+    apart : (x : ℕ) → count x [] + count x (risingWhere max-variables (λ j. has j m)) ≤ 1
+    apart x = go (decLt 0 (count x (risingWhere max-variables (λ j. has j m))))
       where
-        go : Dec (0 < count x (rising max-variables (λ j. has j m))) → count x [] + count x (rising max-variables (λ j. has j m)) ≤ 1
+        go : Dec (0 < count x (risingWhere max-variables (λ j. has j m))) → count x [] + count x (risingWhere max-variables (λ j. has j m)) ≤ 1
         go (yes h) = omega (arith, count-nil x, rising-in max-variables (λ j. has j m) x h .2)
         go (no h) = omega (arith, count-nil x)
 
@@ -97,15 +97,15 @@ numbers-few q held =
 
 -- ---- one key
 
-module _ (g : Graph) (p : lists.Plan) (at : List arrays.Gathered) (factors messages : List Float) (keys heads : List ℕ)
-    (run : Gatherable g p at factors messages keys heads) where
+module _ (g : Graph) (p : schedule.Plan) (at : List arrays.Gathered) (factors messages : List Float) (keys heads : List ℕ)
+    (run : PlanCarried g p at factors messages keys heads) where
   abbrev fw : List ClosedFactor
   fw = p .forward
 
   abbrev bw : List ClosedFactor
   bw = p .backward
 
-  module _ (k : ℕ) (l : k < g .variables) (q : Gathered) (settled : Settled (g .variables) (keysOf g) (from 0 (g .count)) fw bw k q) where
+  module _ (k : ℕ) (l : k < g .variables) (q : Gathered) (settled : Settled (g .variables) (factorKeys g) (from 0 (g .count)) fw bw k q) where
     -- the keys of the elimination
     low : (x : ℕ) → 1 ≤ count x (q .last) + count x (k ∷ []) → x < g .variables
     low x h = go (hit-cases x k)
@@ -116,11 +116,11 @@ module _ (g : Graph) (p : lists.Plan) (at : List arrays.Gathered) (factors messa
 
     -- the slots
     abbrev Fits : ℕ → Type 0
-    Fits number = (number < max-slots) × HeadFits (k ∷ []) (q .last) (g .sizes) keys (length (storeOf (headOf heads number .slot) factors messages))
+    Fits number = (number < max-slots) × HeadFits (k ∷ []) (q .last) (g .sizes) keys (length (slotStore (headOf heads number .slot) factors messages))
         (headOf heads number)
 
     forward-fits : (j : ℕ) → In j (q .forward) → Fits (messageNumber 0 j)
-    unfolding numberOf pass.keysOf need
+    unfolding slotNumber pass.slotKeys need
     forward-fits j h =
         let s = settled .forward j h in (
           omega (arith, s .0, run .forward .few),
@@ -129,7 +129,7 @@ module _ (g : Graph) (p : lists.Plan) (at : List arrays.Gathered) (factors messa
         )
 
     backward-fits : (j : ℕ) → In j (q .backward) → Fits (messageNumber backward-shift j)
-    unfolding numberOf pass.keysOf need
+    unfolding slotNumber pass.slotKeys need
     backward-fits j h =
         let s = settled .backward j h in (
           omega (arith, s .0, run .backward .few),
@@ -138,7 +138,7 @@ module _ (g : Graph) (p : lists.Plan) (at : List arrays.Gathered) (factors messa
         )
 
     original-fits : (i : ℕ) → In i (q .originals) → Fits i
-    unfolding numberOf pass.keysOf need
+    unfolding slotNumber pass.slotKeys need
     original-fits i h =
         let s = settled .originals i h in
         let b : i < g .count = from-lt i (g .count) (s .0) in (
@@ -175,20 +175,20 @@ module _ (g : Graph) (p : lists.Plan) (at : List arrays.Gathered) (factors messa
     view number = readView factors messages keys (headOf heads number)
 
     forward-views : map view (map (messageNumber 0) (q .forward)) ≡ map (λ j. slotView g factors fw (values g factors fw) (closed j)) (q .forward)
-    unfolding numberOf values
+    unfolding slotNumber values
     forward-views = map-map view (messageNumber 0) _ (q .forward)
         (λ j m. slot-view g fw (run .forward) 0 0 (length fw) keys heads (omega arith) (omega arith) (run .tables) (run .placed) factors messages
         (run .stored) (closed j) (settled .forward j (mem-in m) .0))
 
     backward-views : map view (map (messageNumber backward-shift) (q .backward))
         ≡ map (λ j. slotView g factors bw (values g factors bw) (closed j)) (q .backward)
-    unfolding numberOf values
+    unfolding slotNumber values
     backward-views =
         map-map view (messageNumber backward-shift) _ (q .backward) (λ j m. slot-view g bw (run .backward) backward-shift (need g fw) (length bw) keys
         heads (omega arith) (omega arith) (run .tables) (run .placed′) factors messages (run .stored′) (closed j) (settled .backward j (mem-in m) .0))
 
     original-views : map view (q .originals) ≡ map (originalView g factors) (q .originals)
-    unfolding numberOf slotView
+    unfolding slotNumber slotView
     original-views =
         map-same view (originalView g factors) (q .originals) (λ i m. slot-view g fw (run .forward) 0 0 (length fw) keys heads (omega arith)
         (omega arith) (run .tables) (run .placed) factors messages (run .stored) (original i) (from-lt i (g .count) (settled .originals i (mem-in m) .0)))
@@ -219,7 +219,7 @@ module _ (g : Graph) (p : lists.Plan) (at : List arrays.Gathered) (factors messa
       }
 
   from-is : (k : ℕ) (qs : List Gathered) (d : Gathered) → ((i : ℕ) → i < length qs
-      → (k + i < g .variables) × Settled (g .variables) (keysOf g) (from 0 (g .count)) fw bw (k + i) (getD qs i d))
+      → (k + i < g .variables) × Settled (g .variables) (factorKeys g) (from 0 (g .count)) fw bw (k + i) (getD qs i d))
       → foundFrom (g .sizes) factors messages keys heads k qs ≡ marginalsFrom g factors p (values g factors fw) (values g factors bw) k qs
   unfolding foundFrom marginalsFrom
   from-is k [] d h = refl
@@ -238,7 +238,7 @@ module _ (g : Graph) (p : lists.Plan) (at : List arrays.Gathered) (factors messa
       ∙ ap (marginalsFrom g factors p (values g factors fw) (values g factors bw) 0) (sym (run .gathers))
     where
       each : (i : ℕ) → i < length (map gatheredOf (take (g .variables) at))
-          → (0 + i < g .variables) × Settled (g .variables) (keysOf g) (from 0 (g .count)) fw bw (0 + i)
+          → (0 + i < g .variables) × Settled (g .variables) (factorKeys g) (from 0 (g .count)) fw bw (0 + i)
           (getD (map gatheredOf (take (g .variables) at)) i (gatheredOf noGathered))
       each i h =
           let b : i < length (take (g .variables) at) = omega (arith, length-map (take (g .variables) at) gatheredOf) in

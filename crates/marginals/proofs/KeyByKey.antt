@@ -12,15 +12,16 @@ use Rattle.factor.specs.Factor.{lay}
 use Rattle.graph.specs.declared.refusal.Refusal.{Refusal}
 use Rattle.graph.specs.declared.refusal.Refusal.the-variants.{CountedTwice}
 use Rattle.schedule.specs.Gather.{Gathered}
-use Rattle.gaussian.specs.Elimination.{Outcome, pivot, unbounded, message}
-use Rattle.cholesky.specs.Forms.{Form, form, noPivot, noNumber}
+use Rattle.gaussian.specs.Elimination.{Outcome, pivot, notFinite, message}
+use Rattle.cholesky.specs.Forms.{Form}
+use Rattle.cholesky.specs.Forms as forms
 use Rattle.gaussian.specs.Marginals.{momentsOf}
-use Rattle.messages.specs.Values.{none, stopped}
-use Rattle.messages.specs.Asked.{stopOf}
+use Rattle.messages.specs.Values.{none, refusedAt}
+use Rattle.messages.specs.Asked.{refusalIn}
 use Rattle.messages.proofs.Telling.{carried-tells}
 use Rattle.messages.specs.declared.Carried.{Carried}
-use Rattle.messages.specs.declared.Carried.the-variants.{Through, Halted}
-use Rattle.marginals.specs.Marginals.{twice, Found, found, missing, foundBy, foundIn, missingFrom, marginalsIn}
+use Rattle.messages.specs.declared.Carried.the-variants.{Done, Refused}
+use Rattle.marginals.specs.Marginals.{twice, Found, found, refused, foundBy, foundIn, missingFrom, marginalsIn}
 use Rattle.graph.specs.Moments.{momentNumbers, startOf}
 use Rattle.graph.proofs.Moments.{start-none, start-more}
 use Rattle.marginals.specs.Asked.{foundAt, foundFrom, lastBy, Finds}
@@ -33,14 +34,14 @@ through-first : (f : Found) (rest : List Found) (k : ℕ) → missingFrom k (f �
     → (missingFrom k (f ∷ rest) ≡ missingFrom (k + 1) rest) × (marginalsIn (f ∷ rest) ≡ marginalsIn (f ∷ []) ++ marginalsIn rest)
 unfolding missingFrom marginalsIn
 through-first (found mean covariance) rest k e = (refl, ap (λ (l : List Float). l ++ marginalsIn rest) (sym (append-nil (mean ++ covariance))))
-through-first (missing why) rest k e = absurd (let z : _≡_ {A = ℕ} 0 1 = cc in omega arith)
+through-first (refused why) rest k e = absurd (let z : _≡_ {A = ℕ} 0 1 = cc in omega arith)
 
-halted-first : (f : Found) (rest : List Found) (k j : ℕ) (why : Refusal) → missingFrom k (f ∷ []) ≡ stopped j why → missingFrom k (f ∷ rest) ≡ stopped j why
+halted-first : (f : Found) (rest : List Found) (k j : ℕ) (why : Refusal) → missingFrom k (f ∷ []) ≡ refusedAt j why → missingFrom k (f ∷ rest) ≡ refusedAt j why
 unfolding missingFrom
 halted-first (found mean covariance) rest k j why e = absurd (let z : _≡_ {A = ℕ} 0 1 = cc in omega arith)
-halted-first (missing w) rest k j why e = e
+halted-first (refused w) rest k j why e = e
 
-never-through : (k : ℕ) (why : Refusal) → missingFrom k (missing why ∷ []) ≡ none → ⊥
+never-through : (k : ℕ) (why : Refusal) → missingFrom k (refused why ∷ []) ≡ none → ⊥
 unfolding missingFrom
 never-through k why e = let z : _≡_ {A = ℕ} 0 1 = cc in omega arith
 
@@ -49,16 +50,16 @@ never-through k why e = let z : _≡_ {A = ℕ} 0 1 = cc in omega arith
 moments-count : (s r : ℕ) (a xi w : List Float) (m : Form) (k : ℕ) → momentsOf r s a xi w ≡ m → missingFrom k (foundBy m ∷ []) ≡ none
     → length (marginalsIn (foundBy m ∷ [])) ≡ momentNumbers s
 unfolding foundBy missingFrom marginalsIn
-moments-count s r a xi w (form mean covariance) k e h =
+moments-count s r a xi w (forms.form mean covariance) k e h =
     let long = moments-long s mean covariance r a xi w e in
     ap length (append-nil (mean ++ covariance)) ∙ length-append mean covariance ∙ omega (arith, long .0, long .1)
-moments-count s r a xi w noPivot k e h = absurd (let z : _≡_ {A = ℕ} 0 1 = cc in omega arith)
-moments-count s r a xi w noNumber k e h = absurd (let z : _≡_ {A = ℕ} 0 1 = cc in omega arith)
+moments-count s r a xi w forms.pivot k e h = absurd (let z : _≡_ {A = ℕ} 0 1 = cc in omega arith)
+moments-count s r a xi w forms.notFinite k e h = absurd (let z : _≡_ {A = ℕ} 0 1 = cc in omega arith)
 
 outcome-count : (s : ℕ) (o : Outcome) (k : ℕ) → missingFrom k (foundIn s o ∷ []) ≡ none → length (marginalsIn (foundIn s o ∷ [])) ≡ momentNumbers s
 unfolding foundIn missingFrom marginalsIn
 outcome-count s pivot k h = absurd (let z : _≡_ {A = ℕ} 0 1 = cc in omega arith)
-outcome-count s unbounded k h = absurd (let z : _≡_ {A = ℕ} 0 1 = cc in omega arith)
+outcome-count s notFinite k h = absurd (let z : _≡_ {A = ℕ} 0 1 = cc in omega arith)
 outcome-count s (message r a xi w) k h = moments-count s r a xi w (momentsOf r s a xi w) k refl h
 
 module _ (sizes : List ℕ) (factors messages : List Float) (keys heads : List ℕ) where
@@ -70,8 +71,8 @@ module _ (sizes : List ℕ) (factors messages : List Float) (keys heads : List �
       o : Outcome
       o = lastBy sizes factors messages keys heads k q
 
-      go : (b : Bool) → missingFrom k (cond b (missing CountedTwice) (foundIn (getD sizes k 0) o) ∷ []) ≡ none
-          → length (marginalsIn (cond b (missing CountedTwice) (foundIn (getD sizes k 0) o) ∷ [])) ≡ momentNumbers (getD sizes k 0)
+      go : (b : Bool) → missingFrom k (cond b (refused CountedTwice) (foundIn (getD sizes k 0) o) ∷ []) ≡ none
+          → length (marginalsIn (cond b (refused CountedTwice) (foundIn (getD sizes k 0) o) ∷ [])) ≡ momentNumbers (getD sizes k 0)
       go true e = absurd (never-through k CountedTwice e)
       go false e = outcome-count (getD sizes k 0) o k e
 
@@ -130,11 +131,11 @@ module _ (sizes : List ℕ) (factors messages : List Float) (keys heads : List �
                 ∙ drop-drop (length (marginalsIn (f ∷ []))) to results₀);
           }
 
-      pub walk-halted : (numbers j : ℕ) (why : Refusal) (r : Carried) (results′ : List Float) → r ≡ Halted j why → stopOf r ≡ missingFrom k (f ∷ [])
+      pub walk-halted : (numbers j : ℕ) (why : Refusal) (r : Carried) (results′ : List Float) → r ≡ Refused j why → refusalIn r ≡ missingFrom k (f ∷ [])
           → Finds all numbers r results₀ results′
       walk-halted numbers j why r results′ er e =
-          let s : stopOf r ≡ missingFrom 0 all = rw er (sym (w .stop ∙ ap (missingFrom k) opened
-          ∙ halted-first f (rest (k + 1)) k j why (sym e ∙ ap stopOf er))) in
+          let s : refusalIn r ≡ missingFrom 0 all = rw er (sym (w .stop ∙ ap (missingFrom k) opened
+          ∙ halted-first f (rest (k + 1)) k j why (sym e ∙ ap refusalIn er))) in
           record {
             tells = s;
             told = carried-tells r (missingFrom 0 all) s;
@@ -142,11 +143,11 @@ module _ (sizes : List ℕ) (factors messages : List Float) (keys heads : List �
             stand = λ t. absurd (apart t);
           }
         where
-          apart : r ≡ Through → ⊥
+          apart : r ≡ Done → ⊥
           apart t = let z : _≡_ {A = ℕ} 0 1 = cc in omega arith
 
     pub walk-done : (results₀ results : List Float) (to k : ℕ) → Walked results₀ results to k → length qs ≤ k
-        → Finds all (startOf sizes (length qs)) Through results₀ results
+        → Finds all (startOf sizes (length qs)) Done results₀ results
     unfolding foundFrom missingFrom marginalsIn
     walk-done results₀ results to k w h =
         let e : drop k qs ≡ [] = drop-of-length-le qs {i = k} h in
@@ -156,7 +157,7 @@ module _ (sizes : List ℕ) (factors messages : List Float) (keys heads : List �
         let s : none ≡ missingFrom 0 all = sym (w .stop ∙ rw e refl) in
         record {
           tells = s;
-          told = carried-tells Through (missingFrom 0 all) s;
+          told = carried-tells Done (missingFrom 0 all) s;
           count = λ t. n ∙ w .place ∙ ap (startOf sizes) i;
           stand = λ t. rw (n, d) (sym (take-append-drop to results) ∙ ap (λ (l : List Float). take to results ++ l) (w .after));
         }

@@ -16,9 +16,9 @@ use Rattle.schedule.specs.Gather.{Gathered}
 use Rattle.plan.specs.Gather.{Held, gatheredOf}
 use Rattle.plan.specs.Plan.{noGathered}
 use Rattle.plan.specs.declared.gather.Gathered as arrays
-use Rattle.messages.specs.Asked.{stopOf}
+use Rattle.messages.specs.Asked.{refusalIn}
 use Rattle.messages.specs.declared.Carried.{Carried}
-use Rattle.messages.specs.declared.Carried.the-variants.{Through, Halted}
+use Rattle.messages.specs.declared.Carried.the-variants.{Done, Refused}
 use Rattle.messages.proofs.Members.{at-map}
 use Rattle.marginals.specs.Marginals.{marginalNumbers, Found, missingFrom, marginalsIn}
 use Rattle.graph.specs.Moments.{startOf}
@@ -46,9 +46,9 @@ module _ (g : Graph) (at : List arrays.Gathered) (factors messages : List Float)
       (found-planned g p at factors messages keys heads run) (rw e at h)
 
   pub search-done : (results : List Float) (to k : ℕ) → At results to k → g .variables ≤ k
-      → FindsPlanned g at factors messages keys heads Through results₀ results
+      → FindsPlanned g at factors messages keys heads Done results₀ results
   search-done results to k w h =
-      planned-finds (startOf (g .sizes) (length (entries at (g .variables)))) Through results (ap (startOf (g .sizes)) many ∙ all-numbers g (f .sound))
+      planned-finds (startOf (g .sizes) (length (entries at (g .variables)))) Done results (ap (startOf (g .sizes)) many ∙ all-numbers g (f .sound))
       (walk-done (g .sizes) factors messages keys heads (entries at (g .variables)) results₀ results to k w (omega (arith, many)))
 
   module _ (results : List Float) (to k : ℕ) (w : At results to k) (l : k < g .variables) where
@@ -75,15 +75,15 @@ module _ (g : Graph) (at : List arrays.Gathered) (factors messages : List Float)
     pub turn-asked : (work : ℕ) → work ≡ work₀ → Held q × AskedAt (g .sizes) factors messages work keys heads k (gatheredOf q) × (sizeAt g k ≤ max-size)
     turn-asked work e = rw e (f .held k l, f .asked k l, key-small)
 
-    pub search-on : (r : Carried) (results′ : List Float) (s : ℕ) → r ≡ Through → stopOf r ≡ missingFrom k (own ∷ []) → results′
+    pub search-on : (r : Carried) (results′ : List Float) (s : ℕ) → r ≡ Done → refusalIn r ≡ missingFrom k (own ∷ []) → results′
         ≡ lay results to (marginalsIn (own ∷ [])) → s ≡ sizeAt g k
         → At results′ (to + (s + s * s)) (k + 1)
     search-on r results′ s er et el es =
         walk-on (g .sizes) factors messages keys heads (entries at (g .variables)) results₀ results to k (gatheredOf q) w (omega (arith, many)) entry
         results′ (to + (s + s * s))
-        (sym et ∙ ap stopOf er) el (rw es refl) turn-room
+        (sym et ∙ ap refusalIn er) el (rw es refl) turn-room
 
-    pub search-halted : (j : ℕ) (why : Refusal) (r : Carried) (results′ : List Float) → r ≡ Halted j why → stopOf r ≡ missingFrom k (own ∷ [])
+    pub search-halted : (j : ℕ) (why : Refusal) (r : Carried) (results′ : List Float) → r ≡ Refused j why → refusalIn r ≡ missingFrom k (own ∷ [])
         → FindsPlanned g at factors messages keys heads r results₀ results′
     search-halted j why r results′ er e =
         planned-finds (marginalNumbers g) r results′ refl

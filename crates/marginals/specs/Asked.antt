@@ -1,16 +1,16 @@
--- The marginals as the tables and the stores of a run give them, and what their finding asks for. Definitions only.
+-- Inner: the marginals as the tables and the stores of a run give them, and what their finding asks for.
 use mathlib.Core.Path.{_≡_}
 use mathlib.Core.Bool.{true, cond}
 use mathlib.Core.List.{List, [], _∷_, map}
 use Prim.Native.Nat.{ℕ, _+_, _≤_, _<_}
 use lib.Ieee.{Float}
 use lib.ListN.{length, getD, take}
-use Rattle.graph.specs.Record.{offset, valid, keysOf}
+use Rattle.graph.specs.Record.{offset, valid, factorKeys}
 use Rattle.graph.specs.declared.Graph.{Graph}
 use Rattle.graph.specs.declared.refusal.Refusal.the-variants.{CountedTwice}
 use Rattle.schedule.specs.Count.{from}
 use Rattle.schedule.specs.Gather.{Gathered}
-use Rattle.schedule.specs.Plan as lists
+use Rattle.schedule.specs.Plan as schedule
 use Rattle.schedule.specs.Messages.{Settled}
 use Rattle.plan.specs.Gather.{Held, gatheredOf}
 use Rattle.plan.specs.Plan.{noGathered}
@@ -22,11 +22,11 @@ use Rattle.lists.specs.Lists.{backward-shift, gatheredNumbers}
 use Rattle.messages.specs.Figure.{need}
 use Rattle.messages.specs.Tables.{Carriable, PlacedTo, Tables, Stored}
 use Rattle.messages.specs.Values.{values, overlaid}
-use Rattle.messages.specs.Asked.{stopOf}
+use Rattle.messages.specs.Asked.{refusalIn}
 use Rattle.messages.specs.Told.{carriedTold, stopTold}
 use Rattle.messages.specs.declared.Carried.{Carried}
-use Rattle.messages.specs.declared.Carried.the-variants.{Through}
-use Rattle.marginals.specs.Marginals.{marginalNumbers, twice, Found, missing, foundIn, marginalsFrom, missingFrom, marginalsIn}
+use Rattle.messages.specs.declared.Carried.the-variants.{Done}
+use Rattle.marginals.specs.Marginals.{marginalNumbers, twice, Found, refused, foundIn, marginalsFrom, missingFrom, marginalsIn}
 
 -- ---- by the tables
 
@@ -36,7 +36,7 @@ lastBy sizes factors messages keys heads k q = eliminate (viewsOf factors messag
 
 unfoldable pub foundAt : (sizes : List ℕ) (factors messages : List Float) (keys heads : List ℕ) (k : ℕ) (q : Gathered) → Found
 foundAt sizes factors messages keys heads k q =
-    cond (twice (q .leaves)) (missing CountedTwice) (foundIn (getD sizes k 0) (lastBy sizes factors messages keys heads k q))
+    cond (twice (q .leaves)) (refused CountedTwice) (foundIn (getD sizes k 0) (lastBy sizes factors messages keys heads k q))
 
 -- the marginals of the keys from k on
 unfoldable pub foundFrom : (sizes : List ℕ) (factors messages : List Float) (keys heads : List ℕ) (k : ℕ) (qs : List Gathered) → List Found
@@ -59,7 +59,7 @@ pub record Findable (g : Graph) (at : List arrays.Gathered) (factors messages : 
 -- ---- of a plan
 
 -- The tables and the stores are those of a run over the passes of a plan, and each key has what the plan gathers there.
-pub record Gatherable (g : Graph) (p : lists.Plan) (at : List arrays.Gathered) (factors messages : List Float) (keys heads : List ℕ) : Type 0 where
+pub record PlanCarried (g : Graph) (p : schedule.Plan) (at : List arrays.Gathered) (factors messages : List Float) (keys heads : List ℕ) : Type 0 where
   pub forward : Carriable g (p .forward)
   pub backward : Carriable g (p .backward)
   pub tables : Tables g keys heads
@@ -71,23 +71,23 @@ pub record Gatherable (g : Graph) (p : lists.Plan) (at : List arrays.Gathered) (
   pub gathers : p .at-key ≡ map gatheredOf (take (g .variables) at)
   pub held : (k : ℕ) → k < g .variables → Held (getD at k noGathered)
   pub settled : (k : ℕ) → k < g .variables
-      → Settled (g .variables) (keysOf g) (from 0 (g .count)) (p .forward) (p .backward) k (gatheredOf (getD at k noGathered))
+      → Settled (g .variables) (factorKeys g) (from 0 (g .count)) (p .forward) (p .backward) k (gatheredOf (getD at k noGathered))
   pub enough : offset g (g .count) ≤ length factors
   pub enough′ : need g (p .forward) + need g (p .backward) ≤ length messages
 
 -- the marginals of a plan
-abbrev pub planned : Graph → List Float → lists.Plan → List Found
-planned g factors p = marginalsFrom g factors p (values g factors (p .forward)) (values g factors (p .backward)) 0 (p .at-key)
+abbrev pub plannedMarginals : Graph → List Float → schedule.Plan → List Found
+plannedMarginals g factors p = marginalsFrom g factors p (values g factors (p .forward)) (values g factors (p .backward)) 0 (p .at-key)
 
 -- the answer tells the first key without a marginal; where there is none, the marginals are so many numbers, and stand at the start of the results
 pub record Finds (all : List Found) (numbers : ℕ) (r : Carried) (before after : List Float) : Type 0 where
-  pub tells : stopOf r ≡ missingFrom 0 all
+  pub tells : refusalIn r ≡ missingFrom 0 all
   pub told : carriedTold r ≡ stopTold (missingFrom 0 all)
-  pub count : r ≡ Through → length (marginalsIn all) ≡ numbers
-  pub stand : r ≡ Through → after ≡ overlaid before (marginalsIn all)
+  pub count : r ≡ Done → length (marginalsIn all) ≡ numbers
+  pub stand : r ≡ Done → after ≡ overlaid before (marginalsIn all)
 
 -- `Finds` holds for every plan p whose messages stand in these tables and stores
 abbrev pub FindsPlanned : (g : Graph) (at : List arrays.Gathered) (factors messages : List Float) (keys heads : List ℕ)
     (r : Carried) (before after : List Float) → Type 0
 FindsPlanned g at factors messages keys heads r before after =
-    (p : lists.Plan) → Gatherable g p at factors messages keys heads → Finds (planned g factors p) (marginalNumbers g) r before after
+    (p : schedule.Plan) → PlanCarried g p at factors messages keys heads → Finds (plannedMarginals g factors p) (marginalNumbers g) r before after

@@ -25,7 +25,7 @@ ghost use Rattle.slots.specs.Limits.{max-slots};
 ghost use Rattle.gaussian.specs.Elimination.{eliminate};
 ghost use Rattle.gaussian.specs.Answers.{viewsOf, marginalFrom};
 ghost use Rattle.gaussian.specs.Asked.{Asked};
-ghost use Rattle.messages.specs.Asked.{clearedOf, slotsOf, stopOf};
+ghost use Rattle.messages.specs.Asked.{clearedOf, listedSlots, refusalIn};
 ghost use Rattle.marginals.specs.Marginals.{twice, missingFrom, marginalsIn};
 ghost use Rattle.marginals.specs.Asked.{lastBy, foundAt, AskedAt, Findable, FindsPlanned};
 
@@ -75,9 +75,9 @@ fn marginal_by<'a>(
     heads: &[usize],
 ) -> Answer
     requires { ⌜ (l .clears ≤ max-variables) × (l .count ≤ max-slots) × (getD sizes key 0 ≤ max-size) ⌝ }
-    requires { ⌜ Asked (key ∷ []) (clearedOf l) sizes (now factors) (now messages) (length (now work)) (now keys) (now heads) (slotsOf l) ⌝ }
+    requires { ⌜ Asked (key ∷ []) (clearedOf l) sizes (now factors) (now messages) (length (now work)) (now keys) (now heads) (listedSlots l) ⌝ }
     ensures { λ r. ⌜ r ≡ marginalFrom key (getD sizes key 0)
-        (eliminate (viewsOf (now (factors .entry)) (now (messages .entry)) (now (keys .entry)) (now (heads .entry)) (slotsOf l))
+        (eliminate (viewsOf (now (factors .entry)) (now (messages .entry)) (now (keys .entry)) (now (heads .entry)) (listedSlots l))
         (key ∷ []) (clearedOf l) sizes) ⌝ }
 {
     let cleared = l.cleared;
@@ -133,14 +133,14 @@ fn find_marginal<'a>(
     requires { ⌜ Held q × AskedAt sizes (now factors) (now messages) (length (now work)) (now keys) (now heads) key (gatheredOf q)
         × (getD sizes key 0 ≤ max-size) ⌝ }
     requires { ⌜ to + (getD sizes key 0 + getD sizes key 0 * getD sizes key 0) ≤ length (now results) ⌝ }
-    ensures { λ r. ⌜ stopOf r ≡ missingFrom key
+    ensures { λ r. ⌜ refusalIn r ≡ missingFrom key
         (foundAt sizes (now (factors .entry)) (now (messages .entry)) (now (keys .entry)) (now (heads .entry)) key (gatheredOf q) ∷ []) ⌝ }
     ensures { λ _. ⌜ now (results .exit) ≡ lay (now (results .entry)) to
         (marginalsIn (foundAt sizes (now (factors .entry)) (now (messages .entry)) (now (keys .entry)) (now (heads .entry)) key (gatheredOf q) ∷ [])) ⌝ }
 {
     let items = q.items;
     if counted_twice(&items, q.count) {
-        return Carried::Halted(key, Refusal::CountedTwice);
+        return Carried::Refused(key, Refusal::CountedTwice);
     }
     let a = marginal_of(q, key, sizes, factors, messages, work, keys, heads);
     let ending = a.ending;
@@ -148,11 +148,11 @@ fn find_marginal<'a>(
     match ending {
         Ending::Done => {
             put_marginal(results, to, m);
-            Carried::Through
+            Carried::Done
         }
-        Ending::Cleared => Carried::Halted(key, Refusal::ClearedPivot),
-        Ending::Pivot => Carried::Halted(key, Refusal::MarginalPivot),
-        Ending::Unbounded => Carried::Halted(key, Refusal::ResultNotFinite),
+        Ending::ClearedPivot => Carried::Refused(key, Refusal::ClearedPivot),
+        Ending::Pivot => Carried::Refused(key, Refusal::MarginalPivot),
+        Ending::NotFinite => Carried::Refused(key, Refusal::ResultNotFinite),
     }
 }
 
@@ -188,11 +188,11 @@ pub fn find_marginals<'a>(
             results,
             to,
         );
-        let Carried::Through = c else {
+        let Carried::Done = c else {
             return c;
         };
         let s = size_of(sizes, key);
         to += s + s * s;
     }
-    Carried::Through
+    Carried::Done
 }

@@ -11,18 +11,18 @@ use Rattle.root.specs.declared.Pivot.{Pivot}
 use Rattle.root.specs.declared.Pivot.the-variants as pivot
 use Rattle.workspace.specs.Frames.{work-numbers}
 use Rattle.factor.specs.Told.{Told, value, refusal}
-use Rattle.graph.specs.Refusals.{numberOf}
+use Rattle.graph.specs.Refusals.{refusalNumber}
 use Rattle.graph.specs.declared.Graph.{Graph}
 use Rattle.graph.specs.declared.refusal.Refusal.{Refusal}
 use Rattle.job.proofs.Refusals.{number-most}
 use Rattle.job.specs.Job.{factor-room, zeros}
 use Rattle.records.specs.Records.{readAll}
 use Rattle.records.specs.declared.answer.Read.{Read}
-use Rattle.direct.specs.Direct.{verdict, answerOf, storeOf}
+use Rattle.direct.specs.Direct.{runVerdict, directAnswer, directStore}
 use Rattle.direct.specs.Told.{directTold}
 use Rattle.direct.specs.declared.Direct.{Direct}
 use Rattle.direct.specs.declared.Direct.the-variants.{Rows, Refused}
-use Rattle.plan.specs.Plan.{planOf}
+use Rattle.plan.specs.Plan.{planIn}
 use Rattle.plan.proofs.Sending.{messages-length}
 use Rattle.solver.specs.Plan.{Answer, planned}
 use Rattle.solver.specs.declared.Arranged.{Arranged}
@@ -30,11 +30,11 @@ use Rattle.solver.specs.Run as solver
 use Rattle.solver.specs.Stages as stages
 use Rattle.solver.specs.declared.run.Ran.{Ran}
 use Rattle.measured.specs.Measured.{readJob, refused-mark, numberIn, eliminated, Stores, stores, storesIn, again, repeated, replanned, rootIn}
-use Rattle.solver.specs.Run.{verdict}
+use Rattle.solver.specs.Run.{runVerdict}
 use Rattle.solver.specs.Stages.{read}
 
 -- no refusal's number is above 30
-pub few : (r : ℕ) (why : Refusal) → r ≡ numberOf why → r ≤ 30
+pub few : (r : ℕ) (why : Refusal) → r ≡ refusalNumber why → r ≤ 30
 few r why e = rw e (number-most why)
 
 -- the number in an answer is what `direct` tells, a refusal marked
@@ -53,7 +53,7 @@ no-run g factors s = refl
 
 pub one-run : (g : Graph) (factors : List Float) (s : Stores) (n : ℕ) (messages marginals : List Float) (work : ℕ) (r : Ran)
     (messages′ marginals′ : List Float) → work ≡ work-numbers
-    → stores messages marginals ≡ again g factors s n → verdict r messages′ marginals′ ≡ solver.run g factors messages work marginals
+    → stores messages marginals ≡ again g factors s n → runVerdict r messages′ marginals′ ≡ solver.run g factors messages work marginals
     → stores messages′ marginals′ ≡ again g factors s (n + 1)
 unfolding again
 one-run g factors s n messages marginals work r messages′ marginals′ ew es e =
@@ -66,10 +66,10 @@ all-runs g factors s times n t en es = es ∙ ap (again g factors s) en
 
 pub eliminated-is : (bytes slots kept cleared : List ℕ) (messages : List Float) (read : Read) (factors messages′ : List Float) (d : Direct) (r : ℕ)
     → read ≡ readAll bytes (zeros factor-room) .answer
-    → factors ≡ readAll bytes (zeros factor-room) .store → d ≡ answerOf (verdict (read .graph) slots kept cleared factors (length messages) work-numbers)
-    → messages′ ≡ storeOf messages (verdict (read .graph) slots kept cleared factors (length messages) work-numbers) → r ≡ numberIn d
-    → (r ≡ numberIn (answerOf (eliminated (readJob bytes) slots kept cleared (length messages)))) ×
-    (messages′ ≡ storeOf messages (eliminated (readJob bytes) slots kept cleared (length messages)))
+    → factors ≡ readAll bytes (zeros factor-room) .store → d ≡ directAnswer (runVerdict (read .graph) slots kept cleared factors (length messages) work-numbers)
+    → messages′ ≡ directStore messages (runVerdict (read .graph) slots kept cleared factors (length messages) work-numbers) → r ≡ numberIn d
+    → (r ≡ numberIn (directAnswer (eliminated (readJob bytes) slots kept cleared (length messages)))) ×
+    (messages′ ≡ directStore messages (eliminated (readJob bytes) slots kept cleared (length messages)))
 unfolding eliminated
 eliminated-is bytes slots kept cleared messages read factors messages′ d r er ef ed em en = (en ∙ rw (ed, er, ef) refl, em ∙ rw (er, ef) refl)
 
@@ -86,7 +86,7 @@ no-plan g = refl
 
 -- the arrays' count is the number of forward messages
 pub one-plan : (g : Graph) (made : Arranged) (n : ℕ) → read made ≡ planned g → made .plan .forward .count ≡ replanned g (n + 1)
-unfolding replanned read planOf
+unfolding replanned read planIn
 one-plan g made n e = rw (add-one n) (sym (messages-length (made .plan .forward)) ∙ ap (λ (a : Answer). length (a .plan .forward)) e)
 
 -- ---- roots

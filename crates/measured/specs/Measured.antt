@@ -1,4 +1,4 @@
--- A job's factors, eliminated directly, and a job's graph, run several times. Definitions only.
+-- Inner: a job's factors, eliminated directly, and a job's graph, run several times.
 use Prim.Native.Nat.{ℕ, zero, suc, _+_}
 use mathlib.Core.List.{List}
 use lib.Ieee.{Float}
@@ -7,11 +7,11 @@ use Rattle.matrix.specs.Sums.{plus-zero}
 use Rattle.root.specs.declared.Pivot.{Pivot}
 use Rattle.root.specs.declared.Pivot.the-variants as pivot
 use Rattle.workspace.specs.Frames.{work-numbers}
-use Rattle.graph.specs.Refusals.{numberOf}
+use Rattle.graph.specs.Refusals.{refusalNumber}
 use Rattle.graph.specs.declared.Graph.{Graph}
 use Rattle.records.specs.Records.{Reading, readAll}
 use Rattle.job.specs.Job.{factor-room, zeros}
-use Rattle.direct.specs.Direct.{Verdict, verdict}
+use Rattle.direct.specs.Direct.{DirectVerdict, directVerdict}
 use Rattle.direct.specs.declared.Direct.{Direct}
 use Rattle.direct.specs.declared.Direct.the-variants.{Rows, Refused}
 use Rattle.solver.specs.Plan.{planned}
@@ -27,11 +27,11 @@ refused-mark = 0x10000
 
 abbrev pub numberIn : Direct → ℕ
 numberIn (Rows rows) = rows
-numberIn (Refused why) = refused-mark + numberOf why
+numberIn (Refused why) = refused-mark + refusalNumber why
 
 -- a direct elimination of some of its factors
-unfoldable pub eliminated : (r : Reading) (slots kept cleared : List ℕ) (room : ℕ) → Verdict
-eliminated r slots kept cleared room = verdict (r .answer .graph) slots kept cleared (r .store) room work-numbers
+unfoldable pub eliminated : (r : Reading) (slots kept cleared : List ℕ) (room : ℕ) → DirectVerdict
+eliminated r slots kept cleared room = directVerdict (r .answer .graph) slots kept cleared (r .store) room work-numbers
 
 -- the message and the marginal store
 pub record Stores : Type 0 where
@@ -41,7 +41,7 @@ pub record Stores : Type 0 where
 abbrev pub stores : (messages marginals : List Float) → Stores
 stores messages marginals = record { messages = messages; marginals = marginals }
 
-abbrev pub storesIn : solver.Verdict → Stores
+abbrev pub storesIn : solver.RunVerdict → Stores
 storesIn v = record { messages = v .messages; marginals = v .marginals }
 
 -- n runs, each over the stores that the one before left

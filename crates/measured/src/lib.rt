@@ -11,7 +11,7 @@ ghost use lib.ListN.{length};
 ghost use Rattle.workspace.specs.Frames.{work-numbers};
 ghost use Rattle.root.specs.Root.{rootOf};
 ghost use Rattle.records.specs.Records.{readAll};
-ghost use Rattle.direct.specs.Direct.{answerOf, storeOf};
+ghost use Rattle.direct.specs.Direct.{directAnswer, directStore};
 ghost use Rattle.measured.specs.Measured as spec;
 
 // The numbers of a job's factors, at the start of the lent store. The rest of the store is as it was.
@@ -80,10 +80,10 @@ pub extern "C" fn strips_eliminate(
     cleared: &[usize],
     messages: &mut [f64],
 ) -> usize
-    ensures { λ r. ⌜ r ≡ spec.numberIn (answerOf
+    ensures { λ r. ⌜ r ≡ spec.numberIn (directAnswer
         (spec.eliminated (spec.readJob (now (bytes .entry))) (now (slots .entry)) (now (kept .entry)) (now (cleared .entry))
         (length (now (messages .entry))))) ⌝ }
-    ensures { λ _. ⌜ now (messages .exit) ≡ storeOf (now (messages .entry))
+    ensures { λ _. ⌜ now (messages .exit) ≡ directStore (now (messages .entry))
         (spec.eliminated (spec.readJob (now (bytes .entry))) (now (slots .entry)) (now (kept .entry)) (now (cleared .entry))
         (length (now (messages .entry)))) ⌝ }
 {

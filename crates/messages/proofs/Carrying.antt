@@ -19,24 +19,24 @@ use Rattle.graph.specs.declared.refusal.Refusal.{Refusal}
 use Rattle.graph.specs.declared.refusal.Refusal.the-variants.{ClearedPivot, ResultNotFinite}
 use Rattle.schedule.specs.Pass.{Slot, ClosedFactor, at}
 use Rattle.slots.specs.Limits.{max-slots}
-use Rattle.slots.specs.Views.{FactorView, numbersOf}
+use Rattle.slots.specs.Views.{FactorView, factorNumbers}
 use Rattle.slots.specs.Layouts.{layoutOf}
 use Rattle.slots.specs.Tables.{headOf, readView, rowsByAll}
-use Rattle.gaussian.specs.Elimination.{Outcome, pivot, unbounded, message, eliminate, numbersIn}
-use Rattle.gaussian.specs.Answers.{answer, stored, viewsOf}
+use Rattle.gaussian.specs.Elimination.{Outcome, pivot, notFinite, message, eliminate, numbersIn}
+use Rattle.gaussian.specs.Answers.{eliminatedAs, messageStored, viewsOf}
 use Rattle.gaussian.specs.Asked.{Asked, Roomy, Sized}
 use Rattle.gaussian.specs.declared.Eliminated.{Eliminated}
-use Rattle.gaussian.specs.declared.Eliminated.the-variants.{Rows, Pivot, Unbounded}
+use Rattle.gaussian.specs.declared.Eliminated.the-variants.{Rows, Pivot, NotFinite}
 use Rattle.gaussian.proofs.Outcomes.{Came, at-pivot, at-unbounded, at-rows, asked-sized, whole-length}
 use Rattle.slots.specs.declared.Head.{Head}
-use Rattle.lists.specs.Lists.{backward-shift, numberOf, messageNumber, Holds}
+use Rattle.lists.specs.Lists.{backward-shift, slotNumber, messageNumber, Holds}
 use Rattle.lists.specs.declared.Lists.{Lists}
-use Rattle.messages.specs.Values.{slotView, made, valuesTo, valueAt, values, none, stopped, stopFrom, finished}
+use Rattle.messages.specs.Values.{slotView, messageMade, valuesTo, valueAt, values, none, refusedAt, refusalFrom, finishedNumbers}
 use Rattle.messages.specs.Figure.{rowsAt, widthAt, needTo, need}
 use Rattle.messages.specs.Tables.{Carriable, PlacedTo, Tables, Stored, AllStored}
-use Rattle.messages.specs.Asked.{keptOf, clearedOf, slotsOf, stopOf}
+use Rattle.messages.specs.Asked.{keptOf, clearedOf, listedSlots, refusalIn}
 use Rattle.messages.specs.declared.Carried.{Carried}
-use Rattle.messages.specs.declared.Carried.the-variants.{Through, Halted}
+use Rattle.messages.specs.declared.Carried.the-variants.{Done, Refused}
 use Rattle.messages.proofs.Slots.{need-more, need-rises, message-kept, message-cleared, message-total, message-rows-most}
 use Rattle.messages.proofs.Rows.{products}
 use Rattle.messages.proofs.Placing.{known, fits, headed, rows-are}
@@ -57,7 +57,7 @@ stored-stays g factors ms start store store′ i j to h room same o =
       of-a = o .of-a;
       of-xi = o .of-xi;
       of-w = o .of-w;
-      stands = same (start + needTo g ms i) (start + needTo g ms i + numbersOf (o .rows) (widthAt g ms i))
+      stands = same (start + needTo g ms i) (start + needTo g ms i + factorNumbers (o .rows) (widthAt g ms i))
           (rw (o .of-rows) (omega (arith, need-rises g ms i j h))) ∙ o .stands;
     }
 
@@ -67,28 +67,29 @@ stored-stays g factors ms start store store′ i j to h room same o =
 abbrev pub AllMade : List Outcome → Type 0
 AllMade [] = Unit
 AllMade (pivot ∷ vs) = ⊥
-AllMade (unbounded ∷ vs) = ⊥
+AllMade (notFinite ∷ vs) = ⊥
 AllMade (message r a xi w ∷ vs) = AllMade vs
 
 made-more : (vs : List Outcome) (r : ℕ) (a xi w : List Float) → AllMade vs → AllMade (vs ++ (message r a xi w ∷ []))
 made-more [] r a xi w h = tt
 made-more (pivot ∷ vs) r a xi w h = absurd h
-made-more (unbounded ∷ vs) r a xi w h = absurd h
+made-more (notFinite ∷ vs) r a xi w h = absurd h
 made-more (message s b yi u ∷ vs) r a xi w h = made-more vs r a xi w h
 
-finished-on : (vs rest : List Outcome) → AllMade vs → finished (vs ++ rest) ≡ finished vs ++ finished rest
-unfolding finished
+finished-on : (vs rest : List Outcome) → AllMade vs → finishedNumbers (vs ++ rest) ≡ finishedNumbers vs ++ finishedNumbers rest
+unfolding finishedNumbers
 finished-on [] rest h = refl
 finished-on (pivot ∷ vs) rest h = absurd h
-finished-on (unbounded ∷ vs) rest h = absurd h
-finished-on (message r a xi w ∷ vs) rest h = rw (finished-on vs rest h) (sym (append-assoc (numbersIn (message r a xi w)) (finished vs) (finished rest)))
+finished-on (notFinite ∷ vs) rest h = absurd h
+finished-on (message r a xi w ∷ vs) rest h = rw (finished-on vs rest h)
+    (sym (append-assoc (numbersIn (message r a xi w)) (finishedNumbers vs) (finishedNumbers rest)))
 
-stop-on : (i : ℕ) (vs rest : List Outcome) → AllMade vs → stopFrom i (vs ++ rest) ≡ stopFrom (i + length vs) rest
-unfolding stopFrom
-stop-on i [] rest h = ap (λ (n : ℕ). stopFrom n rest) (omega arith)
+stop-on : (i : ℕ) (vs rest : List Outcome) → AllMade vs → refusalFrom i (vs ++ rest) ≡ refusalFrom (i + length vs) rest
+unfolding refusalFrom
+stop-on i [] rest h = ap (λ (n : ℕ). refusalFrom n rest) (omega arith)
 stop-on i (pivot ∷ vs) rest h = absurd h
-stop-on i (unbounded ∷ vs) rest h = absurd h
-stop-on i (message r a xi w ∷ vs) rest h = stop-on (i + 1) vs rest h ∙ ap (λ (n : ℕ). stopFrom n rest) (omega arith)
+stop-on i (notFinite ∷ vs) rest h = absurd h
+stop-on i (message r a xi w ∷ vs) rest h = stop-on (i + 1) vs rest h ∙ ap (λ (n : ℕ). refusalFrom n rest) (omega arith)
 
 -- the values of a pass from the j-th on
 values-split : (g : Graph) (factors : List Float) (ms : List ClosedFactor) (j n : ℕ) → j < n
@@ -134,13 +135,13 @@ pub record Carrying (g : Graph) (factors : List Float) (ms : List ClosedFactor) 
   pub to-is : to ≡ start + needTo g ms j
   pub all-made : AllMade (valuesTo g factors ms j)
   pub held : (i : ℕ) → i < j → Stored g factors ms start messages i
-  pub lies : messages ≡ lay store start (finished (valuesTo g factors ms j))
-  pub long : length (finished (valuesTo g factors ms j)) ≡ needTo g ms j
+  pub lies : messages ≡ lay store start (finishedNumbers (valuesTo g factors ms j))
+  pub long : length (finishedNumbers (valuesTo g factors ms j)) ≡ needTo g ms j
   pub same : length messages ≡ length store
 
 pub carrying-none : (g : Graph) (factors : List Float) (ms : List ClosedFactor) (start : ℕ) (store : List Float) → start ≤ length store
     → Carrying g factors ms start store store start 0
-unfolding needTo valuesTo finished
+unfolding needTo valuesTo finishedNumbers
 carrying-none g factors ms start store h =
     record {
       few = omega arith;
@@ -162,12 +163,12 @@ module _ (g : Graph) (factors : List Float) (ms : List ClosedFactor) (c : Carria
   m = at ms j
 
   abbrev slots : List ℕ
-  slots = map (numberOf shift) (m .content)
+  slots = map (slotNumber shift) (m .content)
 
   before : PlacedTo g ms shift start keys heads j
   before i h = placed i (omega arith)
 
-  room : start + needTo g ms j + numbersOf (rowsAt g ms j) (widthAt g ms j) ≤ length messages
+  room : start + needTo g ms j + factorNumbers (rowsAt g ms j) (widthAt g ms j) ≤ length messages
   unfolding need
   room = omega (arith, need-rises g ms j (length ms) l, p .same)
 
@@ -189,10 +190,10 @@ module _ (g : Graph) (factors : List Float) (ms : List ClosedFactor) (c : Carria
   roomy : Roomy (m .kept) (m .cleared) (g .sizes) keys heads slots to (length messages)
   roomy = rw (rows-are g ms c shift start j keys heads low l tables before sized, p .to-is) room
 
-  pub asked-lists : Asked (keptOf lists) (clearedOf lists) (g .sizes) factors messages work keys heads (slotsOf lists)
+  pub asked-lists : Asked (keptOf lists) (clearedOf lists) (g .sizes) factors messages work keys heads (listedSlots lists)
   asked-lists = rw (holds .kept, holds .cleared, holds .slots) asked
 
-  pub roomy-lists : Roomy (keptOf lists) (clearedOf lists) (g .sizes) keys heads (slotsOf lists) to (length messages)
+  pub roomy-lists : Roomy (keptOf lists) (clearedOf lists) (g .sizes) keys heads (listedSlots lists) to (length messages)
   roomy-lists = rw (holds .kept, holds .cleared, holds .slots) roomy
 
   -- the factors that the elimination reads are those of the definition
@@ -201,7 +202,7 @@ module _ (g : Graph) (factors : List Float) (ms : List ClosedFactor) (c : Carria
   views-are = go (m .content) (λ s h. h)
     where
       go : (content : List Slot) → ((s : Slot) → List·Memᴰ s content → List·Memᴰ s (m .content))
-          → map (λ number. readView factors messages keys (headOf heads number)) (map (numberOf shift) content)
+          → map (λ number. readView factors messages keys (headOf heads number)) (map (slotNumber shift) content)
           ≡ map (slotView g factors ms (valuesTo g factors ms j)) content
       go [] h = refl
       go (s ∷ rest) h =
@@ -210,20 +211,20 @@ module _ (g : Graph) (factors : List Float) (ms : List ClosedFactor) (c : Carria
           (ap (λ (r : List FactorView). slotView g factors ms (valuesTo g factors ms j) s ∷ r) (go rest (λ t k. h t (List·Memᴰ·tail k))))
 
   plain-value : eliminate (viewsOf factors messages keys heads slots) (m .kept) (m .cleared) (g .sizes) ≡ valueAt g factors ms j
-  unfolding made
+  unfolding messageMade
   plain-value = rw views-are refl
 
-  value-is : eliminate (viewsOf factors messages keys heads (slotsOf lists)) (keptOf lists) (clearedOf lists) (g .sizes) ≡ valueAt g factors ms j
+  value-is : eliminate (viewsOf factors messages keys heads (listedSlots lists)) (keptOf lists) (clearedOf lists) (g .sizes) ≡ valueAt g factors ms j
   value-is = rw (holds .kept, holds .cleared, holds .slots) plain-value
 
   abbrev outcome : Outcome
-  outcome = eliminate (viewsOf factors messages keys heads (slotsOf lists)) (keptOf lists) (clearedOf lists) (g .sizes)
+  outcome = eliminate (viewsOf factors messages keys heads (listedSlots lists)) (keptOf lists) (clearedOf lists) (g .sizes)
 
-  module _ (told : Eliminated) (messages′ : List Float) (et : told ≡ answer outcome) (em : messages′ ≡ stored messages to outcome) where
+  module _ (told : Eliminated) (messages′ : List Float) (et : told ≡ eliminatedAs outcome) (em : messages′ ≡ messageStored messages to outcome) where
     -- a message was made
     module _ (r : ℕ) (er : told ≡ Rows r) where
       came : Came (valueAt g factors ms j) r
-      came = at-rows (valueAt g factors ms j) r (ap answer (sym value-is) ∙ sym et ∙ er)
+      came = at-rows (valueAt g factors ms j) r (ap eliminatedAs (sym value-is) ∙ sym et ∙ er)
 
       sizes-are : Sized (rowsByAll (layoutOf (m .kept) (m .cleared) (g .sizes)) keys heads slots (length slots)) (widthAt g ms j) r (came .a)
           (came .xi) (came .w)
@@ -235,34 +236,34 @@ module _ (g : Graph) (factors : List Float) (ms : List ClosedFactor) (c : Carria
       abbrev t : List Float
       t = numbersIn (message r (came .a) (came .xi) (came .w))
 
-      t-plain : length t ≡ numbersOf r (widthAt g ms j)
+      t-plain : length t ≡ factorNumbers r (widthAt g ms j)
       unfolding numbersIn
       t-plain = whole-length (r * widthAt g ms j) r (came .a) (came .xi) (came .w) (sizes-are .of-a) (sizes-are .of-xi) (sizes-are .of-w)
 
-      t-length : length t ≡ numbersOf (rowsAt g ms j) (widthAt g ms j)
-      t-length = t-plain ∙ ap (λ (x : ℕ). numbersOf x (widthAt g ms j)) rows-told
+      t-length : length t ≡ factorNumbers (rowsAt g ms j) (widthAt g ms j)
+      t-length = t-plain ∙ ap (λ (x : ℕ). factorNumbers x (widthAt g ms j)) rows-told
 
       written : messages′ ≡ splice messages to (to + length t) t
-      unfolding stored numbersIn
+      unfolding messageStored numbersIn
       written = em ∙ rw (value-is, came .is) refl
 
       values-more : valuesTo g factors ms (j + 1) ≡ valuesTo g factors ms j ++ (message r (came .a) (came .xi) (came .w) ∷ [])
       unfolding valuesTo
       values-more = rw (add-one j) (ap (λ (v : Outcome). valuesTo g factors ms j ++ (v ∷ [])) (came .is))
 
-      one-finished : finished (message r (came .a) (came .xi) (came .w) ∷ []) ≡ t
-      unfolding finished
+      one-finished : finishedNumbers (message r (came .a) (came .xi) (came .w) ∷ []) ≡ t
+      unfolding finishedNumbers
       one-finished = append-nil t
 
-      finished-more : finished (valuesTo g factors ms (j + 1)) ≡ finished (valuesTo g factors ms j) ++ t
+      finished-more : finishedNumbers (valuesTo g factors ms (j + 1)) ≡ finishedNumbers (valuesTo g factors ms j) ++ t
       finished-more =
-          ap finished values-more ∙ finished-on (valuesTo g factors ms j) (message r (came .a) (came .xi) (came .w) ∷ []) (p .all-made)
-          ∙ ap (λ (x : List Float). finished (valuesTo g factors ms j) ++ x) one-finished
+          ap finishedNumbers values-more ∙ finished-on (valuesTo g factors ms j) (message r (came .a) (came .xi) (came .w) ∷ []) (p .all-made)
+          ∙ ap (λ (x : List Float). finishedNumbers (valuesTo g factors ms j) ++ x) one-finished
 
-      stands-new : part messages′ (start + needTo g ms j) (start + needTo g ms j + numbersOf r (widthAt g ms j)) ≡ t
+      stands-new : part messages′ (start + needTo g ms j) (start + needTo g ms j + factorNumbers r (widthAt g ms j)) ≡ t
       stands-new =
-          ap (λ (x : List Float). part x (start + needTo g ms j) (start + needTo g ms j + numbersOf r (widthAt g ms j))) written
-          ∙ ap (λ (n : ℕ). part (splice messages to (to + length t) t) n (n + numbersOf r (widthAt g ms j))) (sym (p .to-is))
+          ap (λ (x : List Float). part x (start + needTo g ms j) (start + needTo g ms j + factorNumbers r (widthAt g ms j))) written
+          ∙ ap (λ (n : ℕ). part (splice messages to (to + length t) t) n (n + factorNumbers r (widthAt g ms j))) (sym (p .to-is))
           ∙ ap (λ (k : ℕ). part (splice messages to (to + length t) t) to (to + k)) (sym t-plain)
           ∙ part-same messages to (to + length t) t (omega arith) (omega (arith, room, t-length, p .to-is)) (omega arith)
 
@@ -290,60 +291,62 @@ module _ (g : Graph) (factors : List Float) (ms : List ClosedFactor) (c : Carria
                 stands = stands-new;
               })
 
-      pub carrying-more : (next : ℕ) → next ≡ to + numbersOf (rowsAt g ms j) (widthAt g ms j) → Carrying g factors ms start store messages′ next (j + 1)
+      pub carrying-more : (next : ℕ) → next ≡ to + factorNumbers (rowsAt g ms j) (widthAt g ms j) → Carrying g factors ms start store messages′ next (j + 1)
       carrying-more next en =
           record {
             few = omega arith;
             to-is = omega (arith, p .to-is, need-more g ms j);
             all-made = rw values-more (made-more (valuesTo g factors ms j) r (came .a) (came .xi) (came .w) (p .all-made));
             held = held-more;
-            lies = written ∙ lay-next store (finished (valuesTo g factors ms j)) t messages start to (omega (arith, room, p .same, p .long))
+            lies = written ∙ lay-next store (finishedNumbers (valuesTo g factors ms j)) t messages start to (omega (arith, room, p .same, p .long))
                 (omega (arith, p .to-is, p .long)) (p .lies) ∙ ap (lay store start) (sym finished-more);
-            long = rw finished-more (omega (arith, length-append (finished (valuesTo g factors ms j)) t, p .long, t-length, need-more g ms j));
+            long = rw finished-more (omega (arith, length-append (finishedNumbers (valuesTo g factors ms j)) t, p .long, t-length, need-more g ms j));
             same = rw written (length-splice messages to (to + length t) t (omega arith) (omega (arith, room, t-length, p .to-is)) (omega arith)) ∙ p .same;
           }
 
     -- a message was refused: those before it stay
-    module _ (why : Refusal) (o : Outcome) (eo : valueAt g factors ms j ≡ o) (stops : (i : ℕ) (rest : List Outcome) → stopFrom i (o ∷ rest) ≡ stopped i why)
-        (none-more : (rest : List Outcome) → finished (o ∷ rest) ≡ []) (keeps : stored messages to o ≡ messages) where
-      refused : (stopOf (Halted j why) ≡ stopFrom 0 (values g factors ms)) × (messages′ ≡ lay store start (finished (values g factors ms)))
+    module _ (why : Refusal) (o : Outcome) (eo : valueAt g factors ms j ≡ o)
+        (stops : (i : ℕ) (rest : List Outcome) → refusalFrom i (o ∷ rest) ≡ refusedAt i why)
+        (none-more : (rest : List Outcome) → finishedNumbers (o ∷ rest) ≡ []) (keeps : messageStored messages to o ≡ messages) where
+      refused : (refusalIn (Refused j why) ≡ refusalFrom 0 (values g factors ms)) × (messages′ ≡ lay store start (finishedNumbers (values g factors ms)))
       unfolding values
       refused =
           let r = values-split g factors ms j (length ms) l in
           let e : valuesTo g factors ms (length ms) ≡ valuesTo g factors ms j ++ (o ∷ r .0) = r .1
           ∙ ap (λ (v : Outcome). valuesTo g factors ms j ++ (v ∷ r .0)) eo in
           let n : 0 + length (valuesTo g factors ms j) ≡ j = omega (arith, values-length g factors ms j) in
-          let f : finished (valuesTo g factors ms j ++ (o ∷ r .0)) ≡ finished (valuesTo g factors ms j) = finished-on (valuesTo g factors ms j)
-          (o ∷ r .0) (p .all-made) ∙ ap (λ (x : List Float). finished (valuesTo g factors ms j) ++ x) (none-more (r .0))
-          ∙ append-nil (finished (valuesTo g factors ms j)) in (
-            sym (ap (stopFrom 0) e ∙ stop-on 0 (valuesTo g factors ms j) (o ∷ r .0) (p .all-made) ∙ ap (λ (i : ℕ). stopFrom i (o ∷ r .0)) n ∙ stops j (r .0)),
-            em ∙ ap (stored messages to) (value-is ∙ eo) ∙ keeps ∙ p .lies ∙ ap (lay store start) (sym (ap finished e ∙ f)),
+          let f : finishedNumbers (valuesTo g factors ms j ++ (o ∷ r .0)) ≡ finishedNumbers (valuesTo g factors ms j) = finished-on (valuesTo g factors ms j)
+          (o ∷ r .0) (p .all-made) ∙ ap (λ (x : List Float). finishedNumbers (valuesTo g factors ms j) ++ x) (none-more (r .0))
+          ∙ append-nil (finishedNumbers (valuesTo g factors ms j)) in (
+            sym (ap (refusalFrom 0) e ∙ stop-on 0 (valuesTo g factors ms j) (o ∷ r .0) (p .all-made) ∙ ap (λ (i : ℕ). refusalFrom i (o ∷ r .0)) n
+                ∙ stops j (r .0)),
+            em ∙ ap (messageStored messages to) (value-is ∙ eo) ∙ keeps ∙ p .lies ∙ ap (lay store start) (sym (ap finishedNumbers e ∙ f)),
           )
 
-    pub refused-pivot : told ≡ Pivot → (stopOf (Halted j ClearedPivot) ≡ stopFrom 0 (values g factors ms)) ×
-        (messages′ ≡ lay store start (finished (values g factors ms)))
-    unfolding stopFrom finished stored
-    refused-pivot e = refused ClearedPivot pivot (at-pivot (valueAt g factors ms j) (ap answer (sym value-is) ∙ sym et ∙ e)) (λ i rest. refl)
+    pub refused-pivot : told ≡ Pivot → (refusalIn (Refused j ClearedPivot) ≡ refusalFrom 0 (values g factors ms)) ×
+        (messages′ ≡ lay store start (finishedNumbers (values g factors ms)))
+    unfolding refusalFrom finishedNumbers messageStored
+    refused-pivot e = refused ClearedPivot pivot (at-pivot (valueAt g factors ms j) (ap eliminatedAs (sym value-is) ∙ sym et ∙ e)) (λ i rest. refl)
         (λ rest. refl) refl
 
-    pub refused-unbounded : told ≡ Unbounded → (stopOf (Halted j ResultNotFinite) ≡ stopFrom 0 (values g factors ms)) ×
-        (messages′ ≡ lay store start (finished (values g factors ms)))
-    unfolding stopFrom finished stored
-    refused-unbounded e = refused ResultNotFinite unbounded (at-unbounded (valueAt g factors ms j) (ap answer (sym value-is) ∙ sym et ∙ e))
+    pub refused-unbounded : told ≡ NotFinite → (refusalIn (Refused j ResultNotFinite) ≡ refusalFrom 0 (values g factors ms)) ×
+        (messages′ ≡ lay store start (finishedNumbers (values g factors ms)))
+    unfolding refusalFrom finishedNumbers messageStored
+    refused-unbounded e = refused ResultNotFinite notFinite (at-unbounded (valueAt g factors ms j) (ap eliminatedAs (sym value-is) ∙ sym et ∙ e))
         (λ i rest. refl) (λ rest. refl) refl
 
 -- ---- the whole pass
 
-no-stop : (i : ℕ) (vs : List Outcome) → AllMade vs → stopFrom i vs ≡ none
-unfolding stopFrom
+no-stop : (i : ℕ) (vs : List Outcome) → AllMade vs → refusalFrom i vs ≡ none
+unfolding refusalFrom
 no-stop i [] h = refl
 no-stop i (pivot ∷ vs) h = absurd h
-no-stop i (unbounded ∷ vs) h = absurd h
+no-stop i (notFinite ∷ vs) h = absurd h
 no-stop i (message r a xi w ∷ vs) h = no-stop (i + 1) vs h
 
 pub carried : (g : Graph) (factors : List Float) (ms : List ClosedFactor) (start : ℕ) (store messages : List Float) (to j : ℕ)
     → Carrying g factors ms start store messages to j → j ≡ length ms
-    → (stopOf Through ≡ stopFrom 0 (values g factors ms)) × (messages ≡ lay store start (finished (values g factors ms))) × AllStored g factors ms
+    → (refusalIn Done ≡ refusalFrom 0 (values g factors ms)) × (messages ≡ lay store start (finishedNumbers (values g factors ms))) × AllStored g factors ms
     start messages
 unfolding values need
 carried g factors ms start store messages to j p e =
@@ -363,13 +366,13 @@ head-tells g ms c shift start j keys heads h l placed e =
     (r, d, hr, hd, small .0, small .1)
 
 pub next-told : (g : Graph) (ms : List ClosedFactor) (to r d j : ℕ) → r ≡ rowsAt g ms j → d ≡ widthAt g ms j → to + (r * d + r + r * r)
-    ≡ to + numbersOf (rowsAt g ms j) (widthAt g ms j)
+    ≡ to + factorNumbers (rowsAt g ms j) (widthAt g ms j)
 next-told g ms to r d j er ed = rw (er, ed) refl
 
 -- a pass that was halted is not through
 abbrev halts : Carried → ℕ
-halts Through = 0
-halts (Halted j why) = 1
+halts Done = 0
+halts (Refused j why) = 1
 
-pub halted-through : (j : ℕ) (why : Refusal) → Halted j why ≡ Through → ⊥
-halted-through j why e = let z : halts (Halted j why) ≡ halts Through = ap halts e in omega arith
+pub halted-through : (j : ℕ) (why : Refusal) → Refused j why ≡ Done → ⊥
+halted-through j why e = let z : halts (Refused j why) ≡ halts Done = ap halts e in omega arith

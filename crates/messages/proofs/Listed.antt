@@ -9,18 +9,19 @@ use lib.ListN.{length, take}
 use Rattle.factor.specs.Factor.{lay}
 use Rattle.slots.specs.Layouts.{dimOf}
 use Rattle.gaussian.specs.Elimination.{eliminate}
-use Rattle.gaussian.specs.Answers.{answer, stored, viewsOf}
+use Rattle.gaussian.specs.Answers.{eliminatedAs, messageStored, viewsOf}
 use Rattle.gaussian.specs.declared.Eliminated.{Eliminated}
 use Rattle.schedule.specs.Pass.{ClosedFactor}
 use Rattle.lists.specs.Lists.{Holds}
 use Rattle.lists.specs.declared.Lists.{Lists}
-use Rattle.messages.specs.Asked.{keptOf, clearedOf, slotsOf, firstOf, rowsBy, Within}
-use Rattle.slots.specs.Views.{numbersOf}
+use Rattle.messages.specs.Asked.{keptOf, clearedOf, listedSlots, keysFrom, messageRowsBy, ListsWithin}
+use Rattle.slots.specs.Views.{factorNumbers}
 use Rattle.tables.specs.Heads.{withHead}
 
 -- whatever holds of the three lists holds of the parts, and the other way round
 module _ (l : Lists) (P : List ℕ → List ℕ → List ℕ → Type 0) where
-  pub to-parts : P (keptOf l) (clearedOf l) (slotsOf l) → P (take (l .keeps - 0) (l .kept)) (take (l .clears - 0) (l .cleared)) (take (l .count - 0) (l .slots))
+  pub to-parts : P (keptOf l) (clearedOf l) (listedSlots l) → P (take (l .keeps - 0) (l .kept)) (take (l .clears - 0) (l .cleared))
+      (take (l .count - 0) (l .slots))
   to-parts h =
       let a : l .keeps - 0 ≡ l .keeps = omega arith in
       let b : l .clears - 0 ≡ l .clears = omega arith in
@@ -28,7 +29,7 @@ module _ (l : Lists) (P : List ℕ → List ℕ → List ℕ → Type 0) where
       rw (a, b, c) h
 
   pub from-parts : P (take (l .keeps - 0) (l .kept)) (take (l .clears - 0) (l .cleared)) (take (l .count - 0) (l .slots))
-      → P (keptOf l) (clearedOf l) (slotsOf l)
+      → P (keptOf l) (clearedOf l) (listedSlots l)
   from-parts h =
       let a : l .keeps - 0 ≡ l .keeps = omega arith in
       let b : l .clears - 0 ≡ l .clears = omega arith in
@@ -40,17 +41,17 @@ module _ (l : Lists) (P : List ℕ → List ℕ → List ℕ → Type 0) where
 -- what the placing comes to
 abbrev pub PlacedBy : (sizes keys heads : List ℕ) (number start r : ℕ) (keys′ heads′ kept cleared slots : List ℕ) → Type 0
 PlacedBy sizes keys heads number start r keys′ heads′ kept cleared slots =
-    (r ≡ start + numbersOf (rowsBy kept cleared slots sizes keys heads) (dimOf sizes kept))
-    × ((keys′ ≡ lay keys (firstOf number) kept)
-    × (heads′ ≡ withHead heads number false start (rowsBy kept cleared slots sizes keys heads) (dimOf sizes kept) (firstOf number) (length kept)))
+    (r ≡ start + factorNumbers (messageRowsBy kept cleared slots sizes keys heads) (dimOf sizes kept))
+    × ((keys′ ≡ lay keys (keysFrom number) kept)
+    × (heads′ ≡ withHead heads number false start (messageRowsBy kept cleared slots sizes keys heads) (dimOf sizes kept) (keysFrom number) (length kept)))
 
 -- lists that hold a message are within their arrays
-pub within : (shift : ℕ) (m : ClosedFactor) (l : Lists) → Holds shift m l → Within l
+pub within : (shift : ℕ) (m : ClosedFactor) (l : Lists) → Holds shift m l → ListsWithin l
 within shift m l h = record { kept = omega (arith, h .few-kept); cleared = omega (arith, h .few-cleared); slots = omega (arith, h .few) }
 
 -- what the making of a message comes to
 abbrev pub EliminatedBy : (sizes : List ℕ) (factors messages : List Float) (keys heads : List ℕ) (to : ℕ) (r : Eliminated) (messages′ : List Float)
     (kept cleared slots : List ℕ) → Type 0
 EliminatedBy sizes factors messages keys heads to r messages′ kept cleared slots =
-    (r ≡ answer (eliminate (viewsOf factors messages keys heads slots) kept cleared sizes))
-    × (messages′ ≡ stored messages to (eliminate (viewsOf factors messages keys heads slots) kept cleared sizes))
+    (r ≡ eliminatedAs (eliminate (viewsOf factors messages keys heads slots) kept cleared sizes))
+    × (messages′ ≡ messageStored messages to (eliminate (viewsOf factors messages keys heads slots) kept cleared sizes))

@@ -12,7 +12,7 @@ use borrow.Author.Tests.{eqb-true, eqb-false}
 use Rattle.schedule.specs.Count.{hit, count, In, from}
 use Rattle.schedule.proofs.Counts.{count-cons, count-nil, hit-same, hit-other, mem-in, from-in}
 use Rattle.schedule.proofs.Sums.{length-sum, sum-le, length-from}
-use Rattle.blocks.specs.Blocks.{column}
+use Rattle.blocks.specs.Blocks.{columnOf}
 use Rattle.slots.specs.Layouts.{member, dimOf}
 use Rattle.tables.proofs.Dimensions.{times, Below, Once}
 
@@ -84,12 +84,12 @@ module _ (n : ℕ) (cleared kept : List ℕ) (apart : (x : ℕ) → count x clea
           go (no h) = omega arith
 
 -- the width of a list of keys is its dimension
-column-cons : (sizes keys : List ℕ) (k n : ℕ) → column sizes (k ∷ keys) (suc n) ≡ getD sizes k 0 + column sizes keys n
-unfolding column
+column-cons : (sizes keys : List ℕ) (k n : ℕ) → columnOf sizes (k ∷ keys) (suc n) ≡ getD sizes k 0 + columnOf sizes keys n
+unfolding columnOf
 column-cons sizes keys k zero = omega arith
 column-cons sizes keys k (suc n) = omega (arith, column-cons sizes keys k n)
 
-pub column-all : (sizes keys : List ℕ) → column sizes keys (length keys) ≡ dimOf sizes keys
-unfolding column
+pub column-all : (sizes keys : List ℕ) → columnOf sizes keys (length keys) ≡ dimOf sizes keys
+unfolding columnOf
 column-all sizes [] = refl
 column-all sizes (k ∷ keys) = column-cons sizes keys k (length keys) ∙ ap (λ (x : ℕ). getD sizes k 0 + x) (column-all sizes keys)

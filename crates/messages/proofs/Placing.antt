@@ -18,7 +18,7 @@ use Rattle.factor.proofs.Fitting.{fits-key, prior-touched}
 use Rattle.graph.specs.Record.{factorAt, offset}
 use Rattle.graph.specs.declared.Graph.{Graph}
 use Rattle.graph.proofs.Validity.{valid-variables, valid-count, valid-factor}
-use Rattle.schedule.specs.Count.{sum, from}
+use Rattle.schedule.specs.Count.{sumOver, from}
 use Rattle.schedule.specs.Pass.{Slot, original, closed, ClosedFactor, at}
 use Rattle.schedule.proofs.Counts.{sum-same}
 use Rattle.schedule.proofs.Sums.{sum-table, sum-from-snoc, from-mem}
@@ -26,7 +26,7 @@ use Rattle.schedule.proofs.Runs.{msgs-in, from-lt}
 use Rattle.plan.specs.Limits.{pass-slots}
 use Rattle.slots.specs.Limits.{max-slots}
 use Rattle.slots.specs.Layouts.{member, layoutOf}
-use Rattle.slots.specs.Tables.{headOf, slotOf, storeOf, rowsBy, rowsByAll}
+use Rattle.slots.specs.Tables.{headOf, numberedSlot, slotStore, rowsBy, rowsByAll}
 use Rattle.slots.specs.Fitting.{Counted}
 use Rattle.slots.specs.declared.layout.Layout.{Layout}
 use Rattle.slots.specs.declared.Slot.the-variants.{Closed}
@@ -36,17 +36,17 @@ use Rattle.gaussian.proofs.Enough.{cleared-at}
 use Rattle.tables.proofs.Heads.{head-length, head-put, head-else}
 use Rattle.factor.proofs.Laying.{lay-length, lay-in, lay-before}
 use Rattle.tables.proofs.OriginalsRead.{originals-stay}
-use Rattle.lists.specs.Lists.{backward-shift, messageNumber, numberOf, Holds}
+use Rattle.lists.specs.Lists.{backward-shift, messageNumber, slotNumber, Holds}
 use Rattle.lists.specs.declared.Lists.{Lists}
 use Rattle.messages.specs.Figure.{slotRows, rowsIn, rowsTo, rowsAt, widthAt, needTo, need}
 use Rattle.messages.specs.Tables.{Carriable, firstKey, Placed, PlacedTo, Tables, Before}
 use Rattle.messages.specs.Asked as asked
-use Rattle.messages.specs.Asked.{keptOf, clearedOf, slotsOf, Placeable}
+use Rattle.messages.specs.Asked.{keptOf, clearedOf, listedSlots, Placeable}
 use Rattle.messages.proofs.Rows.{products}
 use Rattle.messages.proofs.Listed.{PlacedBy}
 use Rattle.messages.proofs.Members.{at-mem, at-map}
 use Rattle.messages.proofs.Slots.{need-more, message-kept, message-cleared, message-few, message-rows-most, Known, slot-fits}
-use Rattle.slots.specs.Views.{numbersOf}
+use Rattle.slots.specs.Views.{factorNumbers}
 use Rattle.tables.specs.Heads.{withHead}
 
 -- the rows of an earlier message
@@ -68,17 +68,17 @@ rows-at g ms (suc n) c h = go (decLt c n) (rows-at g ms n c)
         ∙ getD-append-seam (rowsTo g ms n) (rowsAt g ms n) [] 0)
 
 -- the rows by the heads, as a sum over the list
-no-sum : (f : ℕ → ℕ) → sum f (from 0 0) ≡ 0
-unfolding sum from
+no-sum : (f : ℕ → ℕ) → sumOver f (from 0 0) ≡ 0
+unfolding sumOver from
 no-sum f = refl
 
 rows-list : (m : Layout) (keys heads slots : List ℕ) (n : ℕ) → rowsByAll m keys heads slots n
-    ≡ sum (λ i. rowsBy m keys (headOf heads (getD slots i 0))) (from 0 n)
+    ≡ sumOver (λ i. rowsBy m keys (headOf heads (getD slots i 0))) (from 0 n)
 unfolding rowsByAll
 rows-list m keys heads slots zero = sym (no-sum (λ i. rowsBy m keys (headOf heads (getD slots i 0))))
 rows-list m keys heads slots (suc n) =
     ap (λ (x : ℕ). x + rowsBy m keys (headOf heads (getD slots n 0))) (rows-list m keys heads slots n)
-    ∙ ap (λ (i : ℕ). sum (λ i. rowsBy m keys (headOf heads (getD slots i 0))) (from 0 n) + rowsBy m keys (headOf heads (getD slots i 0))) (sym (zero-add n))
+    ∙ ap (λ (i : ℕ). sumOver (λ i. rowsBy m keys (headOf heads (getD slots i 0))) (from 0 n) + rowsBy m keys (headOf heads (getD slots i 0))) (sym (zero-add n))
     ∙ sym (sum-from-snoc (λ i. rowsBy m keys (headOf heads (getD slots i 0))) 0 n)
 
 module _ (g : Graph) (ms : List ClosedFactor) (c : Carriable g ms) (shift start j : ℕ) (keys heads : List ℕ) (low : shift ≤ backward-shift)
@@ -88,34 +88,34 @@ module _ (g : Graph) (ms : List ClosedFactor) (c : Carriable g ms) (shift start 
   m = at ms j
 
   abbrev slots : List ℕ
-  slots = map (numberOf shift) (m .content)
+  slots = map (slotNumber shift) (m .content)
 
   pub known : (s : Slot) → List·Memᴰ s (m .content) → Known g ms c shift start j keys heads low (omega arith) tables placed s
   known (original i) h = from-lt i (g .count) (c .tidy j l .originals i h)
   known (closed i) h = c .older j i (msgs-in h)
 
   content-length : length slots ≡ length (m .content)
-  content-length = length-map (m .content) (numberOf shift)
+  content-length = length-map (m .content) (slotNumber shift)
 
   pub fits : (factors messages : List Float) → offset g (g .count) ≤ length factors → start + needTo g ms j ≤ length messages → (i : ℕ) → i < length slots
-      → HeadFits (m .kept) (m .cleared) (g .sizes) keys (length (storeOf (headOf heads (getD slots i 0) .slot) factors messages))
+      → HeadFits (m .kept) (m .cleared) (g .sizes) keys (length (slotStore (headOf heads (getD slots i 0) .slot) factors messages))
       (headOf heads (getD slots i 0))
   fits factors messages hf hm i h =
       let s : Slot = getD (m .content) i (original 0) in
       let k : List·Memᴰ s (m .content) = at-mem (m .content) i (original 0) (omega (arith, content-length)) in
-      rw (at-map (numberOf shift) (m .content) i (original 0) 0 (omega (arith, content-length)))
+      rw (at-map (slotNumber shift) (m .content) i (original 0) 0 (omega (arith, content-length)))
       (slot-fits g ms c shift start j keys heads low (omega arith) tables placed (m .kept) (m .cleared) s (known s k) (c .tidy j l .keyed s k) factors
       messages hf hm)
 
-  number-low : (s : Slot) → List·Memᴰ s (m .content) → numberOf shift s < max-slots
-  unfolding numberOf
+  number-low : (s : Slot) → List·Memᴰ s (m .content) → slotNumber shift s < max-slots
+  unfolding slotNumber
   number-low (original i) h = omega (arith, known (original i) h, valid-count g (c .sound))
   number-low (closed i) h = omega (arith, known (closed i) h, c .few)
 
   pub headed : (i : ℕ) → i < length slots → 6 * getD slots i 0 + 5 < length heads
   headed i h =
       let s : Slot = getD (m .content) i (original 0) in
-      rw (at-map (numberOf shift) (m .content) i (original 0) 0 (omega (arith, content-length)))
+      rw (at-map (slotNumber shift) (m .content) i (original 0) 0 (omega (arith, content-length)))
       (omega (arith, number-low s (at-mem (m .content) i (original 0) (omega (arith, content-length))), tables .long-heads))
 
   pub counted : length (m .content) ≤ max-slots → Counted keys heads slots
@@ -138,8 +138,8 @@ module _ (g : Graph) (ms : List ClosedFactor) (c : Carriable g ms) (shift start 
   abbrev layout : Layout
   layout = layoutOf (m .kept) (m .cleared) (g .sizes)
 
-  slot-rows : (s : Slot) → List·Memᴰ s (m .content) → rowsBy layout keys (headOf heads (numberOf shift s)) ≡ slotRows g (m .cleared) (rowsTo g ms j) s
-  unfolding numberOf rowsBy slotRows
+  slot-rows : (s : Slot) → List·Memᴰ s (m .content) → rowsBy layout keys (headOf heads (slotNumber shift s)) ≡ slotRows g (m .cleared) (rowsTo g ms j) s
+  unfolding slotNumber rowsBy slotRows
   slot-rows (original i) h =
       let k : i < g .count = known (original i) h in
       rw (tables .originals .entered i k .head) (go (factorAt g i .prior) refl)
@@ -163,21 +163,21 @@ module _ (g : Graph) (ms : List ClosedFactor) (c : Carriable g ms) (shift start 
       go false p = refl
   slot-rows (closed i) h = rw (placed i (known (closed i) h) .head) (sym (rows-at g ms j i (known (closed i) h)))
 
-  pub rows-sum : rowsByAll layout keys heads slots (length slots) ≡ sum (slotRows g (m .cleared) (rowsTo g ms j)) (m .content)
+  pub rows-sum : rowsByAll layout keys heads slots (length slots) ≡ sumOver (slotRows g (m .cleared) (rowsTo g ms j)) (m .content)
   rows-sum =
       rows-list layout keys heads slots (length slots)
       ∙ sum-same (λ i. rowsBy layout keys (headOf heads (getD slots i 0)))
       (λ i. slotRows g (m .cleared) (rowsTo g ms j) (getD (m .content) i (original 0))) (from 0 (length slots)) each
-      ∙ ap (λ (n : ℕ). sum (λ i. slotRows g (m .cleared) (rowsTo g ms j) (getD (m .content) i (original 0))) (from 0 n)) content-length
+      ∙ ap (λ (n : ℕ). sumOver (λ i. slotRows g (m .cleared) (rowsTo g ms j) (getD (m .content) i (original 0))) (from 0 n)) content-length
       ∙ sum-table (slotRows g (m .cleared) (rowsTo g ms j)) (m .content) (original 0)
     where
       each : (i : ℕ) → List·Memᴰ i (from 0 (length slots)) → rowsBy layout keys (headOf heads (getD slots i 0))
           ≡ slotRows g (m .cleared) (rowsTo g ms j) (getD (m .content) i (original 0))
       each i h =
           let b : i < length (m .content) = omega (arith, from-mem i 0 (length slots) h .1, content-length) in
-          rw (at-map (numberOf shift) (m .content) i (original 0) 0 b) (slot-rows (getD (m .content) i (original 0)) (at-mem (m .content) i (original 0) b))
+          rw (at-map (slotNumber shift) (m .content) i (original 0) 0 b) (slot-rows (getD (m .content) i (original 0)) (at-mem (m .content) i (original 0) b))
 
-  pub rows-are : asked.rowsBy (m .kept) (m .cleared) slots (g .sizes) keys heads ≡ rowsAt g ms j
+  pub rows-are : asked.messageRowsBy (m .kept) (m .cleared) slots (g .sizes) keys heads ≡ rowsAt g ms j
   unfolding rowsIn
   rows-are = rw rows-sum refl
 
@@ -209,8 +209,8 @@ module _ (g : Graph) (ms : List ClosedFactor) (c : Carriable g ms) (shift start 
               (λ i h. before-more .of-heads i (omega arith));
         }
 
-    slot-is : slotOf (messageNumber shift j) ≡ Closed (shift + j)
-    unfolding slotOf
+    slot-is : numberedSlot (messageNumber shift j) ≡ Closed (shift + j)
+    unfolding numberedSlot
     slot-is = rw (le-ltb (messageNumber shift j) max-factors (omega arith)) (ap Closed (omega arith))
 
     pub placed-more : PlacedTo g ms shift start keys′ heads′ (j + 1)
@@ -262,9 +262,9 @@ module _ (g : Graph) (ms : List ClosedFactor) (c : Carriable g ms) (shift start 
     (holds : Holds shift (at ms j) lists) where
   content-few : length (at ms j .content) ≤ pass-slots
   content-few =
-      omega (arith, length-map (at ms j .content) (numberOf shift), ap length (holds .slots), length-take (lists .count) (lists .slots), holds .few)
+      omega (arith, length-map (at ms j .content) (slotNumber shift), ap length (holds .slots), length-take (lists .count) (lists .slots), holds .few)
 
-  pub placeable : start ≤ 100000 → Placeable (keptOf lists) (clearedOf lists) (slotsOf lists) (g .sizes) keys heads (messageNumber shift j) next
+  pub placeable : start ≤ 100000 → Placeable (keptOf lists) (clearedOf lists) (listedSlots lists) (g .sizes) keys heads (messageNumber shift j) next
   placeable h =
       rw (holds .kept, holds .cleared, holds .slots)
       (record {
@@ -277,24 +277,24 @@ module _ (g : Graph) (ms : List ClosedFactor) (c : Carriable g ms) (shift start 
         low = omega (arith, p .low, c .few);
       })
     where
-      first-is : asked.firstOf (messageNumber shift j) ≡ firstKey shift j
+      first-is : asked.keysFrom (messageNumber shift j) ≡ firstKey shift j
       first-is = omega arith
 
   pub progress-more : (r : ℕ) (keys′ heads′ : List ℕ) → PlacedBy (g .sizes) keys heads (messageNumber shift j) next r keys′ heads′ (keptOf lists)
-      (clearedOf lists) (slotsOf lists)
+      (clearedOf lists) (listedSlots lists)
       → Progress g ms shift start keys₀ heads₀ keys′ heads′ r (j + 1)
   progress-more r keys′ heads′ by =
       let q : PlacedBy (g .sizes) keys heads (messageNumber shift j) next r keys′ heads′ (at ms j .kept) (at ms j .cleared)
-      (map (numberOf shift) (at ms j .content))
+      (map (slotNumber shift) (at ms j .content))
       = rw (holds .kept, holds .cleared, holds .slots) at by in
-      let e : asked.rowsBy (at ms j .kept) (at ms j .cleared) (map (numberOf shift) (at ms j .content)) (g .sizes) keys heads ≡ rowsAt g ms j
+      let e : asked.messageRowsBy (at ms j .kept) (at ms j .cleared) (map (slotNumber shift) (at ms j .content)) (g .sizes) keys heads ≡ rowsAt g ms j
       = rows-are g ms c shift start j keys heads low l (p .tables) (p .placed) sized in
-      let f : asked.firstOf (messageNumber shift j) ≡ firstKey shift j = omega arith in
+      let f : asked.keysFrom (messageNumber shift j) ≡ firstKey shift j = omega arith in
       let ek : keys′ ≡ lay keys (firstKey shift j) (at ms j .kept) = q .1 .0 ∙ ap (λ (n : ℕ). lay keys n (at ms j .kept)) f in
       let eh : heads′ ≡ withHead heads (messageNumber shift j) false (start + needTo g ms j) (rowsAt g ms j) (widthAt g ms j) (firstKey shift j)
       (length (at ms j .kept))
       = q .1 .1 ∙ rw (e, f, p .next-is) refl in
-      let er : r ≡ next + numbersOf (rowsAt g ms j) (widthAt g ms j) = q .0 ∙ rw e refl in
+      let er : r ≡ next + factorNumbers (rowsAt g ms j) (widthAt g ms j) = q .0 ∙ rw e refl in
       let small = products (rowsAt g ms j) (widthAt g ms j) (message-rows-most g ms c j l) (message-kept g ms c j l .total) in
       let b = before-more g ms c shift start j keys heads low l (p .tables) (p .placed) sized (omega (arith, content-few)) keys′ heads′ ek eh in
       record {

@@ -14,7 +14,7 @@ use Rattle.slots.specs.Tables.{headOf, readView}
 use Rattle.gaussian.specs.Elimination.{pivot, message, numbersIn}
 use Rattle.gaussian.proofs.Outcomes.{first-part, second-part, third-part}
 use Rattle.tables.proofs.OriginalsRead.{original-view}
-use Rattle.lists.specs.Lists.{backward-shift, numberOf}
+use Rattle.lists.specs.Lists.{backward-shift, slotNumber}
 use Rattle.messages.specs.Values.{messageView, slotView, valuesTo, valueAt}
 use Rattle.messages.specs.Figure.{widthAt}
 use Rattle.messages.specs.Tables.{Carriable, PlacedTo, Tables, Stored}
@@ -51,8 +51,8 @@ module _ (g : Graph) (ms : List ClosedFactor) (c : Carriable g ms) (shift start 
     (placed : PlacedTo g ms shift start keys heads n) (factors messages : List Float) (stored : (j : ℕ) → j < n → Stored g factors ms start messages j) where
   -- the slots of the messages that have been made, and of all originals
   pub slot-view : (s : Slot) → Known g ms c shift start n keys heads low few tables placed s
-      → readView factors messages keys (headOf heads (numberOf shift s)) ≡ slotView g factors ms (valuesTo g factors ms n) s
-  unfolding numberOf slotView
+      → readView factors messages keys (headOf heads (slotNumber shift s)) ≡ slotView g factors ms (valuesTo g factors ms n) s
+  unfolding slotNumber slotView
   slot-view (original i) l = original-view g (c .sound) keys heads (tables .originals) i l factors messages
   slot-view (closed j) l =
       let s = stored j l in

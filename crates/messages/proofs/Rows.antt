@@ -12,13 +12,13 @@ use Rattle.slots.specs.declared.layout.Layout.{Layout}
 use Rattle.gaussian.specs.Elimination.{messageRows}
 use Rattle.gaussian.proofs.Lengths.{rows-few}
 use Rattle.factor.specs.Factor.{lay}
-use Rattle.messages.specs.Asked.{rowsBy, firstOf}
-use Rattle.slots.specs.Views.{numbersOf}
+use Rattle.messages.specs.Asked.{messageRowsBy, keysFrom}
+use Rattle.slots.specs.Views.{factorNumbers}
 use Rattle.tables.specs.Heads.{withHead}
 
 module _ (kept cleared slots sizes keys heads : List ℕ) (m : Layout) (y d : ℕ) (em : m ≡ layoutOf kept cleared sizes)
     (ey : y ≡ rowsByAll m keys heads slots (length slots)) (ed : d ≡ dimOf sizes kept) where
-  pub rows-are : (r : ℕ) → r ≡ messageRows y d → r ≡ rowsBy kept cleared slots sizes keys heads
+  pub rows-are : (r : ℕ) → r ≡ messageRows y d → r ≡ messageRowsBy kept cleared slots sizes keys heads
   rows-are r er = rw (← em, ← ey, ← ed) er
 
 -- products of rows and columns are small
@@ -26,7 +26,7 @@ pub products : (r d : ℕ) → r ≤ 32 → d ≤ 32 → (r * d ≤ 1024) × (r 
 products r d hr hd = (mul-le-mul hr hd, mul-le-mul hr hr)
 
 -- the rows and the columns of a message that is placed
-pub placed-small : (kept cleared slots sizes keys heads : List ℕ) (r d : ℕ) → Listed kept sizes → r ≡ rowsBy kept cleared slots sizes keys heads → d
+pub placed-small : (kept cleared slots sizes keys heads : List ℕ) (r d : ℕ) → Listed kept sizes → r ≡ messageRowsBy kept cleared slots sizes keys heads → d
     ≡ dimOf sizes kept
     → (r ≤ 32) × (d ≤ 32) × (r * d ≤ 1024) × (r * r ≤ 1024)
 placed-small kept cleared slots sizes keys heads r d l er ed =
@@ -36,10 +36,10 @@ placed-small kept cleared slots sizes keys heads r d l er ed =
 
 -- what the placing of a message comes to
 pub placed-is : (kept cleared slots sizes keys heads : List ℕ) (number start r d : ℕ) (keys′ heads′ : List ℕ) → r
-    ≡ rowsBy kept cleared slots sizes keys heads → d ≡ dimOf sizes kept
-    → keys′ ≡ lay keys (firstOf number) kept → heads′ ≡ withHead heads number false start r d (firstOf number) (length kept)
-    → (start + (r * d + r + r * r) ≡ start + numbersOf (rowsBy kept cleared slots sizes keys heads) (dimOf sizes kept))
-    × (keys′ ≡ lay keys (firstOf number) kept)
-    × (heads′ ≡ withHead heads number false start (rowsBy kept cleared slots sizes keys heads) (dimOf sizes kept) (firstOf number) (length kept))
+    ≡ messageRowsBy kept cleared slots sizes keys heads → d ≡ dimOf sizes kept
+    → keys′ ≡ lay keys (keysFrom number) kept → heads′ ≡ withHead heads number false start r d (keysFrom number) (length kept)
+    → (start + (r * d + r + r * r) ≡ start + factorNumbers (messageRowsBy kept cleared slots sizes keys heads) (dimOf sizes kept))
+    × (keys′ ≡ lay keys (keysFrom number) kept)
+    × (heads′ ≡ withHead heads number false start (messageRowsBy kept cleared slots sizes keys heads) (dimOf sizes kept) (keysFrom number) (length kept))
 placed-is kept cleared slots sizes keys heads number start r d keys′ heads′ er ed ek eh =
     (rw (er, ed) refl, ek, rw (eh, er, ed) refl)

@@ -13,7 +13,7 @@ use lib.ListN.{length, getD, take, drop, length-drop}
 use lib.Seq.{length-take-le, getD-take, getD-drop, ext-getD}
 use Rattle.factor.specs.Limits.{max-variables, max-total}
 use Rattle.factor.specs.Factor.{keyAt}
-use Rattle.graph.specs.Record.{factorAt, offset, keysOf}
+use Rattle.graph.specs.Record.{factorAt, offset, factorKeys}
 use Rattle.graph.specs.declared.Graph.{Graph}
 use Rattle.graph.proofs.Validity.{size-most, valid-variables, valid-size, valid-touched}
 use Rattle.schedule.specs.Count.{count, In, from}
@@ -21,38 +21,38 @@ use Rattle.schedule.specs.Pass as pass
 use Rattle.schedule.specs.Pass.{Slot, original, closed, ClosedFactor, at}
 use Rattle.schedule.specs.Messages.{Tidy}
 use Rattle.slots.specs.Layouts.{dimOf, Listed}
-use Rattle.slots.specs.Tables.{headOf, keysAt, storeOf}
+use Rattle.slots.specs.Tables.{headOf, headKeys, slotStore}
 use Rattle.slots.specs.declared.Head.{Head}
 use Rattle.gaussian.specs.Asked.{KeyFits, HeadFits}
 use Rattle.tables.proofs.Dimensions.{total-within, kept-listed, cleared-listed}
 use Rattle.tables.proofs.OriginalsRead.{original-fits}
-use Rattle.lists.specs.Lists.{backward-shift, numberOf}
+use Rattle.lists.specs.Lists.{backward-shift, slotNumber}
 use Rattle.messages.specs.Figure.{slotRows, rowsTo, rowsAt, widthAt, needTo}
 use Rattle.messages.specs.Tables.{Carriable, firstKey, messageHead, PlacedTo, Tables}
 use Rattle.gaussian.proofs.Lengths.{rows-few}
 use Rattle.messages.proofs.Members.{at-in, placed-in, below-cleared, below-kept, once, kept-length, column-all}
-use Rattle.slots.specs.Views.{numbersOf}
+use Rattle.slots.specs.Views.{factorNumbers}
 
 -- ---- the figure grows by one message at a time
 
-pub need-more : (g : Graph) (ms : List ClosedFactor) (j : ℕ) → needTo g ms (j + 1) ≡ needTo g ms j + numbersOf (rowsAt g ms j) (widthAt g ms j)
+pub need-more : (g : Graph) (ms : List ClosedFactor) (j : ℕ) → needTo g ms (j + 1) ≡ needTo g ms j + factorNumbers (rowsAt g ms j) (widthAt g ms j)
 unfolding needTo
 need-more g ms j = rw (add-one j) refl
 
-pub need-rises : (g : Graph) (ms : List ClosedFactor) (i n : ℕ) → i < n → needTo g ms i + numbersOf (rowsAt g ms i) (widthAt g ms i) ≤ needTo g ms n
+pub need-rises : (g : Graph) (ms : List ClosedFactor) (i n : ℕ) → i < n → needTo g ms i + factorNumbers (rowsAt g ms i) (widthAt g ms i) ≤ needTo g ms n
 unfolding needTo
 need-rises g ms i zero h = absurd (omega arith)
 need-rises g ms i (suc n) h = go (decLt i n) (need-rises g ms i n)
   where
-    go : Dec (i < n) → (i < n → needTo g ms i + numbersOf (rowsAt g ms i) (widthAt g ms i) ≤ needTo g ms n)
-        → needTo g ms i + numbersOf (rowsAt g ms i) (widthAt g ms i) ≤ needTo g ms n + numbersOf (rowsAt g ms n) (widthAt g ms n)
+    go : Dec (i < n) → (i < n → needTo g ms i + factorNumbers (rowsAt g ms i) (widthAt g ms i) ≤ needTo g ms n)
+        → needTo g ms i + factorNumbers (rowsAt g ms i) (widthAt g ms i) ≤ needTo g ms n + factorNumbers (rowsAt g ms n) (widthAt g ms n)
     go (yes l) ih = omega (arith, ih l)
     go (no l) ih = let e : i ≡ n = omega arith in rw e (omega arith)
 
 -- ---- the keys of a message
 
 module _ (g : Graph) (ms : List ClosedFactor) (c : Carriable g ms) (j : ℕ) (l : j < length ms) where
-  tidy : Tidy (g .variables) (keysOf g) (from 0 (g .count)) ms (at ms j)
+  tidy : Tidy (g .variables) (factorKeys g) (from 0 (g .count)) ms (at ms j)
   tidy = c .tidy j l
 
   pub message-total : dimOf (g .sizes) (at ms j .cleared) + dimOf (g .sizes) (at ms j .kept) ≤ max-total
@@ -80,7 +80,7 @@ module _ (g : Graph) (ms : List ClosedFactor) (c : Carriable g ms) (j : ℕ) (l 
   unfolding Rattle.messages.specs.Figure.rowsIn
   message-rows-most = omega (
     arith,
-    rows-few (Rattle.schedule.specs.Count.sum (slotRows g (at ms j .cleared) (rowsTo g ms j)) (at ms j .content))
+    rows-few (Rattle.schedule.specs.Count.sumOver (slotRows g (at ms j .cleared) (rowsTo g ms j)) (at ms j .content))
         (widthAt g ms j),
     message-kept .total,
   )
@@ -95,7 +95,7 @@ module _ (g : Graph) (ms : List ClosedFactor) (c : Carriable g ms) (shift start 
   Known (original i) = i < g .count
   Known (closed j) = j < n
 
-  pub keys-are : (j : ℕ) → j < n → keysAt keys (messageHead g ms shift start j) ≡ at ms j .kept
+  pub keys-are : (j : ℕ) → j < n → headKeys keys (messageHead g ms shift start j) ≡ at ms j .kept
   keys-are j l =
       let k : List ℕ = at ms j .kept in
       let f : firstKey shift j + length k - firstKey shift j ≡ length k = omega arith in
@@ -132,21 +132,23 @@ module _ (g : Graph) (ms : List ClosedFactor) (c : Carriable g ms) (shift start 
             }
 
     -- the keys of an original
-    original-keys : (i : ℕ) → i < g .count → (j : ℕ) → j < factorAt g i .touched → In (keyAt (factorAt g i) j) (keysOf g i)
-    unfolding keysOf
+    original-keys : (i : ℕ) → i < g .count → (j : ℕ) → j < factorAt g i .touched → In (keyAt (factorAt g i) j) (factorKeys g i)
+    unfolding factorKeys
     original-keys i l j h =
         let f = factorAt g i in
         rw (lt-ltb i (g .count) l, ← getD-take (f .touched) (f .keys) j 0 h)
         (at-in (take (f .touched) (f .keys)) j (rw (length-take-le (f .touched) (f .keys)
         (omega (arith, tables .originals .entered i l .full, valid-touched g (c .sound) i l))) h))
 
-    pub slot-fits : (s : Slot) → Known s → ((x : ℕ) → In x (pass.keysOf (keysOf g) ms s) → 1 ≤ count x cleared + count x kept) → (factors messages : List Float)
+    pub slot-fits : (s : Slot) → Known s → ((x : ℕ) → In x (pass.slotKeys (factorKeys g) ms s) → 1 ≤ count x cleared + count x kept)
+        → (factors messages : List Float)
         → offset g (g .count) ≤ length factors → start + needTo g ms n ≤ length messages
-        → HeadFits kept cleared (g .sizes) keys (length (storeOf (headOf heads (numberOf shift s) .slot) factors messages)) (headOf heads (numberOf shift s))
-    unfolding numberOf pass.keysOf
+        → HeadFits kept cleared (g .sizes) keys (length (slotStore (headOf heads (slotNumber shift s) .slot) factors messages))
+        (headOf heads (slotNumber shift s))
+    unfolding slotNumber pass.slotKeys
     slot-fits (original i) l has factors messages hf hm =
         subst (λ (len : ℕ). HeadFits kept cleared (g .sizes) keys len (headOf heads i))
-        (ap (λ (h : Head). length (storeOf (h .slot) factors messages)) (sym (tables .originals .entered i l .head)))
+        (ap (λ (h : Head). length (slotStore (h .slot) factors messages)) (sym (tables .originals .entered i l .head)))
         (original-fits g (c .sound) keys heads (tables .originals) i l kept cleared
         (λ j h. placed-in (keyAt (factorAt g i) j) cleared kept (has (keyAt (factorAt g i) j) (original-keys i l j h))) (length factors) hf)
     slot-fits (closed j) l has factors messages hf hm = rw (placed j l .head) (message-fits j (length messages) l has hm)

@@ -1,4 +1,4 @@
--- What the functions of this crate ask for, and what they answer. Definitions only.
+-- Inner: what the functions of this crate ask for, and what they answer.
 use mathlib.Core.List.{List}
 use Prim.Native.Nat.{ℕ, _+_, _-_, _*_, _≤_, _<_}
 use lib.ListN.{length, take}
@@ -9,9 +9,9 @@ use Rattle.slots.specs.Tables.{rowsByAll}
 use Rattle.slots.specs.Fitting.{Counted}
 use Rattle.gaussian.specs.Elimination.{messageRows}
 use Rattle.lists.specs.declared.Lists.{Lists}
-use Rattle.messages.specs.Values.{Stop, none, stopped}
+use Rattle.messages.specs.Values.{FirstRefusal, none, refusedAt}
 use Rattle.messages.specs.declared.Carried.{Carried}
-use Rattle.messages.specs.declared.Carried.the-variants.{Through, Halted}
+use Rattle.messages.specs.declared.Carried.the-variants.{Done, Refused}
 
 -- no store of numbers is longer than this in any run, so that places fit a machine word
 abbrev pub most-places : ℕ
@@ -28,16 +28,16 @@ keptOf l = take (l .keeps) (l .kept)
 abbrev pub clearedOf : Lists → List ℕ
 clearedOf l = take (l .clears) (l .cleared)
 
-abbrev pub slotsOf : Lists → List ℕ
-slotsOf l = take (l .count) (l .slots)
+abbrev pub listedSlots : Lists → List ℕ
+listedSlots l = take (l .count) (l .slots)
 
 -- where the keys of the message of a number begin
-abbrev pub firstOf : ℕ → ℕ
-firstOf number = max-keys * max-factors + max-variables * (number - max-factors)
+abbrev pub keysFrom : ℕ → ℕ
+keysFrom number = max-keys * max-factors + max-variables * (number - max-factors)
 
 -- the rows of the message of these lists, by the heads of its slots
-abbrev pub rowsBy : (kept cleared slots sizes keys heads : List ℕ) → ℕ
-rowsBy kept cleared slots sizes keys heads = messageRows (rowsByAll (layoutOf kept cleared sizes) keys heads slots (length slots)) (dimOf sizes kept)
+abbrev pub messageRowsBy : (kept cleared slots sizes keys heads : List ℕ) → ℕ
+messageRowsBy kept cleared slots sizes keys heads = messageRows (rowsByAll (layoutOf kept cleared sizes) keys heads slots (length slots)) (dimOf sizes kept)
 
 -- what the placing of a message asks for
 pub record Placeable (kept cleared slots sizes keys heads : List ℕ) (number start : ℕ) : Type 0 where
@@ -46,16 +46,16 @@ pub record Placeable (kept cleared slots sizes keys heads : List ℕ) (number st
   pub counted : Counted keys heads slots
   pub above : max-factors ≤ number
   pub headed : head-numbers * number + 5 < length heads
-  pub room : firstOf number + length kept ≤ length keys
+  pub room : keysFrom number + length kept ≤ length keys
   pub low : start ≤ most-places
 
 -- the counts are within the arrays
-pub record Within (l : Lists) : Type 0 where
+pub record ListsWithin (l : Lists) : Type 0 where
   pub kept : l .keeps ≤ max-variables
   pub cleared : l .clears ≤ max-variables
   pub slots : l .count ≤ max-slots
 
 -- where a pass was stopped
-abbrev pub stopOf : Carried → Stop
-stopOf Through = none
-stopOf (Halted j why) = stopped j why
+abbrev pub refusalIn : Carried → FirstRefusal
+refusalIn Done = none
+refusalIn (Refused j why) = refusedAt j why

@@ -1,4 +1,4 @@
--- The messages of a pass in the tables of an elimination: their heads and keys follow those of the originals, the forward pass first. Definitions only.
+-- Inner: the messages of a pass in the tables of an elimination: their heads and keys follow those of the originals, the forward pass first.
 use mathlib.Core.Path.{_≡_}
 use mathlib.Core.Bool.{true, false}
 use mathlib.Core.List.{List}
@@ -7,7 +7,7 @@ use lib.ListN.{length, getD}
 use lib.Ieee.{Float}
 use Rattle.matrix.specs.Views.{part}
 use Rattle.factor.specs.Limits.{max-variables, max-factors, max-keys}
-use Rattle.graph.specs.Record.{valid, keysOf}
+use Rattle.graph.specs.Record.{valid, factorKeys}
 use Rattle.graph.specs.declared.Graph.{Graph}
 use Rattle.schedule.specs.Count.{from}
 use Rattle.schedule.specs.Pass.{ClosedFactor, at}
@@ -18,16 +18,16 @@ use Rattle.slots.specs.declared.Head.{Head}
 use Rattle.slots.specs.declared.Slot.the-variants.{Closed}
 use Rattle.gaussian.specs.Elimination.{message, numbersIn}
 use Rattle.lists.specs.Lists.{backward-shift, messageNumber}
-use Rattle.messages.specs.Values.{valueAt, values, finished}
+use Rattle.messages.specs.Values.{valueAt, values, finishedNumbers}
 use Rattle.messages.specs.Figure.{rowsAt, widthAt, needTo, need}
-use Rattle.slots.specs.Views.{numbersOf}
+use Rattle.slots.specs.Views.{factorNumbers}
 use Rattle.tables.specs.Heads.{Originals}
 
 -- what is asked of a pass: the plan of a valid graph gives it
 pub record Carriable (g : Graph) (ms : List ClosedFactor) : Type 0 where
   pub sound : valid g ≡ true
   pub few : length ms ≤ max-variables
-  pub tidy : (j : ℕ) → j < length ms → Tidy (g .variables) (keysOf g) (from 0 (g .count)) ms (at ms j)
+  pub tidy : (j : ℕ) → j < length ms → Tidy (g .variables) (factorKeys g) (from 0 (g .count)) ms (at ms j)
   pub older : Older ms
 
 -- the lengths of the tables: a head for each slot; eight keys for an original, 32 for a message
@@ -86,9 +86,9 @@ pub record Stored (g : Graph) (factors : List Float) (ms : List ClosedFactor) (s
   pub of-a : length a ≡ rows * widthAt g ms j
   pub of-xi : length xi ≡ rows
   pub of-w : length w ≡ rows * rows
-  pub stands : part store (start + needTo g ms j) (start + needTo g ms j + numbersOf rows (widthAt g ms j)) ≡ numbersIn (message rows a xi w)
+  pub stands : part store (start + needTo g ms j) (start + needTo g ms j + factorNumbers rows (widthAt g ms j)) ≡ numbersIn (message rows a xi w)
 
 -- all messages of the pass have been made, and stand in the store one after the other
 pub record AllStored (g : Graph) (factors : List Float) (ms : List ClosedFactor) (start : ℕ) (store : List Float) : Type 0 where
   pub each : (j : ℕ) → j < length ms → Stored g factors ms start store j
-  pub long : length (finished (values g factors ms)) ≡ need g ms
+  pub long : length (finishedNumbers (values g factors ms)) ≡ need g ms

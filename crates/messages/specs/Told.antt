@@ -1,17 +1,17 @@
--- What a walk over messages or keys tells in the numbers of document 01. Definitions only.
+-- Inner: what a walk over messages or keys tells in the numbers of document 01.
 use mathlib.Core.List.{[], _∷_}
 use Rattle.factor.specs.Told.{Told, value, refusal}
-use Rattle.graph.specs.Refusals.{numberOf}
-use Rattle.messages.specs.Values.{Stop, none, stopped}
+use Rattle.graph.specs.Refusals.{refusalNumber}
+use Rattle.messages.specs.Values.{FirstRefusal, none, refusedAt}
 use Rattle.messages.specs.declared.Carried.{Carried}
-use Rattle.messages.specs.declared.Carried.the-variants.{Through, Halted}
+use Rattle.messages.specs.declared.Carried.the-variants.{Done, Refused}
 
 -- that all were carried out, or the number of the refusal and where it came: the message's place in its pass, or the key
 unfoldable pub carriedTold : Carried → Told
-carriedTold Through = value []
-carriedTold (Halted at why) = refusal (numberOf why) (at ∷ [])
+carriedTold Done = value []
+carriedTold (Refused at why) = refusal (refusalNumber why) (at ∷ [])
 
 -- of the first refusal in a list
-unfoldable pub stopTold : Stop → Told
+unfoldable pub stopTold : FirstRefusal → Told
 stopTold none = value []
-stopTold (stopped at why) = refusal (numberOf why) (at ∷ [])
+stopTold (refusedAt at why) = refusal (refusalNumber why) (at ∷ [])

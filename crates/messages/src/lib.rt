@@ -20,27 +20,27 @@ ghost use Prim.Native.Nat.{_+_, _*_, _≤_};
 ghost use lib.ListN.{length};
 ghost use Rattle.factor.specs.Limits.{max-variables};
 ghost use Rattle.factor.specs.Factor.{lay};
-ghost use Rattle.plan.specs.Pass.{Ready, messagesOf};
+ghost use Rattle.plan.specs.Pass.{PassReady, messagesOf};
 ghost use Rattle.slots.specs.Layouts.{dimOf, Listed};
 ghost use Rattle.slots.specs.Fitting.{Counted};
 ghost use Rattle.workspace.specs.Frames.{work-numbers};
 ghost use Rattle.graph.specs.Record.{offset};
 ghost use Rattle.gaussian.specs.Elimination.{eliminate};
-ghost use Rattle.gaussian.specs.Answers.{answer, stored, viewsOf};
+ghost use Rattle.gaussian.specs.Answers.{eliminatedAs, messageStored, viewsOf};
 ghost use Rattle.gaussian.specs.Asked.{Asked, Roomy};
 ghost use Rattle.lists.specs.Lists.{backward-shift};
 ghost use Rattle.messages.specs.Figure.{need};
 ghost use Rattle.messages.specs.Tables.{Carriable, PlacedTo, Tables, Before, AllStored};
-ghost use Rattle.messages.specs.Values.{values, stopFrom, finished};
-ghost use Rattle.messages.specs.Asked.{firstOf, rowsBy, Placeable, Within, keptOf, clearedOf, slotsOf, most-start, stopOf};
+ghost use Rattle.messages.specs.Values.{values, refusalFrom, finishedNumbers};
+ghost use Rattle.messages.specs.Asked.{keysFrom, messageRowsBy, Placeable, ListsWithin, keptOf, clearedOf, listedSlots, most-start, refusalIn};
 ghost use Rattle.messages.specs.Told.{carriedTold, stopTold};
-ghost use Rattle.slots.specs.Views.{numbersOf};
+ghost use Rattle.slots.specs.Views.{factorNumbers};
 ghost use Rattle.tables.specs.Heads.{withHead};
 
 // How a pass ended: with all its messages, or at the message of a place, for a reason.
 pub enum Carried {
-    Through,
-    Halted(usize, Refusal),
+    Done,
+    Refused(usize, Refusal),
 }
 
 // A list stands in a table from a place on.
@@ -63,7 +63,7 @@ fn message_rows(
     heads: &[usize],
 ) -> usize
     requires { ⌜ Listed (now kept) sizes × Listed (now cleared) sizes × Counted (now keys) (now heads) (now slots) ⌝ }
-    ensures { λ r. ⌜ r ≡ rowsBy (now (kept .entry)) (now (cleared .entry)) (now (slots .entry)) sizes (now (keys .entry)) (now (heads .entry)) ⌝ }
+    ensures { λ r. ⌜ r ≡ messageRowsBy (now (kept .entry)) (now (cleared .entry)) (now (slots .entry)) sizes (now (keys .entry)) (now (heads .entry)) ⌝ }
 {
     let layout = layout_of(kept, cleared, sizes);
     let y = count_rows(layout, keys, heads, slots);
@@ -83,13 +83,13 @@ fn place_message(
     start: usize,
 ) -> usize
     requires { ⌜ Placeable (now kept) (now cleared) (now slots) sizes (now keys) (now heads) number start ⌝ }
-    ensures { λ r. ⌜ r ≡ start + numbersOf
-        (rowsBy (now (kept .entry)) (now (cleared .entry)) (now (slots .entry)) sizes (now (keys .entry)) (now (heads .entry)))
+    ensures { λ r. ⌜ r ≡ start + factorNumbers
+        (messageRowsBy (now (kept .entry)) (now (cleared .entry)) (now (slots .entry)) sizes (now (keys .entry)) (now (heads .entry)))
         (dimOf sizes (now (kept .entry))) ⌝ }
-    ensures { λ _. ⌜ now (keys .exit) ≡ lay (now (keys .entry)) (firstOf number) (now (kept .entry)) ⌝ }
+    ensures { λ _. ⌜ now (keys .exit) ≡ lay (now (keys .entry)) (keysFrom number) (now (kept .entry)) ⌝ }
     ensures { λ _. ⌜ now (heads .exit) ≡ withHead (now (heads .entry)) number false start
-        (rowsBy (now (kept .entry)) (now (cleared .entry)) (now (slots .entry)) sizes (now (keys .entry)) (now (heads .entry)))
-        (dimOf sizes (now (kept .entry))) (firstOf number) (length (now (kept .entry))) ⌝ }
+        (messageRowsBy (now (kept .entry)) (now (cleared .entry)) (now (slots .entry)) sizes (now (keys .entry)) (now (heads .entry)))
+        (dimOf sizes (now (kept .entry))) (keysFrom number) (length (now (kept .entry))) ⌝ }
 {
     let r = message_rows(kept, cleared, slots, sizes, &keys[..], &heads[..]);
     let d = dim_of(kept, sizes);
@@ -108,14 +108,14 @@ fn place_listed(
     number: usize,
     start: usize,
 ) -> usize
-    requires { ⌜ Within l ⌝ }
-    requires { ⌜ Placeable (keptOf l) (clearedOf l) (slotsOf l) sizes (now keys) (now heads) number start ⌝ }
-    ensures { λ r. ⌜ r ≡ start + numbersOf
-        (rowsBy (keptOf l) (clearedOf l) (slotsOf l) sizes (now (keys .entry)) (now (heads .entry))) (dimOf sizes (keptOf l)) ⌝ }
-    ensures { λ _. ⌜ now (keys .exit) ≡ lay (now (keys .entry)) (firstOf number) (keptOf l) ⌝ }
+    requires { ⌜ ListsWithin l ⌝ }
+    requires { ⌜ Placeable (keptOf l) (clearedOf l) (listedSlots l) sizes (now keys) (now heads) number start ⌝ }
+    ensures { λ r. ⌜ r ≡ start + factorNumbers
+        (messageRowsBy (keptOf l) (clearedOf l) (listedSlots l) sizes (now (keys .entry)) (now (heads .entry))) (dimOf sizes (keptOf l)) ⌝ }
+    ensures { λ _. ⌜ now (keys .exit) ≡ lay (now (keys .entry)) (keysFrom number) (keptOf l) ⌝ }
     ensures { λ _. ⌜ now (heads .exit) ≡ withHead (now (heads .entry)) number false start
-        (rowsBy (keptOf l) (clearedOf l) (slotsOf l) sizes (now (keys .entry)) (now (heads .entry)))
-        (dimOf sizes (keptOf l)) (firstOf number) (length (keptOf l)) ⌝ }
+        (messageRowsBy (keptOf l) (clearedOf l) (listedSlots l) sizes (now (keys .entry)) (now (heads .entry)))
+        (dimOf sizes (keptOf l)) (keysFrom number) (length (keptOf l)) ⌝ }
 {
     let kept = l.kept;
     let cleared = l.cleared;
@@ -144,7 +144,7 @@ pub fn place_pass(
     keys: &mut [usize],
     heads: &mut [usize],
 ) -> usize
-    requires { ⌜ Ready max-variables p × Carriable g (messagesOf p) × (shift ≤ backward-shift) × (start ≤ most-start) ⌝ }
+    requires { ⌜ PassReady max-variables p × Carriable g (messagesOf p) × (shift ≤ backward-shift) × (start ≤ most-start) ⌝ }
     requires { ⌜ Tables g (now keys) (now heads) ⌝ }
     ensures { λ r. ⌜ r ≡ start + need g (messagesOf p) ⌝ }
     ensures { λ _. ⌜ Before shift (now (keys .entry)) (now (heads .entry)) (now (keys .exit)) (now (heads .exit)) ⌝ }
@@ -172,14 +172,14 @@ fn eliminate_listed(
     keys: &[usize],
     heads: &[usize],
 ) -> Eliminated
-    requires { ⌜ Within l ⌝ }
-    requires { ⌜ Asked (keptOf l) (clearedOf l) sizes (now factors) (now messages) (length (now work)) (now keys) (now heads) (slotsOf l) ⌝ }
-    requires { ⌜ Roomy (keptOf l) (clearedOf l) sizes (now keys) (now heads) (slotsOf l) to (length (now messages)) ⌝ }
-    ensures { λ r. ⌜ r ≡ answer
-        (eliminate (viewsOf (now (factors .entry)) (now (messages .entry)) (now (keys .entry)) (now (heads .entry)) (slotsOf l))
+    requires { ⌜ ListsWithin l ⌝ }
+    requires { ⌜ Asked (keptOf l) (clearedOf l) sizes (now factors) (now messages) (length (now work)) (now keys) (now heads) (listedSlots l) ⌝ }
+    requires { ⌜ Roomy (keptOf l) (clearedOf l) sizes (now keys) (now heads) (listedSlots l) to (length (now messages)) ⌝ }
+    ensures { λ r. ⌜ r ≡ eliminatedAs
+        (eliminate (viewsOf (now (factors .entry)) (now (messages .entry)) (now (keys .entry)) (now (heads .entry)) (listedSlots l))
         (keptOf l) (clearedOf l) sizes) ⌝ }
-    ensures { λ _. ⌜ now (messages .exit) ≡ stored (now (messages .entry)) to
-        (eliminate (viewsOf (now (factors .entry)) (now (messages .entry)) (now (keys .entry)) (now (heads .entry)) (slotsOf l))
+    ensures { λ _. ⌜ now (messages .exit) ≡ messageStored (now (messages .entry)) to
+        (eliminate (viewsOf (now (factors .entry)) (now (messages .entry)) (now (keys .entry)) (now (heads .entry)) (listedSlots l))
         (keptOf l) (clearedOf l) sizes) ⌝ }
 {
     let kept = l.kept;
@@ -214,14 +214,14 @@ pub fn carry_pass(
     keys: &[usize],
     heads: &[usize],
 ) -> Carried
-    requires { ⌜ Ready max-variables p × Carriable g (messagesOf p) × (shift ≤ backward-shift) × (start ≤ most-start) ⌝ }
+    requires { ⌜ PassReady max-variables p × Carriable g (messagesOf p) × (shift ≤ backward-shift) × (start ≤ most-start) ⌝ }
     requires { ⌜ Tables g (now keys) (now heads) × PlacedTo g (messagesOf p) shift start (now keys) (now heads) (length (messagesOf p)) ⌝ }
     requires { ⌜ (offset g (g .count) ≤ length (now factors)) × (start + need g (messagesOf p) ≤ length (now messages))
         × (work-numbers ≤ length (now work)) ⌝ }
-    ensures { λ r. ⌜ stopOf r ≡ stopFrom 0 (values g (now (factors .entry)) (messagesOf p)) ⌝ }
-    ensures { λ _. ⌜ now (messages .exit) ≡ lay (now (messages .entry)) start (finished (values g (now (factors .entry)) (messagesOf p))) ⌝ }
-    ensures { λ r. ⌜ (r ≡ Carried.Through → AllStored g (now (factors .entry)) (messagesOf p) start (now (messages .exit))) ⌝ }
-    ensures { λ r. ⌜ carriedTold r ≡ stopTold (stopFrom 0 (values g (now (factors .entry)) (messagesOf p))) ⌝ }
+    ensures { λ r. ⌜ refusalIn r ≡ refusalFrom 0 (values g (now (factors .entry)) (messagesOf p)) ⌝ }
+    ensures { λ _. ⌜ now (messages .exit) ≡ lay (now (messages .entry)) start (finishedNumbers (values g (now (factors .entry)) (messagesOf p))) ⌝ }
+    ensures { λ r. ⌜ (r ≡ Carried.Done → AllStored g (now (factors .entry)) (messagesOf p) start (now (messages .exit))) ⌝ }
+    ensures { λ r. ⌜ carriedTold r ≡ stopTold (refusalFrom 0 (values g (now (factors .entry)) (messagesOf p))) ⌝ }
 {
     let n = p.count;
     let mut to = start;
@@ -236,9 +236,9 @@ pub fn carry_pass(
             Eliminated::Rows(_) => {
                 to = next;
             }
-            Eliminated::Pivot => return Carried::Halted(j, Refusal::ClearedPivot),
-            Eliminated::Unbounded => return Carried::Halted(j, Refusal::ResultNotFinite),
+            Eliminated::Pivot => return Carried::Refused(j, Refusal::ClearedPivot),
+            Eliminated::NotFinite => return Carried::Refused(j, Refusal::ResultNotFinite),
         }
     }
-    Carried::Through
+    Carried::Done
 }

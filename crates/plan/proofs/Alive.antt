@@ -14,14 +14,14 @@ use lib.Bits.{bitAnd, bitOr, bitXor}
 use lib.Dec.{T, eqb, leb, eqb→eq, not-T}
 use lib.ListN.{getD}
 use Rattle.factor.specs.Limits.{max-variables}
-use Rattle.schedule.specs.Count.{mem, putIf, keep, from, joined, rising}
+use Rattle.schedule.specs.Count.{mem, putIf, keep, from, joined, risingWhere}
 use Rattle.schedule.specs.Pass.{Slot, ClosedFactor, at}
 use Rattle.schedule.specs.Gather.{messagesIn, upTo, within, alive-among, alive-messages}
 use Rattle.schedule.proofs.Counts.{or-e, and-l}
 use Rattle.schedule.proofs.Sums.{joined-append}
 use Rattle.plan.specs.Mask.{has, keysIn, Set}
 use Rattle.plan.specs.Pass.{msgAt, messagesOf}
-use Rattle.plan.specs.Gather.{part, Inner, Alive}
+use Rattle.plan.specs.Gather.{contentPart, Inner, Alive}
 use Rattle.plan.specs.declared.pass.Pass.{Pass}
 use Rattle.plan.proofs.Digits.{differs, has-and, has-or, has-xor, has-zero, has-single}
 use Rattle.plan.proofs.Prefixes.{or-false, map-append}
@@ -64,12 +64,12 @@ step-at : (p : Pass) (i : ℕ) → (msgAt p i) .step ≡ getD (p .steps) i 0
 unfolding msgAt
 step-at p i = refl
 
-content-at : (p : Pass) (i : ℕ) → (msgAt p i) .content ≡ part (getD (p .starts) i 0) (getD (p .ends) i 0) (p .board .content)
+content-at : (p : Pass) (i : ℕ) → (msgAt p i) .content ≡ contentPart (getD (p .starts) i 0) (getD (p .ends) i 0) (p .board .content)
 unfolding msgAt
 content-at p i = refl
 
 inside-in : (t : ℕ) (p : Pass) (i : ℕ) → getD (p .steps) i 0 ≤ t → inside t p (i + 1)
-    ≡ inside t p i ++ messagesIn (part (getD (p .starts) i 0) (getD (p .ends) i 0) (p .board .content))
+    ≡ inside t p i ++ messagesIn (contentPart (getD (p .starts) i 0) (getD (p .ends) i 0) (p .board .content))
 unfolding joined
 inside-in t p i h =
     inside-more t p i ∙ ap (λ (b : Bool). inside t p i ++ joined (λ m. messagesIn (m .content)) (putIf b (msgAt p i) []))
@@ -101,7 +101,7 @@ module _ (t : ℕ) (p : Pass) where
       upto = λ j l. is j (ℕ-discrete j i) l;
       low = λ j q. low j (or-e (has j upto) (has j s) (subst T (has-or j upto s) q));
       within = subst (λ (l : List ℕ). Set l (bitOr within r)) (sym (inside-in t p i k))
-          (set-append (inside t p i) (messagesIn (part (getD (p .starts) i 0) (getD (p .ends) i 0) (p .board .content))) within r (a .within) n);
+          (set-append (inside t p i) (messagesIn (contentPart (getD (p .starts) i 0) (getD (p .ends) i 0) (p .board .content))) within r (a .within) n);
     }
       where
         one : (j : ℕ) → has j s ≡ eqb j i
@@ -151,7 +151,7 @@ module _ (t : ℕ) (p : Pass) where
       record {
         is = rising-on (p .count) max-variables (λ j. has j r) f (λ j l. sure-false (has j r) (not-T (has j r) (λ q. omega (arith, low j q))))
             ∙ rising-same (p .count) (λ j. has j r) (λ j. upTo t (at (messagesOf p) j) && not (mem j (within t (messagesOf p)))) both
-            ∙ ap (λ (n : ℕ). rising n (λ j. upTo t (at (messagesOf p) j) && not (mem j (within t (messagesOf p))))) (sym (messages-length p));
+            ∙ ap (λ (n : ℕ). risingWhere n (λ j. upTo t (at (messagesOf p) j) && not (mem j (within t (messagesOf p))))) (sym (messages-length p));
         low = low;
       }
     where

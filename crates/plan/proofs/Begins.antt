@@ -13,20 +13,21 @@ use lib.ListN.{length, length-append, getD, take, drop, replicate, length-replic
 use lib.Seq.{take-at, drop-at, getD-take, take-suc, length-take-le}
 use Rattle.factor.specs.Limits.{max-variables, max-factors}
 use Rattle.schedule.specs.Count.{mem, from}
-use Rattle.schedule.specs.Pass.{Slot, original, closed, keysOf, after, step, full-pass}
+use Rattle.schedule.specs.Pass.{Slot, original, closed, slotKeys, stateAfter, step, full-pass}
 use Rattle.plan.specs.Limits.{pass-slots}
 use Rattle.plan.specs.Mask.{has}
-use Rattle.plan.specs.Pass.{pickSlot, slotOf, maskAt, messagesOf, Ready, Means, Steps, laid, Laid, Live, Order, Agrees, Begins, Passes}
+use Rattle.plan.specs.Pass.{pickSlot, passSlot, maskAt, messagesOf, PassReady, Means, Steps, originalMasks, LiveFirst, Live, Order, Agrees}
+use Rattle.plan.specs.Pass.{Begins, Passes}
 use Rattle.plan.specs.declared.pass.Pass.{Pass}
 use Rattle.plan.proofs.Digits.{has-zero}
 use Rattle.plan.proofs.Prefixes.{map-take}
 use Rattle.plan.proofs.Membership.{mem-nil}
 
-slot-orig : (x : ℕ) → x < max-factors → slotOf x ≡ original x
-unfolding slotOf
+slot-orig : (x : ℕ) → x < max-factors → passSlot x ≡ original x
+unfolding passSlot
 slot-orig x h = ap (λ (b : Bool). pickSlot b x) (lt-ltb x max-factors h)
 
-originals : (l : List ℕ) → ((i : ℕ) → i < length l → getD l i 0 < max-factors) → map slotOf l ≡ map original l
+originals : (l : List ℕ) → ((i : ℕ) → i < length l → getD l i 0 < max-factors) → map passSlot l ≡ map original l
 originals [] h = refl
 originals (x ∷ l) h = ap₂ (λ (s : Slot) (t : List Slot). s ∷ t) (slot-orig x (h 0 (omega arith))) (originals l (λ i k. h (suc i) (omega arith)))
 
@@ -50,13 +51,13 @@ begun masks slots count = record {
 }
 
 module _ (keys live masks slots : List ℕ) (count : ℕ) (long : length keys ≡ max-factors) (long' : length live ≡ max-factors) (lv : Live live count)
-    (lm : masks ≡ laid keys) (ls : Laid live count slots) where
+    (lm : masks ≡ originalMasks keys) (ls : LiveFirst live count slots) where
   low : (i : ℕ) → i < count → getD slots i 0 < pass-slots
   low i h =
       omega (arith, lv .low i h, sym (getD-take count slots i 0 h) ∙ ap (λ (l : List ℕ). getD l i 0) (ls .first) ∙ getD-take count live i 0 h)
 
-  pub begin-ready : Ready 0 (begun masks slots count)
-  unfolding laid
+  pub begin-ready : PassReady 0 (begun masks slots count)
+  unfolding originalMasks
   begin-ready = record {
     room = record {
       active = record { long = ls .long; few = omega (arith, lv .few); low = low };
@@ -77,8 +78,8 @@ module _ (keys live masks slots : List ℕ) (count : ℕ) (long : length keys �
       laid-long : length (keys ++ replicate max-variables 0) ≡ pass-slots
       laid-long = length-append keys (replicate max-variables 0) ∙ omega (arith, long)
 
-  masks-are : (K : ℕ → List ℕ) → Agrees keys K → (s : Slot) (j : ℕ) → has j (maskAt masks s) ≡ mem j (keysOf K [] s)
-  unfolding maskAt keysOf laid
+  masks-are : (K : ℕ → List ℕ) → Agrees keys K → (s : Slot) (j : ℕ) → has j (maskAt masks s) ≡ mem j (slotKeys K [] s)
+  unfolding maskAt slotKeys originalMasks
   masks-are K h (original i) j = ap (λ (m : List ℕ). has j (getD (take max-factors m) i 0)) lm
       ∙ ap (λ (l : List ℕ). has j (getD l i 0)) (take-at keys (replicate max-variables 0) max-factors long) ∙ h i j
   masks-are K h (closed i) j =
@@ -87,12 +88,12 @@ module _ (keys live masks slots : List ℕ) (count : ℕ) (long : length keys �
       ∙ ap (has j) (zero-at max-variables i) ∙ has-zero j ∙ sym (mem-nil j)
 
   pub begins : Begins keys live count (begun masks slots count)
-  unfolding after messagesOf from
+  unfolding stateAfter messagesOf from
   begins n K f h = record {
     few = f;
     keys = λ j. has-zero j ∙ sym (mem-nil j);
     below = λ j t. absurd (subst T (has-zero j) t);
-    slots = sym (map-take slotOf count slots) ∙ ap (map slotOf) (ls .first)
+    slots = sym (map-take passSlot count slots) ∙ ap (map passSlot) (ls .first)
         ∙ originals (take count live) (λ i k. let l : i < count = omega (arith, length-take-le count live (omega (arith, lv .few))) in rw
         (getD-take count live i 0 l) (lv .low i l));
     messages = refl;
@@ -109,16 +110,16 @@ reverse-take l t h = ap (λ (n : ℕ). reverse (take n l)) (add-one t) ∙ ap re
 
 -- from the pass p₀ before the first step, p is the pass before the step t
 abbrev pub Along : List ℕ → ℕ → Pass → ℕ → Pass → Type 0
-Along order n p₀ t p = (K : ℕ → List ℕ) (N : List ℕ) → Means n K p₀ (after n K N []) → Means n K p (after n K N (reverse (take t order)))
+Along order n p₀ t p = (K : ℕ → List ℕ) (N : List ℕ) → Means n K p₀ (stateAfter n K N []) → Means n K p (stateAfter n K N (reverse (take t order)))
 
 pub along-more : (order : List ℕ) (n : ℕ) (p₀ : Pass) (t : ℕ) (p r : Pass) → length order ≡ max-variables → Order order n → t < n → Along order n p₀ t p
     → Steps (getD order t 0) t p r → Along order n p₀ (t + 1) r
-unfolding after
+unfolding stateAfter
 along-more order n p₀ t p r long o h inv s K N m =
-    subst (λ (l : List ℕ). Means n K r (after n K N l)) (sym (reverse-take order t (omega (arith, o .few))))
-    (subst (λ (k : ℕ). Means n K r (step n K k (getD order t 0) (after n K N (reverse (take t order)))))
+    subst (λ (l : List ℕ). Means n K r (stateAfter n K N l)) (sym (reverse-take order t (omega (arith, o .few))))
+    (subst (λ (k : ℕ). Means n K r (step n K k (getD order t 0) (stateAfter n K N (reverse (take t order)))))
     (sym (length-reverse (take t order) ∙ length-take-le t order (omega (arith, o .few))))
-    (s n K (after n K N (reverse (take t order))) (o .low t h) (inv K N m)))
+    (s n K (stateAfter n K N (reverse (take t order))) (o .low t h) (inv K N m)))
 
 pub along-done : (keys live order : List ℕ) (count n : ℕ) (p₀ p : Pass) → n ≤ max-variables → Begins keys live count p₀ → Along order n p₀ n p
     → Passes keys (take count live) (take n order) n p

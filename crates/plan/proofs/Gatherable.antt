@@ -10,18 +10,18 @@ use lib.Dec.{T, ltb→lt}
 use lib.ListN.{length, take, length-append, List·getD-append, List·getD-eq-default}
 use lib.Seq.{getD-append-seam, length-take-le}
 use Rattle.factor.specs.Limits.{max-variables, max-factors}
-use Rattle.schedule.specs.Count.{count, In, mem, keep, joined, from, rising}
-use Rattle.schedule.specs.Pass.{ClosedFactor, noMessage, at, State, keysOf, Walked, walk, touches, coupled, stays, append, sending, closing, step}
-use Rattle.schedule.specs.Pass.{after, full-pass}
+use Rattle.schedule.specs.Count.{count, In, mem, keep, joined, from, risingWhere}
+use Rattle.schedule.specs.Pass.{ClosedFactor, noMessage, at, State, slotKeys, Walked, walk, touches, coupled, stays, append, sending, closing, step}
+use Rattle.schedule.specs.Pass.{stateAfter, full-pass}
 use Rattle.schedule.specs.Gather.{uncovered, gathering, gatherAt, gather}
-use Rattle.schedule.specs.Plan.{place}
+use Rattle.schedule.specs.Plan.{placeIn}
 use Rattle.schedule.proofs.Counts.{count-nil, count-reverse, rising-in}
 use Rattle.schedule.proofs.Sums.{sum-perm, length-sum}
 use Rattle.schedule.specs.Messages.{Older}
 use Rattle.schedule.proofs.Runs.{running, from-lt}
 use Rattle.schedule.proofs.Sides.{light}
 use Rattle.schedule.proofs.Demand3.{at-each, from-once}
-use Rattle.plan.specs.Pass.{messagesOf, Ready, Live}
+use Rattle.plan.specs.Pass.{messagesOf, PassReady, Live}
 use Rattle.plan.specs.Gather.{listedAt, Forest, Gatherable, Keyed}
 use Rattle.plan.specs.declared.pass.Pass.{Pass}
 use Rattle.plan.proofs.Sending.{messages-length}
@@ -54,20 +54,20 @@ low-sent n K t st ak (c ∷ cs) h =
     low-snoc n (st .messages) (record {
       step = t;
       content = W .taken;
-      kept = rising n (λ j. mem j ak && mem j (joined (keysOf K (st .messages)) (W .taken)));
+      kept = risingWhere n (λ j. mem j ak && mem j (joined (slotKeys K (st .messages)) (W .taken)));
       cleared = c ∷ cs;
-    }) h (λ j q. rising-in n (λ j. mem j ak && mem j (joined (keysOf K (st .messages)) (W .taken))) j q .1)
+    }) h (λ j q. rising-in n (λ j. mem j ak && mem j (joined (slotKeys K (st .messages)) (W .taken))) j q .1)
   where
     W : Walked
-    W = walk (λ s. touches (c ∷ cs) (keysOf K (st .messages) s)) (length (st .active)) (st .active)
+    W = walk (λ s. touches (c ∷ cs) (slotKeys K (st .messages) s)) (length (st .active)) (st .active)
 
-low-after : (n : ℕ) (K : ℕ → List ℕ) (N P : List ℕ) → LowKept n ((after n K N P) .messages)
-unfolding after step closing LowKept
+low-after : (n : ℕ) (K : ℕ → List ℕ) (N P : List ℕ) → LowKept n ((stateAfter n K N P) .messages)
+unfolding stateAfter step closing LowKept
 low-after n K N [] = λ i j q. absurd (omega (arith, count-nil j))
 low-after n K N (k ∷ P) =
-    let st = after n K N P in
+    let st = stateAfter n K N P in
     low-sent n K (length P) st (keep (stays k (coupled K (st .messages) (k ∷ st .active-keys) (st .active))) (k ∷ st .active-keys))
-    (rising n (λ j. mem j (k ∷ st .active-keys) && not (stays k (coupled K (st .messages) (k ∷ st .active-keys) (st .active)) j))) (low-after n K N P)
+    (risingWhere n (λ j. mem j (k ∷ st .active-keys) && not (stays k (coupled K (st .messages) (k ∷ st .active-keys) (st .active)) j))) (low-after n K N P)
 
 pub low-pass : (n : ℕ) (K : ℕ → List ℕ) (N order : List ℕ) (i j : ℕ) → In j ((at (full-pass n K N order) i) .kept) → j < n
 unfolding full-pass LowKept
@@ -96,10 +96,10 @@ forest p n K N order e each =
 module _ (fw bw : Pass) (live : List ℕ) (count' n : ℕ) (K : ℕ → List ℕ) (order : List ℕ)
     (ef : messagesOf fw ≡ full-pass n K (take count' live) order) (eb : messagesOf bw ≡ full-pass n K (take count' live) (reverse order))
     (long : length live ≡ max-factors) (lv : Live live count') (few : n ≤ max-variables)
-    (rf : Ready n fw) (rb : Ready n bw)
+    (rf : PassReady n fw) (rb : PassReady n bw)
     (distinct : (f : ℕ) → count f (take count' live) ≤ 1) (registered : (f j : ℕ) → In j (K f) → j < n)
     (each : (j : ℕ) → count j order ≡ count j (from 0 n)) where
-  pub gatherable : (k : ℕ) → k < n → Gatherable fw bw live count' (place k order) (n - 1 - place k order)
+  pub gatherable : (k : ℕ) → k < n → Gatherable fw bw live count' (placeIn k order) (n - 1 - placeIn k order)
   unfolding gather gatherAt gathering uncovered
   gatherable k l = record {
     forward = ready-later n max-variables fw (fw .active) few rf;
@@ -120,11 +120,11 @@ module _ (fw bw : Pass) (live : List ℕ) (count' n : ℕ) (K : ℕ → List ℕ
   }
     where
       G : List ℕ
-      G = listedAt fw bw (take count' live) (place k order) (n - 1 - place k order)
+      G = listedAt fw bw (take count' live) (placeIn k order) (n - 1 - placeIn k order)
 
       counts : (f : ℕ) → count f G ≡ count f (take count' live)
       counts f =
-          subst₂ (λ (a b : List ClosedFactor). count f ((gatherAt n K (take count' live) a b (place k order) (n - 1 - place k order) k) .leaves)
+          subst₂ (λ (a b : List ClosedFactor). count f ((gatherAt n K (take count' live) a b (placeIn k order) (n - 1 - placeIn k order) k) .leaves)
           ≡ count f (take count' live)) (sym ef) (sym eb)
           (at-each n K (take count' live) order distinct (λ f h j. registered f j) each k l .listed f)
 

@@ -14,11 +14,11 @@ use Rattle.factor.specs.Limits.{max-variables, max-factors}
 use Rattle.schedule.specs.Count.{mem, any, keep, joined}
 use Rattle.schedule.specs.Pass.{at}
 use Rattle.schedule.specs.Gather.{alive-messages, leaves, keysLast, uncovered, gathering, gatherAt}
-use Rattle.schedule.specs.Gather as lists
+use Rattle.schedule.specs.Gather as schedule
 use Rattle.schedule.proofs.Counts.{or-e, and-l, any-some}
 use Rattle.plan.specs.Mask.{has, keysIn, Union}
 use Rattle.plan.specs.Pass.{messagesOf, Agrees}
-use Rattle.plan.specs.Gather.{Alive, itemsOf, Space, Coverable, others, Covered, Listable, Listed, Kept, Gatherable, gatheredOf, Keyed}
+use Rattle.plan.specs.Gather.{Alive, itemsOf, Space, Coverable, others, OthersListed, Listable, SetListed, Kept, Gatherable, gatheredOf, Keyed}
 use Rattle.plan.specs.declared.pass.Pass.{Pass}
 use Rattle.plan.specs.declared.gather.Listing.{Listing}
 use Rattle.plan.specs.declared.gather.Gathered.{Gathered}
@@ -78,7 +78,7 @@ module _ (fw bw : Pass) (live : List ℕ) (count r s : ℕ) (pre : Gatherable fw
         (arith, total, ap (λ (l : List ℕ). length (joined (leaves (messagesOf fw)) l)) (af .is));
   }
 
-  module _ (one : Listing) (o1 : Listed fw f e one) where
+  module _ (one : Listing) (o1 : SetListed fw f e one) where
     empty : itemsOf e ≡ []
     empty = ap (λ (n : ℕ). take n (e .items)) none
 
@@ -92,7 +92,7 @@ module _ (fw bw : Pass) (live : List ℕ) (count r s : ℕ) (pre : Gatherable fw
       room = omega (arith, total, items-length one (o1 .space), ap length one-items, ap (λ (l : List ℕ). length (joined (leaves (messagesOf bw)) l)) (ag .is));
     }
 
-    module _ (two : Listing) (o2 : Listed bw g one two) where
+    module _ (two : Listing) (o2 : SetListed bw g one two) where
       two-items : itemsOf two ≡ A ++ B
       two-items = o2 .items ∙ ap₂ (λ (x y : List ℕ). x ++ joined (leaves (messagesOf bw)) y) one-items (ag .is)
 
@@ -105,7 +105,7 @@ module _ (fw bw : Pass) (live : List ℕ) (count r s : ℕ) (pre : Gatherable fw
       pub coverable : Coverable live count two
       coverable = omega (arith, total, two-count, ap length others-are)
 
-      module _ (all : Listing) (o3 : Covered live count two all) where
+      module _ (all : Listing) (o3 : OthersListed live count two all) where
         all-items : itemsOf all ≡ (A ++ B) ++ U
         all-items = o3 .items ∙ ap₂ (λ (x y : List ℕ). x ++ y) two-items others-are
 
@@ -160,7 +160,7 @@ module _ (fw bw : Pass) (live : List ℕ) (count r s : ℕ) (pre : Gatherable fw
                 (low-joined n (λ j. (at (messagesOf bw) j) .kept) (alive-messages s (messagesOf bw)) j (λ i. kd .backward i j)))
                 (low-joined n K U j (λ i. kd .originals i j))
 
-            abbrev made : List ℕ → List ℕ → List ℕ → List ℕ → List ℕ → lists.Gathered
+            abbrev made : List ℕ → List ℕ → List ℕ → List ℕ → List ℕ → schedule.Gathered
             made fa ba un ls la = record { forward = fa; backward = ba; originals = un; leaves = ls; last = la }
 
             pub gathers : gatheredOf answer ≡ gatherAt n K (take count live) (messagesOf fw) (messagesOf bw) r s k

@@ -16,16 +16,16 @@ use Rattle.factor.specs.Limits.{max-variables, max-factors}
 use Rattle.schedule.specs.Count.{count, In, from}
 use Rattle.schedule.specs.Pass.{full-pass}
 use Rattle.schedule.specs.Gather.{gather, gatherAt}
-use Rattle.schedule.specs.Plan.{place}
-use Rattle.schedule.specs.Gather as lists
+use Rattle.schedule.specs.Plan.{placeIn}
+use Rattle.schedule.specs.Gather as schedule
 use Rattle.schedule.specs.Plan as plan
 use Rattle.schedule.proofs.Counts.{from-in, count-cons, count-reverse, hit-same}
 use Rattle.schedule.proofs.Runs.{from-lt}
 use Rattle.schedule.proofs.Demand3.{found-at}
 use Rattle.plan.specs.Mask.{keysIn}
-use Rattle.plan.specs.Pass.{messagesOf, Ready, Order, Agrees, Passes}
+use Rattle.plan.specs.Pass.{messagesOf, PassReady, Order, Agrees, Passes}
 use Rattle.plan.specs.Gather.{Gatherable, Gathers, gatheredOf, Held}
-use Rattle.plan.specs.Plan.{Sound, planOf, Plans, noGathered, Bounded}
+use Rattle.plan.specs.Plan.{Sound, planIn, Plans, noGathered, Bounded}
 use Rattle.plan.specs.declared.pass.Pass.{Pass}
 use Rattle.plan.specs.declared.gather.Gathered.{Gathered}
 use Rattle.plan.proofs.Prefixes.{drop-none, map-append}
@@ -57,40 +57,45 @@ back-done order r n i e inv =
     subst (λ (k : ℕ). take k r ≡ reverse (drop (n - k) (take n order))) e inv ∙ ap (λ (k : ℕ). reverse (drop k (take n order))) z
 
 -- ---- the place of a key
-place-here : (k x : ℕ) (l : List ℕ) → eqb k x ≡ true → place k (x ∷ l) ≡ 0
-unfolding place
+place-here : (k x : ℕ) (l : List ℕ) → eqb k x ≡ true → placeIn k (x ∷ l) ≡ 0
+unfolding placeIn
 place-here k x l e = rw e
 
-place-on : (k x : ℕ) (l : List ℕ) → eqb k x ≡ false → place k (x ∷ l) ≡ suc (place k l)
-unfolding place
+place-on : (k x : ℕ) (l : List ℕ) → eqb k x ≡ false → placeIn k (x ∷ l) ≡ suc (placeIn k l)
+unfolding placeIn
 place-on k x l e = rw e
 
-place-nil : (k : ℕ) → place k [] ≡ 0
-unfolding place
+place-nil : (k : ℕ) → placeIn k [] ≡ 0
+unfolding placeIn
 place-nil k = refl
 
 abbrev pub Sought : ℕ → List ℕ → ℕ → ℕ → Type 0
-Sought k order n i = i + place k (drop i (take n order)) ≡ place k (take n order)
+Sought k order n i = i + placeIn k (drop i (take n order)) ≡ placeIn k (take n order)
 
 rest-cons : (order : List ℕ) (n i : ℕ) → n ≤ length order → i < n → drop i (take n order) ≡ getD order i 0 ∷ drop (suc i) (take n order)
 rest-cons order n i f h =
     drop-cons (take n order) i 0 (omega (arith, length-take-le n order f)) ∙ ap (λ (x : ℕ). x ∷ drop (suc i) (take n order)) (getD-take n order i 0 h)
 
-pub sought-here : (k : ℕ) (order : List ℕ) (n i : ℕ) → n ≤ length order → i < n → Sought k order n i → getD order i 0 ≡ k → i ≡ place k (take n order)
+pub sought-here : (k : ℕ) (order : List ℕ) (n i : ℕ) → n ≤ length order → i < n → Sought k order n i → getD order i 0 ≡ k → i ≡ placeIn k (take n order)
 sought-here k order n i f h inv e =
-    omega (arith, inv, ap (place k) (rest-cons order n i f h) ∙ place-here k (getD order i 0) (drop (suc i) (take n order)) (eq-eqb k (getD order i 0) (sym e)))
+    omega (
+      arith,
+      inv,
+      ap (placeIn k) (rest-cons order n i f h) ∙ place-here k (getD order i 0) (drop (suc i) (take n order))
+          (eq-eqb k (getD order i 0) (sym e)),
+    )
 
 pub sought-on : (k : ℕ) (order : List ℕ) (n i : ℕ) → n ≤ length order → i < n → Sought k order n i → (getD order i 0 ≡ k → ⊥) → Sought k order n (i + 1)
 sought-on k order n i f h inv e =
     omega (
       arith,
       inv,
-      ap (place k) (rest-cons order n i f h) ∙ place-on k (getD order i 0) (drop (suc i) (take n order)) (ne-eqb k (getD order i 0) (λ q. e (sym q))),
-      ap (λ (m : ℕ). place k (drop m (take n order))) (add-one i),
+      ap (placeIn k) (rest-cons order n i f h) ∙ place-on k (getD order i 0) (drop (suc i) (take n order)) (ne-eqb k (getD order i 0) (λ q. e (sym q))),
+      ap (λ (m : ℕ). placeIn k (drop m (take n order))) (add-one i),
     )
 
-pub sought-none : (k : ℕ) (order : List ℕ) (n i : ℕ) → n ≤ i → Sought k order n i → i ≡ place k (take n order)
-sought-none k order n i h inv = omega (arith, inv, ap (place k) (drop-none i n order h), place-nil k)
+pub sought-none : (k : ℕ) (order : List ℕ) (n i : ℕ) → n ≤ i → Sought k order n i → i ≡ placeIn k (take n order)
+sought-none k order n i h inv = omega (arith, inv, ap (placeIn k) (drop-none i n order h), place-nil k)
 
 -- ---- the plan
 in-list : (l : List ℕ) (i : ℕ) → i < length l → In (getD l i 0) l
@@ -118,10 +123,10 @@ module _ (keys live order : List ℕ) (number n : ℕ) (sound : Sound keys live 
     order-long : length (take n order) ≡ n
     order-long = length-take-le n order (omega (arith, sound .few))
 
-    pub placed : (k : ℕ) → k < n → place k (take n order) < n
+    pub placed : (k : ℕ) → k < n → placeIn k (take n order) < n
     placed k h = go (found-at k (take n order) (omega (arith, sound .ordered .each k, from-in k 0 n (omega arith) (omega arith))))
       where
-        go : (pre : List ℕ) × (q : List ℕ) × (take n order ≡ pre ++ (k ∷ q)) × (length pre ≡ place k (take n order)) → place k (take n order) < n
+        go : (pre : List ℕ) × (q : List ℕ) × (take n order ≡ pre ++ (k ∷ q)) × (length pre ≡ placeIn k (take n order)) → placeIn k (take n order) < n
         go (pre, q, e, d) = omega (arith, ap length e, length-append pre (k ∷ q), order-long)
 
     pub in-order : Order order n
@@ -139,8 +144,8 @@ pub record Both (keys live order : List ℕ) (number n : ℕ) (fw bw : Pass) : T
   pub sound : Sound keys live number order n
   pub long : length live ≡ max-factors
   pub long' : length order ≡ max-variables
-  pub ready : Ready n fw
-  pub ready' : Ready n bw
+  pub ready : PassReady n fw
+  pub ready' : PassReady n bw
   pub forward : Passes keys (take number live) (take n order) n fw
   pub backward : Passes keys (take number live) (reverse (take n order)) n bw
 
@@ -152,10 +157,10 @@ module _ (keys live order : List ℕ) (number n : ℕ) (fw bw : Pass) (both : Bo
   along = take n order
 
   -- what the gathering of the key k asks holds
-  pub may-gather : (k r s : ℕ) → k < n → r ≡ place k along → s ≡ n - 1 - r → Gatherable fw bw live number r s
+  pub may-gather : (k r s : ℕ) → k < n → r ≡ placeIn k along → s ≡ n - 1 - r → Gatherable fw bw live number r s
   may-gather k r s h e d =
       subst (λ (x : ℕ). Gatherable fw bw live number r x) (sym (d ∙ ap (λ (x : ℕ). n - 1 - x) e))
-      (subst (λ (x : ℕ). Gatherable fw bw live number x (n - 1 - place k along)) (sym e)
+      (subst (λ (x : ℕ). Gatherable fw bw live number x (n - 1 - placeIn k along)) (sym e)
       (gatherable fw bw live number n (own keys) along (both .forward (own keys) agreed) (both .backward (own keys) agreed) (both .long)
       (both .sound .ordered .originals) (both .sound .few)
       (both .ready) (both .ready') (both .sound .ordered .distinct) (below keys live order number n (both .sound) (own keys) agreed)
@@ -165,8 +170,8 @@ module _ (keys live order : List ℕ) (number n : ℕ) (fw bw : Pass) (both : Bo
       agreed = agrees keys live order number n (both .sound)
 
   -- the gathering of the definition at the key k
-  abbrev wanted : (ℕ → List ℕ) → ℕ → lists.Gathered
-  wanted K k = gather n K N (full-pass n K N along) (full-pass n K N (reverse along)) (place k along) k
+  abbrev wanted : (ℕ → List ℕ) → ℕ → schedule.Gathered
+  wanted K k = gather n K N (full-pass n K N along) (full-pass n K N (reverse along)) (placeIn k along) k
 
   -- the first k gatherings are those of the definition
   pub record Planning (at : List Gathered) (k : ℕ) : Type 0 where
@@ -179,7 +184,7 @@ module _ (keys live order : List ℕ) (number n : ℕ) (fw bw : Pass) (both : Bo
   unfolding from
   start at l = record { here = omega arith; size = l; is = λ K ag. refl; held = λ i h. absurd (omega arith) }
 
-  got : (k r s : ℕ) (g : Gathered) (K : ℕ → List ℕ) → Agrees keys K → r ≡ place k along → s ≡ n - 1 - r → Gathers fw bw keys N r s k g → gatheredOf g
+  got : (k r s : ℕ) (g : Gathered) (K : ℕ → List ℕ) → Agrees keys K → r ≡ placeIn k along → s ≡ n - 1 - r → Gathers fw bw keys N r s k g → gatheredOf g
       ≡ wanted K k
   unfolding gather
   got k r s g K ag e d h =
@@ -188,16 +193,16 @@ module _ (keys live order : List ℕ) (number n : ℕ) (fw bw : Pass) (both : Bo
       (both .ready) (both .ready') (both .sound .ordered .distinct)
       (below keys live order number n (both .sound) K ag) (both .sound .ordered .each))
       ∙ ap₂ (λ (x y : ℕ). gatherAt n K N (messagesOf fw) (messagesOf bw) x y k) e (d ∙ ap (λ (x : ℕ). n - 1 - x) e)
-      ∙ ap₂ (λ (x y : List _). gatherAt n K N x y (place k along) (n - 1 - place k along) k) (both .forward K ag) (both .backward K ag)
+      ∙ ap₂ (λ (x y : List _). gatherAt n K N x y (placeIn k along) (n - 1 - placeIn k along) k) (both .forward K ag) (both .backward K ag)
 
-  pub more : (at : List Gathered) (k r s : ℕ) (g : Gathered) → Planning at k → k < n → r ≡ place k along → s ≡ n - 1 - r
+  pub more : (at : List Gathered) (k r s : ℕ) (g : Gathered) → Planning at k → k < n → r ≡ placeIn k along → s ≡ n - 1 - r
       → Gathers fw bw keys N r s k g → Held g → Planning (set at k g) (k + 1)
   more at k r s g t h e d q v = record {
     here = omega arith;
     size = length-set at k g ∙ t .size;
     is = λ K ag.
         ap (λ (m : ℕ). map gatheredOf (take m (set at k g))) (add-one k) ∙ ap (map gatheredOf) (take-suc-set at k g (omega (arith, t .size, both .sound .few)))
-        ∙ map-append gatheredOf (take k at) (g ∷ []) ∙ ap₂ (λ (x : List lists.Gathered) (y : lists.Gathered). x ++ (y ∷ [])) (t .is K ag)
+        ∙ map-append gatheredOf (take k at) (g ∷ []) ∙ ap₂ (λ (x : List schedule.Gathered) (y : schedule.Gathered). x ++ (y ∷ [])) (t .is K ag)
         (got k r s g K ag e d q)
         ∙ sym (ap (λ (m : ℕ). map (wanted K) (from 0 m)) (add-one k) ∙ ap (map (wanted K)) (from-snoc 0 k)
         ∙ map-append (wanted K) (from 0 k) ((0 + k) ∷ []) ∙ ap (λ (m : ℕ). map (wanted K) (from 0 k) ++ (wanted K m ∷ [])) (zero-add k));
@@ -211,11 +216,11 @@ module _ (keys live order : List ℕ) (number n : ℕ) (fw bw : Pass) (both : Bo
       holds i l (no q) = subst Held (sym (getD-set-other at k i g noGathered q)) (t .held i (omega arith))
 
   pub done : (at : List Gathered) (k : ℕ) → Planning at k → n ≤ k → Plans keys N along n (record { forward = fw; backward = bw; at = at })
-  unfolding planOf plan.plan
+  unfolding planIn plan.plan
   done at k t h K ag =
       let e : k ≡ n = omega (arith, t .here) in
       ap₂ (λ (x y : List _). record { forward = x; backward = y; at-key = map gatheredOf (take n at) }) (both .forward K ag) (both .backward K ag)
-      ∙ ap (λ (l : List lists.Gathered). record { forward = full-pass n K N along; backward = full-pass n K N (reverse along); at-key = l })
+      ∙ ap (λ (l : List schedule.Gathered). record { forward = full-pass n K N along; backward = full-pass n K N (reverse along); at-key = l })
       (subst (λ (m : ℕ). map gatheredOf (take m at) ≡ map (wanted K) (from 0 m)) e (t .is K ag))
 
   -- the arrays hold what their counts say

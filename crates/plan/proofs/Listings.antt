@@ -11,8 +11,8 @@ use Rattle.factor.specs.Limits.{max-variables, max-factors}
 use Rattle.schedule.specs.Pass.{Slot, original, closed}
 use Rattle.schedule.specs.Gather.{originalsIn, messagesIn}
 use Rattle.plan.specs.Limits.{pass-slots}
-use Rattle.plan.specs.Pass.{slotOf}
-use Rattle.plan.specs.Gather.{part, itemsOf, stackOf, Space, Visitable, Visited}
+use Rattle.plan.specs.Pass.{passSlot}
+use Rattle.plan.specs.Gather.{contentPart, itemsOf, stackOf, Space, Visitable, Visited}
 use Rattle.plan.specs.declared.gather.Listing.{Listing}
 use Rattle.plan.proofs.Begins.{reverse-on}
 use Rattle.plan.proofs.Prefixes.{drop-none}
@@ -61,18 +61,18 @@ items-length l s = length-take-le (l .count) (l .items) (omega (arith, s .items 
 pub stack-length : (l : Listing) → Space l → length (stackOf l) ≡ l .top
 stack-length l s = length-reverse (take (l .top) (l .stack)) ∙ length-take-le (l .top) (l .stack) (omega (arith, s .long, s .few))
 
-part-cons : (content : List ℕ) (i b : ℕ) → i < b → b ≤ length content → part i b content ≡ slotOf (getD content i 0) ∷ part (i + 1) b content
+part-cons : (content : List ℕ) (i b : ℕ) → i < b → b ≤ length content → contentPart i b content ≡ passSlot (getD content i 0) ∷ contentPart (i + 1) b content
 part-cons content i b h k =
-    ap (map slotOf) (drop-cons (take b content) i 0 (omega (arith, length-take-le b content k)))
-    ∙ ap₂ (λ (x n : ℕ). slotOf x ∷ part n b content) (getD-take b content i 0 h) (sym (add-one i))
+    ap (map passSlot) (drop-cons (take b content) i 0 (omega (arith, length-take-le b content k)))
+    ∙ ap₂ (λ (x n : ℕ). passSlot x ∷ contentPart n b content) (getD-take b content i 0 h) (sym (add-one i))
 
 module _ (content : List ℕ) (a b : ℕ) (l₀ : Listing) (v : Visitable content a b l₀) where
   pub record Visiting (l : Listing) (i : ℕ) : Type 0 where
     pub after : a ≤ i
     pub here : i ≤ b
     pub space : Space l
-    pub items : itemsOf l ++ originalsIn (part i b content) ≡ itemsOf l₀ ++ originalsIn (part a b content)
-    pub stack : reverseAux (messagesIn (part i b content)) (stackOf l) ≡ reverseAux (messagesIn (part a b content)) (stackOf l₀)
+    pub items : itemsOf l ++ originalsIn (contentPart i b content) ≡ itemsOf l₀ ++ originalsIn (contentPart a b content)
+    pub stack : reverseAux (messagesIn (contentPart i b content)) (stackOf l) ≡ reverseAux (messagesIn (contentPart a b content)) (stackOf l₀)
 
   pub start : Visiting l₀ a
   start = record { after = omega arith; here = v .ordered; space = v .space; items = refl; stack = refl }
@@ -84,12 +84,12 @@ module _ (content : List ℕ) (a b : ℕ) (l₀ : Listing) (v : Visitable conten
     low : x < pass-slots
     low = v .codes .low i h
 
-    cons : part i b content ≡ slotOf x ∷ part (i + 1) b content
+    cons : contentPart i b content ≡ passSlot x ∷ contentPart (i + 1) b content
     cons = part-cons content i b h (omega (arith, v .codes .few, v .codes .long))
 
     module _ (k : x < max-factors) where
-      cons-orig : part i b content ≡ original x ∷ part (i + 1) b content
-      cons-orig = cons ∙ ap (λ (s : Slot). s ∷ part (i + 1) b content) (slot-low x k)
+      cons-orig : contentPart i b content ≡ original x ∷ contentPart (i + 1) b content
+      cons-orig = cons ∙ ap (λ (s : Slot). s ∷ contentPart (i + 1) b content) (slot-low x k)
 
       pub orig-room : l .count < max-factors
       orig-room =
@@ -97,8 +97,8 @@ module _ (content : List ℕ) (a b : ℕ) (l₀ : Listing) (v : Visitable conten
             arith,
             v .room,
             ap length (t .items),
-            length-append (itemsOf l) (originalsIn (part i b content)),
-            length-append (itemsOf l₀) (originalsIn (part a b content)),
+            length-append (itemsOf l) (originalsIn (contentPart i b content)),
+            length-append (itemsOf l₀) (originalsIn (contentPart a b content)),
             items-length l (t .space),
             items-length l₀ (v .space),
             ap (λ (s : List Slot). length (originalsIn s)) cons-orig,
@@ -110,14 +110,15 @@ module _ (content : List ℕ) (a b : ℕ) (l₀ : Listing) (v : Visitable conten
         here = omega arith;
         space = item-space l x (t .space) orig-room k;
         items =
-            ap (λ (r : List ℕ). r ++ originalsIn (part (i + 1) b content)) (item-items l x (t .space) orig-room)
-            ∙ append-snoc (itemsOf l) x (originalsIn (part (i + 1) b content)) ∙ ap (λ (s : List Slot). itemsOf l ++ originalsIn s) (sym cons-orig) ∙ t .items;
+            ap (λ (r : List ℕ). r ++ originalsIn (contentPart (i + 1) b content)) (item-items l x (t .space) orig-room)
+            ∙ append-snoc (itemsOf l) x (originalsIn (contentPart (i + 1) b content))
+            ∙ ap (λ (s : List Slot). itemsOf l ++ originalsIn s) (sym cons-orig) ∙ t .items;
         stack = ap (λ (s : List Slot). reverseAux (messagesIn s) (stackOf l)) (sym cons-orig) ∙ t .stack;
       }
 
     module _ (k : max-factors ≤ x) where
-      cons-msg : part i b content ≡ closed (x - max-factors) ∷ part (i + 1) b content
-      cons-msg = cons ∙ ap (λ (s : Slot). s ∷ part (i + 1) b content) (slot-high x k)
+      cons-msg : contentPart i b content ≡ closed (x - max-factors) ∷ contentPart (i + 1) b content
+      cons-msg = cons ∙ ap (λ (s : Slot). s ∷ contentPart (i + 1) b content) (slot-high x k)
 
       pub msg-room : l .top < max-variables
       msg-room =
@@ -125,8 +126,8 @@ module _ (content : List ℕ) (a b : ℕ) (l₀ : Listing) (v : Visitable conten
             arith,
             v .stack,
             ap length (t .stack),
-            length-reverseAux (messagesIn (part i b content)) (stackOf l),
-            length-reverseAux (messagesIn (part a b content)) (stackOf l₀),
+            length-reverseAux (messagesIn (contentPart i b content)) (stackOf l),
+            length-reverseAux (messagesIn (contentPart a b content)) (stackOf l₀),
             stack-length l (t .space),
             stack-length l₀ (v .space),
             ap (λ (s : List Slot). length (messagesIn s)) cons-msg,
@@ -139,12 +140,12 @@ module _ (content : List ℕ) (a b : ℕ) (l₀ : Listing) (v : Visitable conten
         space = message-space l (x - max-factors) (t .space) msg-room (omega (arith, low));
         items = ap (λ (s : List Slot). itemsOf l ++ originalsIn s) (sym cons-msg) ∙ t .items;
         stack =
-            ap (reverseAux (messagesIn (part (i + 1) b content))) (message-stack l (x - max-factors) (t .space) msg-room)
+            ap (reverseAux (messagesIn (contentPart (i + 1) b content))) (message-stack l (x - max-factors) (t .space) msg-room)
             ∙ ap (λ (s : List Slot). reverseAux (messagesIn s) (stackOf l)) (sym cons-msg) ∙ t .stack;
       }
 
-  none : (i : ℕ) → b ≤ i → part i b content ≡ []
-  none i h = ap (map slotOf) (drop-none i b content h)
+  none : (i : ℕ) → b ≤ i → contentPart i b content ≡ []
+  none i h = ap (map passSlot) (drop-none i b content h)
 
   pub done : (l : Listing) (i : ℕ) → Visiting l i → b ≤ i → Visited content a b l₀ l
   done l i t h = record {

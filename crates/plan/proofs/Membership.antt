@@ -10,7 +10,7 @@ use native.Mathlib.Omega.{arith}
 use borrow.Author.Tests.{lt-ltb}
 use lib.Dec.{T, eqb, ltb}
 use lib.ListN.{length}
-use Rattle.schedule.specs.Count.{bit, hit, count, mem, putIf, keep, any, joined, from, rising}
+use Rattle.schedule.specs.Count.{bit, hit, count, mem, putIf, keep, any, joined, from, risingWhere}
 use Rattle.schedule.specs.Pass.{keysIf}
 use Rattle.schedule.proofs.Counts.{sure, keep-yes, keep-no, rising-yes, rising-no}
 use Rattle.plan.proofs.Prefixes.{or-assoc}
@@ -64,10 +64,10 @@ mem-keep j p l = go (sure (p j))
     go (inl t) = ap (ltb 0) (keep-yes p j l t) ∙ ap (λ (b : Bool). b && mem j l) (sym (sure-true (p j) t))
     go (inr t) = ap (ltb 0) (keep-no p j l t) ∙ ap (λ (b : Bool). b && mem j l) (sym (sure-false (p j) t))
 
-pub mem-rising : (n : ℕ) (p : ℕ → Bool) (j : ℕ) → (T (p j) → j < n) → mem j (rising n p) ≡ p j
+pub mem-rising : (n : ℕ) (p : ℕ → Bool) (j : ℕ) → (T (p j) → j < n) → mem j (risingWhere n p) ≡ p j
 mem-rising n p j h = go (sure (p j))
   where
-    go : T (p j) ⊎ T (not (p j)) → mem j (rising n p) ≡ p j
+    go : T (p j) ⊎ T (not (p j)) → mem j (risingWhere n p) ≡ p j
     go (inl t) = ap (ltb 0) (rising-yes n p j (h t) t) ∙ sym (sure-true (p j) t)
     go (inr t) = ap (ltb 0) (rising-no n p j t) ∙ sym (sure-false (p j) t)
 
@@ -100,8 +100,8 @@ keep-same p q a zero h = refl
 keep-same p q a (suc n) h = ap₂ (λ (b : Bool) (l : List ℕ). putIf b a l) (h a (omega arith) (omega arith))
     (keep-same p q (suc a) n (λ j k l. h j (omega arith) (omega arith)))
 
-pub rising-same : (n : ℕ) (p q : ℕ → Bool) → ((j : ℕ) → j < n → p j ≡ q j) → rising n p ≡ rising n q
-unfolding rising
+pub rising-same : (n : ℕ) (p q : ℕ → Bool) → ((j : ℕ) → j < n → p j ≡ q j) → risingWhere n p ≡ risingWhere n q
+unfolding risingWhere
 rising-same n p q h = keep-same p q 0 n (λ j k l. h j (omega arith))
 
 from-append : (a m n : ℕ) → from a (m + n) ≡ from a m ++ from (a + m) n
@@ -116,8 +116,8 @@ keep-none p a zero h = refl
 keep-none p a (suc n) h = rw (h a (omega arith)) (keep-none p (suc a) n (λ x l. h x (omega arith)))
 
 -- no number from n on passes the test
-pub rising-on : (n m : ℕ) (p : ℕ → Bool) → n ≤ m → ((x : ℕ) → n ≤ x → p x ≡ false) → rising m p ≡ rising n p
-unfolding rising
+pub rising-on : (n m : ℕ) (p : ℕ → Bool) → n ≤ m → ((x : ℕ) → n ≤ x → p x ≡ false) → risingWhere m p ≡ risingWhere n p
+unfolding risingWhere
 rising-on n m p h f =
     let e : m ≡ n + (m - n) = omega arith in
     ap (λ (k : ℕ). keep p (from 0 k)) e ∙ ap (keep p) (from-append 0 n (m - n)) ∙ keep-append p (from 0 n) (from (0 + n) (m - n))
@@ -140,8 +140,8 @@ map-from {A} f g a (suc n) h = ap₂ (λ (x : A) (l : List A). x ∷ l) (h a (om
     (map-from f g (suc a) n (λ j k l. h j (omega arith) (omega arith)))
 
 -- the numbers below j come first
-pub rising-split : (j n : ℕ) (p : ℕ → Bool) → j ≤ n → rising n p ≡ rising j p ++ keep p (from j (n - j))
-unfolding rising
+pub rising-split : (j n : ℕ) (p : ℕ → Bool) → j ≤ n → risingWhere n p ≡ risingWhere j p ++ keep p (from j (n - j))
+unfolding risingWhere
 rising-split j n p h =
     let e : n ≡ j + (n - j) = omega arith in
     ap (λ (k : ℕ). keep p (from 0 k)) e ∙ ap (keep p) (from-append 0 j (n - j)) ∙ keep-append p (from 0 j) (from (0 + j) (n - j))

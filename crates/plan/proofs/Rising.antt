@@ -17,9 +17,9 @@ use Rattle.schedule.specs.Count.{count, In, from}
 use Rattle.schedule.proofs.Counts.{count-nil}
 use Rattle.schedule.proofs.Demand3.{from-once}
 use Rattle.plan.specs.Mask.{has}
-use Rattle.plan.specs.Factors.{keysOf, keysAt, Masked}
+use Rattle.plan.specs.Factors.{touchedKeys, keysAmong, Masked}
 use Rattle.plan.specs.Plan.{Ordered, Registered, Sound}
-use Rattle.factor.specs.Factor.{past}
+use Rattle.factor.specs.Factor.{absent}
 use Rattle.factor.specs.declared.Factor.{Factor}
 use Rattle.plan.proofs.Membership.{from-snoc}
 
@@ -80,11 +80,11 @@ module _ (factors : List Factor) (number n : ℕ) (reg : Registered factors numb
   low : (i j : ℕ) → T (has j (getD keys i 0)) → j < n
   low i j t = go (decLt i number)
     where
-      listed : In j (keysAt factors number i)
-      listed = ltb→lt 0 (count j (keysAt factors number i)) (subst T (masked i j) t)
+      listed : In j (keysAmong factors number i)
+      listed = ltb→lt 0 (count j (keysAmong factors number i)) (subst T (masked i j) t)
 
-      put : (b : Bool) → ltb i number ≡ b → In j (cond b (keysOf (getD factors i past)) [])
-      put b e = subst (λ (x : Bool). In j (cond x (keysOf (getD factors i past)) [])) e listed
+      put : (b : Bool) → ltb i number ≡ b → In j (cond b (touchedKeys (getD factors i absent)) [])
+      put b e = subst (λ (x : Bool). In j (cond x (touchedKeys (getD factors i absent)) [])) e listed
 
       go : Dec (i < number) → j < n
       go (yes h) = reg .below i h j (put true (lt-ltb i number h))

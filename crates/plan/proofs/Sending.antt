@@ -14,12 +14,12 @@ use lib.Dec.{T, not-T}
 use lib.ListN.{length, getD, take, drop, set, length-map, length-set, length-drop, List·getD-append, List·getD-eq-default, length-append}
 use lib.Seq.{getD-set-same, getD-set-other, take-set-le, drop-set-add, take-suc-set, take-take, getD-at}
 use Rattle.factor.specs.Limits.{max-variables, max-factors}
-use Rattle.schedule.specs.Count.{mem, any, joined, from, rising}
-use Rattle.schedule.specs.Pass.{Slot, original, closed, ClosedFactor, noMessage, at, State, keysOf, touches, Walked, walk, append}
+use Rattle.schedule.specs.Count.{mem, any, joined, from, risingWhere}
+use Rattle.schedule.specs.Pass.{Slot, original, closed, ClosedFactor, noMessage, at, State, slotKeys, touches, Walked, walk, append}
 use Rattle.schedule.proofs.Counts.{and-l}
 use Rattle.plan.specs.Limits.{pass-slots}
 use Rattle.plan.specs.Mask.{has, keysIn, Union}
-use Rattle.plan.specs.Pass.{pickSlot, slotOf, maskAt, slotsOf, walking, Walks, msgAt, messagesOf, Ready, Means, sent}
+use Rattle.plan.specs.Pass.{pickSlot, passSlot, maskAt, boardSlots, walking, Walks, msgAt, messagesOf, PassReady, Means, stateSent}
 use Rattle.plan.specs.declared.pass.Board.{Board}
 use Rattle.plan.specs.declared.pass.Pass.{Pass}
 use Rattle.plan.proofs.Digits.{has-and}
@@ -29,8 +29,8 @@ use Rattle.plan.proofs.Membership.{mem-joined, any-same, any-map, mem-r
 use Rattle.plan.proofs.Walking.{mask-at}
 use Rattle.plan.proofs.WalkTurns.{low-set}
 
-pub slot-msg : (c : ℕ) → slotOf (max-factors + c) ≡ closed c
-unfolding slotOf
+pub slot-msg : (c : ℕ) → passSlot (max-factors + c) ≡ closed c
+unfolding passSlot
 slot-msg c = ap (λ (b : Bool). pickSlot b (max-factors + c)) (le-ltb (max-factors + c) max-factors (omega arith)) ∙ ap closed (omega arith)
 
 pub messages-length : (p : Pass) → length (messagesOf p) ≡ p .count
@@ -42,9 +42,9 @@ unfolding keysIn
 keysIn-mem n m j f h = mem-rising max-variables (λ j. has j m) j (λ t. omega (arith, h t))
 
 -- the keys of a mask, by a test, all below n
-pub keysIn-is : (n m : ℕ) (p : ℕ → Bool) → n ≤ max-variables → ((j : ℕ) → T (has j m) → j < n) → ((j : ℕ) → has j m ≡ p j) → keysIn m ≡ rising n p
+pub keysIn-is : (n m : ℕ) (p : ℕ → Bool) → n ≤ max-variables → ((j : ℕ) → T (has j m) → j < n) → ((j : ℕ) → has j m ≡ p j) → keysIn m ≡ risingWhere n p
 unfolding keysIn
-keysIn-is n m p f h e = rising-on n max-variables (λ j. has j m) f none ∙ ap (rising n) (fun-ext e)
+keysIn-is n m p f h e = rising-on n max-variables (λ j. has j m) f none ∙ ap (risingWhere n) (fun-ext e)
   where
     none : (j : ℕ) → n ≤ j → has j m ≡ false
     none j l = sure-false (has j m) (not-T (has j m) (λ t. omega (arith, h j t)))
@@ -62,7 +62,7 @@ with-message p w ks cleared t = record {
   board = record { slots = set (w .slots) (w .used) (max-factors + p .count); used = w .used + 1; content = w .content; filled = w .filled };
 }
 
-module _ (p : Pass) (w : Board) (ks cleared t : ℕ) (ready : Ready t p) (low : t < max-variables) (split : Walks (p .masks) cleared (p .board) w) where
+module _ (p : Pass) (w : Board) (ks cleared t : ℕ) (ready : PassReady t p) (low : t < max-variables) (split : Walks (p .masks) cleared (p .board) w) where
   abbrev c : ℕ
   c = p .count
 
@@ -75,7 +75,7 @@ module _ (p : Pass) (w : Board) (ks cleared t : ℕ) (ready : Ready t p) (low : 
   space : w .used < pass-slots
   space = omega (arith, ready .few, ready .total, split .sum)
 
-  pub readied : Ready (t + 1) r
+  pub readied : PassReady (t + 1) r
   readied = record {
     room = record {
       active = record {
@@ -147,7 +147,7 @@ module _ (p : Pass) (w : Board) (ks cleared t : ℕ) (ready : Ready t p) (low : 
 
   new-msg : msgAt r c ≡ record {
     step = t;
-    content = map slotOf (drop (p .board .filled) (take (w .filled) (w .content)));
+    content = map passSlot (drop (p .board .filled) (take (w .filled) (w .content)));
     kept = keysIn
         (bitAnd (p .active) ks);
     cleared = keysIn cleared;
@@ -175,43 +175,43 @@ module _ (p : Pass) (w : Board) (ks cleared t : ℕ) (ready : Ready t p) (low : 
     ms = st .messages
 
     abbrev W : Walked
-    W = walk (λ s. touches (keysIn cleared) (keysOf K ms s)) (length (st .active)) (st .active)
+    W = walk (λ s. touches (keysIn cleared) (slotKeys K ms s)) (length (st .active)) (st .active)
 
     same-walk : walking (p .masks) cleared (p .board) ≡ W
     same-walk =
         ap₂ (λ (q : Slot → Bool) (l : List Slot). walk q (length l) l)
-        (fun-ext (λ s. meets-touches (maskAt (p .masks) s) cleared (keysOf K ms s) (keysIn cleared) (m .masks s)
+        (fun-ext (λ s. meets-touches (maskAt (p .masks) s) cleared (slotKeys K ms s) (keysIn cleared) (m .masks s)
         (λ j. sym (keysIn-mem n cleared j (m .few) (hb j)))))
         (m .slots)
 
-    content-is : map slotOf (drop (p .board .filled) (take (w .filled) (w .content))) ≡ W .taken
+    content-is : map passSlot (drop (p .board .filled) (take (w .filled) (w .content))) ≡ W .taken
     content-is =
-        map-drop slotOf (p .board .filled) (take (w .filled) (w .content)) ∙ ap (drop (p .board .filled)) (map-take slotOf (w .filled) (w .content))
+        map-drop passSlot (p .board .filled) (take (w .filled) (w .content)) ∙ ap (drop (p .board .filled)) (map-take passSlot (w .filled) (w .content))
         ∙ split .taken ∙ ap (λ (x : Walked). x .taken) same-walk
 
-    keys-are : (j : ℕ) → has j ks ≡ mem j (joined (keysOf K ms) (W .taken))
+    keys-are : (j : ℕ) → has j ks ≡ mem j (joined (slotKeys K ms) (W .taken))
     keys-are j =
         union j
-        ∙ any-same (λ x. has j (getD (p .masks) x 0)) (λ x. mem j (keysOf K ms (slotOf x))) (drop (p .board .filled) (take (w .filled) (w .content)))
-        (λ x. ap (has j) (sym (mask-at (p .masks) x)) ∙ m .masks (slotOf x) j)
-        ∙ sym (any-map (λ s. mem j (keysOf K ms s)) slotOf (drop (p .board .filled) (take (w .filled) (w .content))))
-        ∙ ap (any (λ s. mem j (keysOf K ms s))) content-is
-        ∙ sym (mem-joined j (keysOf K ms) (W .taken))
+        ∙ any-same (λ x. has j (getD (p .masks) x 0)) (λ x. mem j (slotKeys K ms (passSlot x))) (drop (p .board .filled) (take (w .filled) (w .content)))
+        (λ x. ap (has j) (sym (mask-at (p .masks) x)) ∙ m .masks (passSlot x) j)
+        ∙ sym (any-map (λ s. mem j (slotKeys K ms s)) passSlot (drop (p .board .filled) (take (w .filled) (w .content))))
+        ∙ ap (any (λ s. mem j (slotKeys K ms s))) content-is
+        ∙ sym (mem-joined j (slotKeys K ms) (W .taken))
 
-    kept-has : (j : ℕ) → has j (bitAnd (p .active) ks) ≡ mem j (st .active-keys) && mem j (joined (keysOf K ms) (W .taken))
+    kept-has : (j : ℕ) → has j (bitAnd (p .active) ks) ≡ mem j (st .active-keys) && mem j (joined (slotKeys K ms) (W .taken))
     kept-has j = has-and j (p .active) ks ∙ ap₂ (λ (x y : Bool). x && y) (m .keys j) (keys-are j)
 
     kept-below : (j : ℕ) → T (has j (bitAnd (p .active) ks)) → j < n
     kept-below j h = m .below j (and-l (has j (p .active)) (has j ks) (subst T (has-and j (p .active) ks) h))
 
-    kept-is : keysIn (bitAnd (p .active) ks) ≡ rising n (λ j. mem j (st .active-keys) && mem j (joined (keysOf K ms) (W .taken)))
-    kept-is = keysIn-is n (bitAnd (p .active) ks) (λ j. mem j (st .active-keys) && mem j (joined (keysOf K ms) (W .taken))) (m .few) kept-below kept-has
+    kept-is : keysIn (bitAnd (p .active) ks) ≡ risingWhere n (λ j. mem j (st .active-keys) && mem j (joined (slotKeys K ms) (W .taken)))
+    kept-is = keysIn-is n (bitAnd (p .active) ks) (λ j. mem j (st .active-keys) && mem j (joined (slotKeys K ms) (W .taken))) (m .few) kept-below kept-has
 
     abbrev new : ClosedFactor
     new = record {
       step = t;
       content = W .taken;
-      kept = rising n (λ j. mem j (st .active-keys) && mem j (joined (keysOf K ms) (W .taken)));
+      kept = risingWhere n (λ j. mem j (st .active-keys) && mem j (joined (slotKeys K ms) (W .taken)));
       cleared =
           keysIn cleared;
     }
@@ -234,8 +234,8 @@ module _ (p : Pass) (w : Board) (ks cleared t : ℕ) (ready : Ready t p) (low : 
             List·getD-eq-default (ms ++ (new ∷ [])) noMessage (omega (arith, length-append ms (new ∷ []), long))
             ∙ sym (List·getD-eq-default ms noMessage (omega (arith, long)))
 
-    masks-are : (s : Slot) (j : ℕ) → has j (maskAt (r .masks) s) ≡ mem j (keysOf K (ms ++ (new ∷ [])) s)
-    unfolding maskAt keysOf
+    masks-are : (s : Slot) (j : ℕ) → has j (maskAt (r .masks) s) ≡ mem j (slotKeys K (ms ++ (new ∷ [])) s)
+    unfolding maskAt slotKeys
     masks-are (original i) j =
         ap (λ (l : List ℕ). has j (getD l i 0)) (take-set-le max-factors (p .masks) (max-factors + c) (bitAnd (p .active) ks) (omega arith))
         ∙ m .masks (original i) j
@@ -248,15 +248,15 @@ module _ (p : Pass) (w : Board) (ks cleared t : ℕ) (ready : Ready t p) (low : 
             ∙ ap (mem j) kept-is ∙ ap (λ (x : ClosedFactor). mem j (x .kept)) (sym at-new) ∙ ap (λ (k : ℕ). mem j ((at (ms ++ (new ∷ [])) k) .kept)) (sym e)
         go (no e) = ap (has j) (old-mask i e) ∙ m .masks (closed i) j ∙ ap (λ (x : ClosedFactor). mem j (x .kept)) (sym (at-old i e))
 
-    slots-are : slotsOf (r .board) ≡ W .left ++ (closed (length ms) ∷ [])
+    slots-are : boardSlots (r .board) ≡ W .left ++ (closed (length ms) ∷ [])
     slots-are =
-        ap (λ (k : ℕ). take k (map slotOf (r .board .slots))) (add-one (w .used))
-        ∙ ap (take (suc (w .used))) (map-set slotOf (w .slots) (w .used) (max-factors + c))
-        ∙ take-suc-set (map slotOf (w .slots)) (w .used) (slotOf (max-factors + c))
-        (omega (arith, space, length-map (w .slots) slotOf, split .room .active .long))
+        ap (λ (k : ℕ). take k (map passSlot (r .board .slots))) (add-one (w .used))
+        ∙ ap (take (suc (w .used))) (map-set passSlot (w .slots) (w .used) (max-factors + c))
+        ∙ take-suc-set (map passSlot (w .slots)) (w .used) (passSlot (max-factors + c))
+        (omega (arith, space, length-map (w .slots) passSlot, split .room .active .long))
         ∙ ap₂ (λ (x : List Slot) (s : Slot). x ++ (s ∷ [])) (split .left ∙ ap (λ (x : Walked). x .left) same-walk) (slot-msg c ∙ ap closed (sym long))
 
-    pub sends : Means n K r (sent n K t st (st .active-keys) (keysIn cleared))
+    pub sends : Means n K r (stateSent n K t st (st .active-keys) (keysIn cleared))
     unfolding append
     sends = record {
       few = m .few;

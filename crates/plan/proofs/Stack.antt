@@ -15,8 +15,8 @@ use Rattle.schedule.proofs.Sums.{joined-append}
 use Rattle.schedule.specs.Messages.{Older, collected, heavy}
 use Rattle.schedule.proofs.Trees.{all-eq, heavy-step, heavy-length, stack-all}
 use Rattle.schedule.proofs.Runs.{leafH}
-use Rattle.plan.specs.Pass.{msgAt, messagesOf, Ready}
-use Rattle.plan.specs.Gather.{part, itemsOf, stackOf, Space, Visitable, Visited, Forest, Openable, Opened}
+use Rattle.plan.specs.Pass.{msgAt, messagesOf, PassReady}
+use Rattle.plan.specs.Gather.{contentPart, itemsOf, stackOf, Space, Visitable, Visited, Forest, Openable, Opened}
 use Rattle.plan.specs.declared.pass.Pass.{Pass}
 use Rattle.plan.specs.declared.gather.Listing.{Listing}
 use Rattle.plan.proofs.Begins.{reverse-take}
@@ -37,7 +37,7 @@ leaves-all : (ms : List ClosedFactor) → Older ms → (j : ℕ) → heavy ms (j
 unfolding leaves under
 leaves-all ms old j h = stack-all leafH ms old (length ms) (j ∷ []) h
 
-module _ (p : Pass) (ready : Ready max-variables p) (forest : Forest p) where
+module _ (p : Pass) (ready : PassReady max-variables p) (forest : Forest p) where
   abbrev ms : List ClosedFactor
   ms = messagesOf p
 
@@ -104,7 +104,7 @@ module _ (p : Pass) (ready : Ready max-variables p) (forest : Forest p) where
     here = t .low m (omega (arith, ap (count m) stack-is, count-cons m m (stackOf (popped l)), Rattle.schedule.proofs.Counts.hit-same m))
 
     abbrev c : List Slot
-    c = part (getD (p .starts) m 0) (getD (p .ends) m 0) (p .board .content)
+    c = contentPart (getD (p .starts) m 0) (getD (p .ends) m 0) (p .board .content)
 
     content-is : (at ms m) .content ≡ c
     unfolding msgAt

@@ -10,11 +10,11 @@ use lib.Bits.{bitAnd, bitOr, bitXor}
 use lib.Dec.{T, eqb, eqb→eq}
 use lib.ListN.{getD, take}
 use Rattle.factor.specs.Limits.{max-variables}
-use Rattle.schedule.specs.Count.{mem, any, keep, from, rising}
-use Rattle.schedule.specs.Pass.{ClosedFactor, State, keysOf, outside, keysIf, coupled, stays, append, sending, closing, step}
+use Rattle.schedule.specs.Count.{mem, any, keep, from, risingWhere}
+use Rattle.schedule.specs.Pass.{ClosedFactor, State, slotKeys, outside, keysIf, coupled, stays, append, sending, closing, step}
 use Rattle.schedule.proofs.Counts.{and-l, and-r, or-e}
 use Rattle.plan.specs.Mask.{has, keysIn, strays}
-use Rattle.plan.specs.Pass.{slotOf, maskAt, Coupled, msgAt, messagesOf, Ready, Means, sent, Sends}
+use Rattle.plan.specs.Pass.{passSlot, maskAt, Coupled, msgAt, messagesOf, PassReady, Means, stateSent, Sends}
 use Rattle.plan.specs.declared.pass.Pass.{Pass}
 use Rattle.plan.proofs.Digits.{differs, has-and, has-or, has-xor, has-zero, has-single, some-has}
 use Rattle.plan.proofs.Sets.{strays-outside}
@@ -35,11 +35,11 @@ keep-none p [] h = refl
 keep-none p (x ∷ l) h = rw (h x) (keep-none p l h)
 
 keysIn-zero : keysIn 0 ≡ []
-unfolding keysIn rising
+unfolding keysIn risingWhere
 keysIn-zero = keep-none (λ j. has j 0) (from 0 max-variables) has-zero
 
 -- a message is sent where a key is cleared
-sending-sent : (n : ℕ) (K : ℕ → List ℕ) (t : ℕ) (st : State) (ak v : List ℕ) → v ≢ [] → sending n K t st ak v ≡ sent n K t st ak v
+sending-sent : (n : ℕ) (K : ℕ → List ℕ) (t : ℕ) (st : State) (ak v : List ℕ) → v ≢ [] → sending n K t st ak v ≡ stateSent n K t st ak v
 unfolding sending
 sending-sent n K t st ak [] h = absurd (h refl)
 sending-sent n K t st ak (c ∷ cs) h = refl
@@ -95,15 +95,15 @@ module _ (p : Pass) (k t one cp : ℕ) (e : one ≡ 2 ^ k) where
     cp-has j =
         cps j
         ∙ any-same (λ x. strays active (getD (p .masks) x 0) && has j (getD (p .masks) x 0))
-        (λ x. mem j (keysIf (outside ak (keysOf K ms (slotOf x))) (keysOf K ms (slotOf x)))) (take (p .board .used) (p .board .slots))
+        (λ x. mem j (keysIf (outside ak (slotKeys K ms (passSlot x))) (slotKeys K ms (passSlot x)))) (take (p .board .used) (p .board .slots))
         (λ x.
         ap (λ (z : ℕ). strays active z && has j z) (sym (mask-at (p .masks) x))
-        ∙ ap₂ (λ (y z : Bool). y && z) (strays-outside (maskAt (p .masks) (slotOf x)) active (keysOf K ms (slotOf x)) ak (m .masks (slotOf x))
-        active-has) (m .masks (slotOf x) j)
-        ∙ sym (mem-if j (outside ak (keysOf K ms (slotOf x))) (keysOf K ms (slotOf x))))
-        ∙ sym (any-map (λ s. mem j (keysIf (outside ak (keysOf K ms s)) (keysOf K ms s))) slotOf (take (p .board .used) (p .board .slots)))
-        ∙ ap (any (λ s. mem j (keysIf (outside ak (keysOf K ms s)) (keysOf K ms s)))) (map-take slotOf (p .board .used) (p .board .slots) ∙ m .slots)
-        ∙ sym (mem-joined j (λ s. keysIf (outside ak (keysOf K ms s)) (keysOf K ms s)) (st .active))
+        ∙ ap₂ (λ (y z : Bool). y && z) (strays-outside (maskAt (p .masks) (passSlot x)) active (slotKeys K ms (passSlot x)) ak (m .masks (passSlot x))
+        active-has) (m .masks (passSlot x) j)
+        ∙ sym (mem-if j (outside ak (slotKeys K ms (passSlot x))) (slotKeys K ms (passSlot x))))
+        ∙ sym (any-map (λ s. mem j (keysIf (outside ak (slotKeys K ms s)) (slotKeys K ms s))) passSlot (take (p .board .used) (p .board .slots)))
+        ∙ ap (any (λ s. mem j (keysIf (outside ak (slotKeys K ms s)) (slotKeys K ms s)))) (map-take passSlot (p .board .used) (p .board .slots) ∙ m .slots)
+        ∙ sym (mem-joined j (λ s. keysIf (outside ak (slotKeys K ms s)) (slotKeys K ms s)) (st .active))
 
     stay-has : (j : ℕ) → has j (bitOr one cp) ≡ stays k cpl j
     stay-has j = has-or j one cp ∙ ap₂ (λ (x y : Bool). x || y) (one-has j) (cp-has j)
@@ -117,7 +117,7 @@ module _ (p : Pass) (k t one cp : ℕ) (e : one ≡ 2 ^ k) where
     cleared-below : (j : ℕ) → T (has j cleared) → j < n
     cleared-below j h = active-below j (subst T (sym (active-has j)) (and-l (mem j ak) (not (stays k cpl j)) (subst T (cleared-has j) h)))
 
-    cleared-is : keysIn cleared ≡ rising n (λ j. mem j ak && not (stays k cpl j))
+    cleared-is : keysIn cleared ≡ risingWhere n (λ j. mem j ak && not (stays k cpl j))
     cleared-is = keysIn-is n cleared (λ j. mem j ak && not (stays k cpl j)) (m .few) cleared-below cleared-has
 
     abbrev between : State
@@ -156,7 +156,7 @@ module _ (p : Pass) (k t one cp : ℕ) (e : one ≡ 2 ^ k) where
         (s n K between cleared-below middle)
 
 -- the bounds do not mention the active keys, and hold at any later step
-pub ready-later : (t u : ℕ) (p : Pass) (a : ℕ) → t ≤ u → Ready t p → Ready u (with-active p a)
+pub ready-later : (t u : ℕ) (p : Pass) (a : ℕ) → t ≤ u → PassReady t p → PassReady u (with-active p a)
 ready-later t u p a l h = record {
   room = h .room;
   total = h .total;

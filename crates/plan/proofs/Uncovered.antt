@@ -10,12 +10,12 @@ use lib.Bits.{bitAnd}
 use lib.ListN.{length, getD, take, drop, length-append}
 use lib.Seq.{drop-cons, getD-take, length-take-le, append-snoc}
 use Rattle.factor.specs.Limits.{max-variables, max-factors}
-use Rattle.schedule.specs.Count.{mem, putIf, keep, from, joined, rising}
+use Rattle.schedule.specs.Count.{mem, putIf, keep, from, joined, risingWhere}
 use Rattle.schedule.specs.Gather.{leaves}
 use Rattle.schedule.proofs.Sums.{joined-append}
 use Rattle.plan.specs.Mask.{has, keysIn, Set}
 use Rattle.plan.specs.Pass.{messagesOf, Live}
-use Rattle.plan.specs.Gather.{itemsOf, Space, others, Coverable, Covered, Openable, Opened, Listable, Listed}
+use Rattle.plan.specs.Gather.{itemsOf, Space, others, Coverable, OthersListed, Openable, Opened, Listable, SetListed}
 use Rattle.plan.specs.declared.pass.Pass.{Pass}
 use Rattle.plan.specs.declared.gather.Listing.{Listing}
 use Rattle.plan.proofs.Prefixes.{drop-none}
@@ -83,7 +83,7 @@ module _ (live : List ℕ) (count : ℕ) (l₀ : Listing) (long : length live �
           ∙ t .items;
     }
 
-  pub done : (l : Listing) (i : ℕ) → Covering l i → count ≤ i → Covered live count l₀ l
+  pub done : (l : Listing) (i : ℕ) → Covering l i → count ≤ i → OthersListed live count l₀ l
   done l i t h = record {
     space = t .space;
     items = all;
@@ -96,7 +96,7 @@ module _ (live : List ℕ) (count : ℕ) (l₀ : Listing) (long : length live �
 -- ---- the leaves under the messages of a set
 module _ (p : Pass) (set : ℕ) (l₀ : Listing) (few : p .count ≤ max-variables) (ls : Listable p set l₀) (space₀ : Space l₀) where
   abbrev under : ℕ → List ℕ
-  under j = joined (leaves (messagesOf p)) (rising j (λ k. has k set))
+  under j = joined (leaves (messagesOf p)) (risingWhere j (λ k. has k set))
 
   pub record Leaving (l : Listing) (j : ℕ) : Type 0 where
     pub here : j ≤ p .count
@@ -111,7 +111,7 @@ module _ (p : Pass) (set : ℕ) (l₀ : Listing) (few : p .count ≤ max-variabl
         ∙ ap (λ (r : List ℕ). itemsOf l₀ ++ r) (sym (joined-zero (leaves (messagesOf p)) (λ k. has k set)));
   }
 
-  all-is : keysIn set ≡ rising (p .count) (λ k. has k set)
+  all-is : keysIn set ≡ risingWhere (p .count) (λ k. has k set)
   all-is = keysIn-below (p .count) set few (ls .low)
 
   module _ (l : Listing) (j s : ℕ) (t : Leaving l j) (h : j < p .count) (e : s ≡ 2 ^ j) where
@@ -123,7 +123,7 @@ module _ (p : Pass) (set : ℕ) (l₀ : Listing) (few : p .count ≤ max-variabl
           (keep (λ k. has k set) (from (j + 1) (p .count - (j + 1))))
       split =
           ap (joined (leaves (messagesOf p))) (all-is ∙ rising-split (j + 1) (p .count) (λ k. has k set) (omega arith))
-          ∙ joined-append (leaves (messagesOf p)) (rising (j + 1) (λ k. has k set)) (keep (λ k. has k set) (from (j + 1) (p .count - (j + 1))))
+          ∙ joined-append (leaves (messagesOf p)) (risingWhere (j + 1) (λ k. has k set)) (keep (λ k. has k set) (from (j + 1) (p .count - (j + 1))))
 
       pub openable : Openable p j l
       openable = record {
@@ -159,7 +159,7 @@ module _ (p : Pass) (set : ℕ) (l₀ : Listing) (few : p .count ≤ max-variabl
       items = t .items ∙ ap (λ (x : List ℕ). itemsOf l₀ ++ x) (sym (joined-off (leaves (messagesOf p)) (λ k. has k set) j (off-set set j s e z)));
     }
 
-  pub end : (l : Listing) (j : ℕ) → Leaving l j → p .count ≤ j → Listed p set l₀ l
+  pub end : (l : Listing) (j : ℕ) → Leaving l j → p .count ≤ j → SetListed p set l₀ l
   end l j t h = record {
     space = t .space;
     items = t .items ∙ ap (λ (n : ℕ). itemsOf l₀ ++ under n) {y = p .count} (omega (arith, t .here))

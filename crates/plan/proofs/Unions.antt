@@ -13,15 +13,15 @@ use lib.Dec.{T, eqb, eqb→eq, eqb-refl, not-T}
 use lib.ListN.{length, getD, take, drop}
 use lib.Seq.{take-suc, getD-drop}
 use Rattle.factor.specs.Limits.{max-variables, max-factors}
-use Rattle.schedule.specs.Count.{mem, any, putIf, keep, from, joined, rising}
+use Rattle.schedule.specs.Count.{mem, any, putIf, keep, from, joined, risingWhere}
 use Rattle.schedule.specs.Pass.{Slot, original, closed, ClosedFactor, noMessage, at}
 use Rattle.schedule.specs.Gather.{messagesIn}
 use Rattle.schedule.proofs.Counts.{and-i, and-l, and-r}
 use Rattle.schedule.proofs.Runs.{msgs-append}
 use Rattle.schedule.proofs.Sums.{joined-append}
 use Rattle.plan.specs.Mask.{has, keysIn, Union, Set}
-use Rattle.plan.specs.Pass.{pickSlot, slotOf, msgAt, messagesOf}
-use Rattle.plan.specs.Gather.{part}
+use Rattle.plan.specs.Pass.{pickSlot, passSlot, msgAt, messagesOf}
+use Rattle.plan.specs.Gather.{contentPart}
 use Rattle.plan.specs.declared.pass.Pass.{Pass}
 use Rattle.plan.proofs.Digits.{has-and, has-or, has-zero, has-single, some-has}
 use Rattle.plan.proofs.Prefixes.{or-false, any-part, part-snoc, drop-none, map-append}
@@ -55,39 +55,41 @@ set-take l i r s h inv e =
     (set-append (take i l) (getD l i 0 ∷ []) r s inv (set-one (getD l i 0) s e))
 
 -- ---- a slot by its number
-pub slot-low : (x : ℕ) → x < max-factors → slotOf x ≡ original x
-unfolding slotOf
+pub slot-low : (x : ℕ) → x < max-factors → passSlot x ≡ original x
+unfolding passSlot
 slot-low x h = ap (λ (b : Bool). pickSlot b x) (lt-ltb x max-factors h)
 
-pub slot-high : (x : ℕ) → max-factors ≤ x → slotOf x ≡ closed (x - max-factors)
-unfolding slotOf
+pub slot-high : (x : ℕ) → max-factors ≤ x → passSlot x ≡ closed (x - max-factors)
+unfolding passSlot
 slot-high x h = ap (λ (b : Bool). pickSlot b x) (le-ltb x max-factors h)
 
-part-more : (content : List ℕ) (a i : ℕ) → a ≤ i → i < length content → part a (i + 1) content ≡ part a i content ++ (slotOf (getD content i 0) ∷ [])
+part-more : (content : List ℕ) (a i : ℕ) → a ≤ i → i < length content → contentPart a (i + 1) content
+    ≡ contentPart a i content ++ (passSlot (getD content i 0) ∷ [])
 part-more content a i h l =
-    ap (λ (n : ℕ). part a n content) (add-one i) ∙ ap (map slotOf) (part-snoc content a i 0 h l)
-    ∙ map-append slotOf (drop a (take i content)) (getD content i 0 ∷ [])
+    ap (λ (n : ℕ). contentPart a n content) (add-one i) ∙ ap (map passSlot) (part-snoc content a i 0 h l)
+    ∙ map-append passSlot (drop a (take i content)) (getD content i 0 ∷ [])
 
 -- the messages among the slots
-module _ (content : List ℕ) (a i r : ℕ) (h : a ≤ i) (l : i < length content) (inv : Set (messagesIn (part a i content)) r) where
+module _ (content : List ℕ) (a i r : ℕ) (h : a ≤ i) (l : i < length content) (inv : Set (messagesIn (contentPart a i content)) r) where
   abbrev x : ℕ
   x = getD content i 0
 
-  messages : messagesIn (part a (i + 1) content) ≡ messagesIn (part a i content) ++ messagesIn (slotOf x ∷ [])
-  messages = ap messagesIn (part-more content a i h l) ∙ msgs-append (part a i content) (slotOf x ∷ [])
+  messages : messagesIn (contentPart a (i + 1) content) ≡ messagesIn (contentPart a i content) ++ messagesIn (passSlot x ∷ [])
+  messages = ap messagesIn (part-more content a i h l) ∙ msgs-append (contentPart a i content) (passSlot x ∷ [])
 
-  pub inner-msg : (s : ℕ) → max-factors ≤ x → s ≡ 2 ^ (x - max-factors) → Set (messagesIn (part a (i + 1) content)) (bitOr r s)
+  pub inner-msg : (s : ℕ) → max-factors ≤ x → s ≡ 2 ^ (x - max-factors) → Set (messagesIn (contentPart a (i + 1) content)) (bitOr r s)
   inner-msg s k e =
-      subst (λ (t : List ℕ). Set t (bitOr r s)) (sym (messages ∙ ap (λ (t : Slot). messagesIn (part a i content) ++ messagesIn (t ∷ [])) (slot-high x k)))
-      (set-append (messagesIn (part a i content)) ((x - max-factors) ∷ []) r s inv (set-one (x - max-factors) s e))
+      subst (λ (t : List ℕ). Set t (bitOr r s)) (sym (messages ∙ ap (λ (t : Slot). messagesIn (contentPart a i content) ++ messagesIn (t ∷ []))
+      (slot-high x k)))
+      (set-append (messagesIn (contentPart a i content)) ((x - max-factors) ∷ []) r s inv (set-one (x - max-factors) s e))
 
-  pub inner-orig : x < max-factors → Set (messagesIn (part a (i + 1) content)) r
+  pub inner-orig : x < max-factors → Set (messagesIn (contentPart a (i + 1) content)) r
   inner-orig k =
-      subst (λ (t : List ℕ). Set t r) (sym (messages ∙ ap (λ (t : Slot). messagesIn (part a i content) ++ messagesIn (t ∷ [])) (slot-low x k)
-      ∙ append-nil (messagesIn (part a i content)))) inv
+      subst (λ (t : List ℕ). Set t r) (sym (messages ∙ ap (λ (t : Slot). messagesIn (contentPart a i content) ++ messagesIn (t ∷ [])) (slot-low x k)
+      ∙ append-nil (messagesIn (contentPart a i content)))) inv
 
-pub inner-none : (content : List ℕ) (a : ℕ) → Set (messagesIn (part a a content)) 0
-inner-none content a = subst (λ (l : List ℕ). Set (messagesIn (map slotOf l)) 0) (sym (drop-none a a content (omega arith))) set-none
+pub inner-none : (content : List ℕ) (a : ℕ) → Set (messagesIn (contentPart a a content)) 0
+inner-none content a = subst (λ (l : List ℕ). Set (messagesIn (map passSlot l)) 0) (sym (drop-none a a content (omega arith))) set-none
 
 -- ---- a loop over the numbers of a set
 pub in-set : (set j s : ℕ) → s ≡ 2 ^ j → (bitAnd set s ≡ 0 → ⊥) → has j set ≡ true
@@ -112,14 +114,14 @@ keep-one : (p : ℕ → Bool) (j : ℕ) → keep p (j ∷ []) ≡ putIf (p j) j 
 unfolding keep
 keep-one p j = refl
 
-pub rising-more : (p : ℕ → Bool) (j : ℕ) → rising (j + 1) p ≡ rising j p ++ putIf (p j) j []
-unfolding rising
+pub rising-more : (p : ℕ → Bool) (j : ℕ) → risingWhere (j + 1) p ≡ risingWhere j p ++ putIf (p j) j []
+unfolding risingWhere
 rising-more p j =
     ap (λ (n : ℕ). keep p (from 0 n)) (add-one j) ∙ ap (keep p) (from-snoc 0 j) ∙ keep-append p (from 0 j) ((0 + j) ∷ [])
     ∙ ap (λ (n : ℕ). keep p (from 0 j) ++ keep p (n ∷ [])) (zero-add j) ∙ ap (λ (l : List ℕ). keep p (from 0 j) ++ l) (keep-one p j)
 
-pub rising-zero : (p : ℕ → Bool) → rising 0 p ≡ []
-unfolding rising from keep
+pub rising-zero : (p : ℕ → Bool) → risingWhere 0 p ≡ []
+unfolding risingWhere from keep
 rising-zero p = refl
 
 -- the message i of a pass
@@ -146,19 +148,19 @@ unfolding joined
 joined-nil g = refl
 
 -- one more number, in the set or not
-pub joined-in : (g : ℕ → List ℕ) (p : ℕ → Bool) (j : ℕ) → p j ≡ true → joined g (rising (j + 1) p) ≡ joined g (rising j p) ++ g j
+pub joined-in : (g : ℕ → List ℕ) (p : ℕ → Bool) (j : ℕ) → p j ≡ true → joined g (risingWhere (j + 1) p) ≡ joined g (risingWhere j p) ++ g j
 joined-in g p j e =
-    ap (joined g) (rising-more p j ∙ ap (λ (b : Bool). rising j p ++ putIf b j []) e) ∙ joined-append g (rising j p) (j ∷ [])
-    ∙ ap (λ (l : List ℕ). joined g (rising j p) ++ l) (joined-one g j ∙ append-nil (g j))
+    ap (joined g) (rising-more p j ∙ ap (λ (b : Bool). risingWhere j p ++ putIf b j []) e) ∙ joined-append g (risingWhere j p) (j ∷ [])
+    ∙ ap (λ (l : List ℕ). joined g (risingWhere j p) ++ l) (joined-one g j ∙ append-nil (g j))
 
-pub joined-off : (g : ℕ → List ℕ) (p : ℕ → Bool) (j : ℕ) → p j ≡ false → joined g (rising (j + 1) p) ≡ joined g (rising j p)
-joined-off g p j e = ap (joined g) (rising-more p j ∙ ap (λ (b : Bool). rising j p ++ putIf b j []) e ∙ append-nil (rising j p))
+pub joined-off : (g : ℕ → List ℕ) (p : ℕ → Bool) (j : ℕ) → p j ≡ false → joined g (risingWhere (j + 1) p) ≡ joined g (risingWhere j p)
+joined-off g p j e = ap (joined g) (rising-more p j ∙ ap (λ (b : Bool). risingWhere j p ++ putIf b j []) e ∙ append-nil (risingWhere j p))
 
-pub joined-zero : (g : ℕ → List ℕ) (p : ℕ → Bool) → joined g (rising 0 p) ≡ []
+pub joined-zero : (g : ℕ → List ℕ) (p : ℕ → Bool) → joined g (risingWhere 0 p) ≡ []
 joined-zero g p = ap (joined g) (rising-zero p) ∙ joined-nil g
 
 -- the numbers of a set that are all below n
-pub keysIn-below : (n set : ℕ) → n ≤ max-variables → ((j : ℕ) → T (has j set) → j < n) → keysIn set ≡ rising n (λ j. has j set)
+pub keysIn-below : (n set : ℕ) → n ≤ max-variables → ((j : ℕ) → T (has j set) → j < n) → keysIn set ≡ risingWhere n (λ j. has j set)
 unfolding keysIn
 keysIn-below n set f h = rising-on n max-variables (λ j. has j set) f (λ j l. sure-false (has j set) (not-T (has j set) (λ t. omega (arith, h j t))))
 
@@ -171,7 +173,7 @@ unfolding keysIn
 low-mem m i h = sym (mem-rising max-variables (λ j. has j m) i (λ t. h))
 
 abbrev pub KeptTo : Pass → ℕ → ℕ → ℕ → Type 0
-KeptTo p set j r = (i : ℕ) → i < max-variables → has i r ≡ mem i (joined (keptAt p) (rising j (λ k. has k set)))
+KeptTo p set j r = (i : ℕ) → i < max-variables → has i r ≡ mem i (joined (keptAt p) (risingWhere j (λ k. has k set)))
 
 pub kept-none : (p : Pass) (set : ℕ) → KeptTo p set 0 0
 kept-none p set i h = has-zero i ∙ sym (mem-nil i) ∙ ap (mem i) (sym (joined-zero (keptAt p) (λ k. has k set)))
@@ -181,7 +183,7 @@ pub kept-in : (p : Pass) (set j r : ℕ) → j < p .count → has j set ≡ true
 kept-in p set j r h e inv i l =
     has-or i r (getD (p .masks) (max-factors + j) 0)
     ∙ ap₂ (λ (x y : Bool). x || y) (inv i l) (low-mem (getD (p .masks) (max-factors + j) 0) i l ∙ ap (mem i) (sym (kept-mask p j h)))
-    ∙ sym (mem-append i (joined (keptAt p) (rising j (λ k. has k set))) (keptAt p j))
+    ∙ sym (mem-append i (joined (keptAt p) (risingWhere j (λ k. has k set))) (keptAt p j))
     ∙ ap (mem i) (sym (joined-in (keptAt p) (λ k. has k set) j e))
 
 pub kept-off : (p : Pass) (set j r : ℕ) → has j set ≡ false → KeptTo p set j r → KeptTo p set (j + 1) r

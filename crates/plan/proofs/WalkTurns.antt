@@ -16,7 +16,7 @@ use Rattle.schedule.specs.Pass.{Slot, Walked, walk}
 use Rattle.schedule.proofs.Walks.{ahead}
 use Rattle.plan.specs.Limits.{pass-slots}
 use Rattle.plan.specs.Mask.{meets}
-use Rattle.plan.specs.Pass.{slotOf, maskAt, Room, walking, Walks}
+use Rattle.plan.specs.Pass.{passSlot, maskAt, BoardRoom, walking, Walks}
 use Rattle.plan.specs.declared.pass.Board.{Board}
 use Rattle.plan.proofs.Prefixes.{map-set, drop-none}
 use Rattle.plan.proofs.Walking.{state, take-turn, keep-turn, mask-at}
@@ -35,16 +35,16 @@ module _ (masks : List ℕ) (cleared : ℕ) where
 
   pub record Turned (b₀ b : Board) (i : ℕ) : Type 0 where
     pub here : i ≤ b .used
-    pub whole : state passes (map slotOf (b .slots)) (map slotOf (b .content)) i (b .used) (b .filled) (b₀ .filled) ≡ walking masks cleared b₀
+    pub whole : state passes (map passSlot (b .slots)) (map passSlot (b .content)) i (b .used) (b .filled) (b₀ .filled) ≡ walking masks cleared b₀
     pub before : take (b₀ .filled) (b .content) ≡ take (b₀ .filled) (b₀ .content)
     pub more : b₀ .filled ≤ b .filled
     pub sum : b .used + b .filled ≡ b₀ .used + b₀ .filled
-    pub room : Room b
+    pub room : BoardRoom b
 
-  pub start : (b : Board) → Room b → Turned b b 0
+  pub start : (b : Board) → BoardRoom b → Turned b b 0
   start b r = record {
     here = omega arith;
-    whole = ap (λ (t : List Slot). ahead t [] (walking masks cleared b)) (drop-none (b .filled) (b .filled) (map slotOf (b .content)) (omega arith));
+    whole = ap (λ (t : List Slot). ahead t [] (walking masks cleared b)) (drop-none (b .filled) (b .filled) (map passSlot (b .content)) (omega arith));
     before = refl;
     more = omega arith;
     sum = refl;
@@ -59,8 +59,8 @@ module _ (masks : List ℕ) (cleared : ℕ) where
     filled = b .filled + 1;
   }
 
-  test-at : (l : List ℕ) (i : ℕ) → passes (getD (map slotOf l) i (slotOf 0)) ≡ meets cleared (getD masks (getD l i 0) 0)
-  test-at l i = ap passes (List·getD-map slotOf l i 0) ∙ ap (meets cleared) (mask-at masks (getD l i 0))
+  test-at : (l : List ℕ) (i : ℕ) → passes (getD (map passSlot l) i (passSlot 0)) ≡ meets cleared (getD masks (getD l i 0) 0)
+  test-at l i = ap passes (List·getD-map passSlot l i 0) ∙ ap (meets cleared) (mask-at masks (getD l i 0))
 
   module _ (b₀ b : Board) (i : ℕ) (t : Turned b₀ b i) (h : i < b .used) where
     abbrev m : ℕ
@@ -68,25 +68,26 @@ module _ (masks : List ℕ) (cleared : ℕ) where
 
     pub taken : (bitAnd m cleared ≡ 0 → ⊥) → Turned b₀ (moved b i) i
     taken n =
-        let S = map slotOf (b .slots) in
-        let C = map slotOf (b .content) in
+        let S = map passSlot (b .slots) in
+        let C = map passSlot (b .content) in
         let u = b .used - 1 in
         let f = b .filled in
         let room = t .room in
         let e : b .used ≡ suc u = omega arith in
-        let ls : length S ≡ pass-slots = length-map (b .slots) slotOf ∙ t .room .active .long in
-        let lc : length C ≡ pass-slots = length-map (b .content) slotOf ∙ t .room .contents .long in
+        let ls : length S ≡ pass-slots = length-map (b .slots) passSlot ∙ t .room .active .long in
+        let lc : length C ≡ pass-slots = length-map (b .content) passSlot ∙ t .room .contents .long in
         record {
           here = omega arith;
           whole =
               sym
               (ap (λ (n : ℕ). state passes S C i n f (b₀ .filled)) e
-              ∙ take-turn passes S C i f (b₀ .filled) (slotOf 0) u (omega arith) (omega (arith, t .room .active .few)) (omega (arith, t .room .room)) (t .more)
+              ∙ take-turn passes S C i f (b₀ .filled) (passSlot 0) u (omega arith) (omega (arith, t .room .active .few))
+              (omega (arith, t .room .room)) (t .more)
               (test-at (b .slots) i ∙ ap not (ne-eqb (bitAnd m cleared) 0 n))
               ∙ ap₂ (λ (x y : List Slot). state passes x y i u (suc f) (b₀ .filled))
-              (ap (set S i) (List·getD-map slotOf (b .slots) u 0) ∙ sym (map-set slotOf (b .slots) i (getD (b .slots) u 0)))
-              (ap (set C f) (List·getD-map slotOf (b .slots) i 0) ∙ sym (map-set slotOf (b .content) f (getD (b .slots) i 0)))
-              ∙ ap (λ (n : ℕ). state passes (map slotOf (moved b i .slots)) (map slotOf (moved b i .content)) i u n (b₀ .filled)) (sym (add-one f)))
+              (ap (set S i) (List·getD-map passSlot (b .slots) u 0) ∙ sym (map-set passSlot (b .slots) i (getD (b .slots) u 0)))
+              (ap (set C f) (List·getD-map passSlot (b .slots) i 0) ∙ sym (map-set passSlot (b .content) f (getD (b .slots) i 0)))
+              ∙ ap (λ (n : ℕ). state passes (map passSlot (moved b i .slots)) (map passSlot (moved b i .content)) i u n (b₀ .filled)) (sym (add-one f)))
               ∙ t .whole;
           before = take-set-le (b₀ .filled) (b .content) f (getD (b .slots) i 0) (t .more) ∙ t .before;
           more = omega (arith, t .more);
@@ -110,15 +111,15 @@ module _ (masks : List ℕ) (cleared : ℕ) where
 
     pub kept : bitAnd m cleared ≡ 0 → Turned b₀ b (i + 1)
     kept n =
-        let S = map slotOf (b .slots) in
-        let C = map slotOf (b .content) in
+        let S = map passSlot (b .slots) in
+        let C = map passSlot (b .content) in
         record {
           here = omega arith;
           whole =
               ap (λ (n : ℕ). state passes S C n (b .used) (b .filled) (b₀ .filled)) (add-one i)
               ∙ sym
-              (keep-turn passes S C i (b .filled) (b₀ .filled) (slotOf 0) (b .used) h
-              (omega (arith, t .room .active .few, length-map (b .slots) slotOf, t .room .active .long))
+              (keep-turn passes S C i (b .filled) (b₀ .filled) (passSlot 0) (b .used) h
+              (omega (arith, t .room .active .few, length-map (b .slots) passSlot, t .room .active .long))
               (test-at (b .slots) i ∙ ap not (eq-eqb (bitAnd m cleared) 0 n)))
               ∙ t .whole;
           before = t .before;
@@ -131,8 +132,8 @@ module _ (masks : List ℕ) (cleared : ℕ) where
   pub done : (b₀ b : Board) (i : ℕ) → Turned b₀ b i → b .used ≤ i → Walks masks cleared b₀ b
   unfolding walk
   done b₀ b i t h =
-      let S = map slotOf (b .slots) in
-      let C = map slotOf (b .content) in
+      let S = map passSlot (b .slots) in
+      let C = map passSlot (b .content) in
       let e : i ≡ b .used = omega (arith, t .here) in
       let w : walking masks cleared b₀ ≡ ahead (drop (b₀ .filled) (take (b .filled) C)) (take (b .used) S) (record { taken = []; left = [] }) =
       sym (t .whole) ∙ ap (λ (n : ℕ). state passes S C n (b .used) (b .filled) (b₀ .filled)) e

@@ -12,7 +12,7 @@ use lib.Dec.{ltb}
 use Rattle.factor.specs.Limits.{max-factors}
 use Rattle.schedule.specs.Pass.{Slot, Walked, lastOf, initOf, filled, walk}
 use Rattle.schedule.proofs.Walks.{ahead, walk-on-taken, walk-on-left}
-use Rattle.plan.specs.Pass.{pickSlot, slotOf, maskAt}
+use Rattle.plan.specs.Pass.{pickSlot, passSlot, maskAt}
 
 -- the taken slots are those of the content from f₀ on; the first i slots stay
 abbrev pub state : (Slot → Bool) → List Slot → List Slot → ℕ → ℕ → ℕ → ℕ → Walked
@@ -63,8 +63,8 @@ module _ (p : Slot → Bool) (S C : List Slot) (i f f₀ : ℕ) (d : Slot) where
       (sym (take-suc S i d (omega arith)))
 
 -- the mask of a slot by its number
-pub mask-at : (masks : List ℕ) (x : ℕ) → maskAt masks (slotOf x) ≡ getD masks x 0
-unfolding slotOf maskAt
+pub mask-at : (masks : List ℕ) (x : ℕ) → maskAt masks (passSlot x) ≡ getD masks x 0
+unfolding passSlot maskAt
 mask-at masks x = go (ltb x max-factors) refl
   where
     go : (b : Bool) → ltb x max-factors ≡ b → maskAt masks (pickSlot b x) ≡ getD masks x 0

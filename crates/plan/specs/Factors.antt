@@ -5,13 +5,13 @@ use Prim.Native.Nat.{ℕ, _≤_, _<_}
 use lib.Dec.{ltb}
 use lib.ListN.{getD, take}
 use Rattle.factor.specs.Limits.{max-variables, max-keys}
-use Rattle.factor.specs.Factor.{past}
+use Rattle.factor.specs.Factor.{absent}
 use Rattle.factor.specs.declared.Factor.{Factor}
 use Rattle.plan.specs.Pass.{Agrees}
 
 -- the keys that a factor touches
-abbrev pub keysOf : Factor → List ℕ
-keysOf f = take (f .touched) (f .keys)
+abbrev pub touchedKeys : Factor → List ℕ
+touchedKeys f = take (f .touched) (f .keys)
 
 -- each of them can be a member of a set of keys
 pub record Fits (f : Factor) : Type 0 where
@@ -19,12 +19,12 @@ pub record Fits (f : Factor) : Type 0 where
   pub low : (i : ℕ) → i < f .touched → getD (f .keys) i 0 < max-variables
 
 abbrev pub AllFit : List Factor → (number : ℕ) → Type 0
-AllFit factors number = (i : ℕ) → i < number → Fits (getD factors i past)
+AllFit factors number = (i : ℕ) → i < number → Fits (getD factors i absent)
 
 -- the keys of the factor i, of the first `number`; the others have none
-abbrev pub keysAt : List Factor → (number i : ℕ) → List ℕ
-keysAt factors number i = cond (ltb i number) (keysOf (getD factors i past)) []
+abbrev pub keysAmong : List Factor → (number i : ℕ) → List ℕ
+keysAmong factors number i = cond (ltb i number) (touchedKeys (getD factors i absent)) []
 
 -- r holds the sets of these keys
 abbrev pub Masked : List Factor → (number : ℕ) (r : List ℕ) → Type 0
-Masked factors number r = Agrees r (keysAt factors number)
+Masked factors number r = Agrees r (keysAmong factors number)

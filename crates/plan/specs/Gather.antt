@@ -1,4 +1,4 @@
--- What the arrays of a gathering mean.
+-- Inner: what the arrays of a gathering mean.
 -- Assumes nothing.
 use mathlib.Core.Path.{_≡_}
 use mathlib.Core.Bool.{not}
@@ -10,21 +10,21 @@ use Rattle.factor.specs.Limits.{max-variables, max-factors}
 use Rattle.schedule.specs.Count.{mem, keep, joined}
 use Rattle.schedule.specs.Pass.{Slot, at}
 use Rattle.schedule.specs.Gather.{originalsIn, messagesIn, alive-messages, leaves, gatherAt}
-use Rattle.schedule.specs.Gather as lists
+use Rattle.schedule.specs.Gather as schedule
 use Rattle.schedule.specs.Messages.{Older, heavy}
 use Rattle.plan.specs.Mask.{has, keysIn, Set}
-use Rattle.plan.specs.Pass.{slotOf, Codes, messagesOf, Ready, Live, Agrees}
+use Rattle.plan.specs.Pass.{passSlot, Codes, messagesOf, PassReady, Live, Agrees}
 use Rattle.plan.specs.declared.pass.Pass.{Pass}
 use Rattle.plan.specs.declared.gather.Listing.{Listing}
 use Rattle.plan.specs.declared.gather.Gathered.{Gathered}
 
 -- the slots from one place to another
-abbrev pub part : (a b : ℕ) (content : List ℕ) → List Slot
-part a b content = map slotOf (drop a (take b content))
+abbrev pub contentPart : (a b : ℕ) (content : List ℕ) → List Slot
+contentPart a b content = map passSlot (drop a (take b content))
 
 -- r is the set of the messages among them
 abbrev pub Inner : (a b : ℕ) (content : List ℕ) (r : ℕ) → Type 0
-Inner a b content r = Set (messagesIn (part a b content)) r
+Inner a b content r = Set (messagesIn (contentPart a b content)) r
 
 -- r is the set of the messages alive after the step t
 pub record Alive (t : ℕ) (p : Pass) (r : ℕ) : Type 0 where
@@ -56,13 +56,13 @@ pub record Visitable (content : List ℕ) (a b : ℕ) (l : Listing) : Type 0 whe
   pub space : Space l
   pub codes : Codes b content
   pub ordered : a ≤ b
-  pub room : l .count + length (originalsIn (part a b content)) ≤ max-factors
-  pub stack : l .top + length (messagesIn (part a b content)) ≤ max-variables
+  pub room : l .count + length (originalsIn (contentPart a b content)) ≤ max-factors
+  pub stack : l .top + length (messagesIn (contentPart a b content)) ≤ max-variables
 
 pub record Visited (content : List ℕ) (a b : ℕ) (l r : Listing) : Type 0 where
   pub space : Space r
-  pub items : itemsOf r ≡ itemsOf l ++ originalsIn (part a b content)
-  pub stack : stackOf r ≡ reverseAux (messagesIn (part a b content)) (stackOf l)
+  pub items : itemsOf r ≡ itemsOf l ++ originalsIn (contentPart a b content)
+  pub stack : stackOf r ≡ reverseAux (messagesIn (contentPart a b content)) (stackOf l)
 
 -- The messages form a forest: each contains older ones only, and no message lies under another twice.
 pub record Forest (p : Pass) : Type 0 where
@@ -85,7 +85,7 @@ pub record Listable (p : Pass) (set : ℕ) (l : Listing) : Type 0 where
   pub low : (j : ℕ) → T (has j set) → j < p .count
   pub room : l .count + length (joined (leaves (messagesOf p)) (keysIn set)) ≤ max-factors
 
-pub record Listed (p : Pass) (set : ℕ) (l r : Listing) : Type 0 where
+pub record SetListed (p : Pass) (set : ℕ) (l r : Listing) : Type 0 where
   pub space : Space r
   pub items : itemsOf r ≡ itemsOf l ++ joined (leaves (messagesOf p)) (keysIn set)
 
@@ -96,7 +96,7 @@ others live count l = keep (λ i. not (mem i (itemsOf l))) (take count live)
 abbrev pub Coverable : (live : List ℕ) (count : ℕ) → Listing → Type 0
 Coverable live count l = l .count + length (others live count l) ≤ max-factors
 
-pub record Covered (live : List ℕ) (count : ℕ) (l r : Listing) : Type 0 where
+pub record OthersListed (live : List ℕ) (count : ℕ) (l r : Listing) : Type 0 where
   pub space : Space r
   pub items : itemsOf r ≡ itemsOf l ++ others live count l
   pub more : l .count ≤ r .count
@@ -115,15 +115,15 @@ listedAt fw bw N r s = leavesAt fw bw r s ++ keep (λ i. not (mem i (leavesAt fw
 
 -- What the gathering asks of the two passes; demand 3 gives it, since every original is then listed once.
 pub record Gatherable (fw bw : Pass) (live : List ℕ) (count r s : ℕ) : Type 0 where
-  pub forward : Ready max-variables fw
-  pub backward : Ready max-variables bw
+  pub forward : PassReady max-variables fw
+  pub backward : PassReady max-variables bw
   pub forest : Forest fw
   pub forest' : Forest bw
   pub originals : Live live count
   pub room : length (listedAt fw bw (take count live) r s) ≤ max-factors
 
 -- what the answer means
-unfoldable pub gatheredOf : Gathered → lists.Gathered
+unfoldable pub gatheredOf : Gathered → schedule.Gathered
 unfolding keysIn
 gatheredOf g = record {
   forward = keysIn (g .forward);

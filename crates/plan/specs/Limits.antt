@@ -1,4 +1,4 @@
--- How many slots a pass has at most; `PASS_SLOTS` is the same number for the code.
+-- Inner: how many slots a pass has at most; `PASS_SLOTS` is the same number for the code.
 use Prim.Native.Nat.{ℕ, _+_}
 use Rattle.factor.specs.Limits.{max-variables, max-factors}
 

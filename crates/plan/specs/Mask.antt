@@ -1,4 +1,4 @@
--- A set of numbers as the binary digits of a number.
+-- Inner: a set of numbers as the binary digits of a number.
 -- Assumes nothing.
 use mathlib.Core.Path.{_≡_}
 use mathlib.Core.Bool.{Bool, not}
@@ -8,7 +8,7 @@ use lib.Dec.{eqb}
 use lib.Bits.{bitAnd}
 use lib.ListN.{length, getD, take, drop}
 use Rattle.factor.specs.Limits.{max-variables}
-use Rattle.schedule.specs.Count.{mem, any, rising}
+use Rattle.schedule.specs.Count.{mem, any, risingWhere}
 
 -- j is in the set m: the digit j of m is 1
 unfoldable pub has : (j m : ℕ) → Bool
@@ -17,8 +17,8 @@ has (suc j) m = has j (m / 2)
 
 -- the members of a set of keys, rising
 unfoldable pub keysIn : (m : ℕ) → List ℕ
-unfolding rising has
-keysIn m = rising max-variables (λ j. has j m)
+unfolding risingWhere has
+keysIn m = risingWhere max-variables (λ j. has j m)
 
 -- r is the set of the numbers of a list
 abbrev pub Set : List ℕ → (r : ℕ) → Type 0

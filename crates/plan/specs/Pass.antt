@@ -1,4 +1,4 @@
--- What the arrays of a pass mean. Two things are kept apart: bounds (`Codes`, `Room`, `Ready`), which the code requires, and
+-- Inner: what the arrays of a pass mean. Two things are kept apart: bounds (`Codes`, `BoardRoom`, `PassReady`), which the code requires, and
 -- meaning (`Means` and what is said with it), which the code ensures for every table K of keys that the masks agree with.
 -- Assumes nothing.
 use mathlib.Core.Path.{_≡_}
@@ -9,7 +9,7 @@ use lib.Dec.{T, ltb}
 use lib.ListN.{length, getD, take, drop, replicate}
 use Rattle.factor.specs.Limits.{max-variables, max-factors}
 use Rattle.schedule.specs.Count.{any, from, mem}
-use Rattle.schedule.specs.Pass.{Slot, original, closed, ClosedFactor, State, keysOf, touches, Walked, walk, append, step, after, full-pass}
+use Rattle.schedule.specs.Pass.{Slot, original, closed, ClosedFactor, State, slotKeys, touches, Walked, walk, append, step, stateAfter, full-pass}
 use Rattle.plan.specs.Limits.{pass-slots}
 use Rattle.plan.specs.Mask.{has, keysIn, strays, meets}
 use Rattle.plan.specs.declared.pass.Board.{Board}
@@ -20,8 +20,8 @@ abbrev pub pickSlot : Bool → ℕ → Slot
 pickSlot true x = original x
 pickSlot false x = closed (x - max-factors)
 
-unfoldable pub slotOf : ℕ → Slot
-slotOf x = pickSlot (ltb x max-factors) x
+unfoldable pub passSlot : ℕ → Slot
+passSlot x = pickSlot (ltb x max-factors) x
 
 -- the key set of a slot, in the array of all masks
 unfoldable pub maskAt : (masks : List ℕ) → Slot → ℕ
@@ -40,35 +40,35 @@ Coupled masks active l r = (j : ℕ) → has j r ≡ any (λ x. strays active (g
 
 -- ---- The walk
 -- the active slots of a board
-abbrev pub slotsOf : Board → List Slot
-slotsOf b = take (b .used) (map slotOf (b .slots))
+abbrev pub boardSlots : Board → List Slot
+boardSlots b = take (b .used) (map passSlot (b .slots))
 
 -- whatever is taken out finds a place in the content
-pub record Room (b : Board) : Type 0 where
+pub record BoardRoom (b : Board) : Type 0 where
   pub active : Codes (b .used) (b .slots)
   pub contents : Codes (b .filled) (b .content)
   pub room : b .used + b .filled ≤ pass-slots
 
 -- the walk of the definition, over a board's slots
 abbrev pub walking : (masks : List ℕ) (cleared : ℕ) → Board → Walked
-walking masks cleared b = walk (λ s. meets cleared (maskAt masks s)) (length (slotsOf b)) (slotsOf b)
+walking masks cleared b = walk (λ s. meets cleared (maskAt masks s)) (length (boardSlots b)) (boardSlots b)
 
 -- The board r after the walk from b: the slots taken follow the contents so far, and those left are the active ones.
 pub record Walks (masks : List ℕ) (cleared : ℕ) (b r : Board) : Type 0 where
-  pub taken : drop (b .filled) (take (r .filled) (map slotOf (r .content))) ≡ (walking masks cleared b) .taken
-  pub left : slotsOf r ≡ (walking masks cleared b) .left
+  pub taken : drop (b .filled) (take (r .filled) (map passSlot (r .content))) ≡ (walking masks cleared b) .taken
+  pub left : boardSlots r ≡ (walking masks cleared b) .left
   pub before : take (b .filled) (r .content) ≡ take (b .filled) (b .content)
   pub more : b .filled ≤ r .filled
   pub sum : r .used + r .filled ≡ b .used + b .filled
-  pub room : Room r
+  pub room : BoardRoom r
 
 -- ---- A pass
 -- the message j
 unfoldable pub msgAt : Pass → ℕ → ClosedFactor
-unfolding slotOf keysIn
+unfolding passSlot keysIn
 msgAt p j = record {
   step = getD (p .steps) j 0;
-  content = map slotOf (drop (getD (p .starts) j 0) (take (getD (p .ends) j 0) (p .board .content)));
+  content = map passSlot (drop (getD (p .starts) j 0) (take (getD (p .ends) j 0) (p .board .content)));
   kept = keysIn (getD (drop max-factors (p .masks)) j 0);
   cleared = keysIn (getD (p .cleared) j 0);
 }
@@ -80,8 +80,8 @@ messagesOf p = map (msgAt p) (from 0 (p .count))
 
 -- Before the step t there is room for one more message. Each message was a slot less, so all slots and contents together are
 -- the originals and the messages at most.
-pub record Ready (t : ℕ) (p : Pass) : Type 0 where
-  pub room : Room (p .board)
+pub record PassReady (t : ℕ) (p : Pass) : Type 0 where
+  pub room : BoardRoom (p .board)
   pub total : p .board .used + p .board .filled ≤ max-factors + p .count
   pub few : p .count ≤ t
   pub masks : length (p .masks) ≡ pass-slots
@@ -97,30 +97,30 @@ pub record Means (n : ℕ) (K : ℕ → List ℕ) (p : Pass) (st : State) : Type
   pub few : n ≤ max-variables
   pub keys : (j : ℕ) → has j (p .active) ≡ mem j (st .active-keys)
   pub below : (j : ℕ) → T (has j (p .active)) → j < n
-  pub slots : slotsOf (p .board) ≡ st .active
+  pub slots : boardSlots (p .board) ≡ st .active
   pub messages : messagesOf p ≡ st .messages
-  pub masks : (s : Slot) (j : ℕ) → has j (maskAt (p .masks) s) ≡ mem j (keysOf K (st .messages) s)
+  pub masks : (s : Slot) (j : ℕ) → has j (maskAt (p .masks) s) ≡ mem j (slotKeys K (st .messages) s)
 
 -- the state after the message that clears the keys cl
-abbrev pub sent : (n : ℕ) (K : ℕ → List ℕ) (t : ℕ) → State → (ak cl : List ℕ) → State
-sent n K t st ak cl = append n K t st ak cl (walk (λ s. touches cl (keysOf K (st .messages) s)) (length (st .active)) (st .active))
+abbrev pub stateSent : (n : ℕ) (K : ℕ → List ℕ) (t : ℕ) → State → (ak cl : List ℕ) → State
+stateSent n K t st ak cl = append n K t st ak cl (walk (λ s. touches cl (slotKeys K (st .messages) s)) (length (st .active)) (st .active))
 
 -- r follows p by the message of the step t; by the whole step t, of the key k
 abbrev pub Sends : (cleared t : ℕ) (p r : Pass) → Type 0
 Sends cleared t p r =
     (n : ℕ) (K : ℕ → List ℕ) (st : State) → ((j : ℕ) → T (has j cleared) → j < n) → Means n K p st
-    → Means n K r (sent n K t st (st .active-keys) (keysIn cleared))
+    → Means n K r (stateSent n K t st (st .active-keys) (keysIn cleared))
 
 abbrev pub Steps : (k t : ℕ) (p r : Pass) → Type 0
 Steps k t p r = (n : ℕ) (K : ℕ → List ℕ) (st : State) → k < n → Means n K p st → Means n K r (step n K t k st)
 
 -- ---- The whole pass
 -- the masks of the originals, and none yet of a message
-unfoldable pub laid : (keys : List ℕ) → List ℕ
-laid keys = keys ++ replicate max-variables 0
+unfoldable pub originalMasks : (keys : List ℕ) → List ℕ
+originalMasks keys = keys ++ replicate max-variables 0
 
 -- the live originals stand first
-pub record Laid (live : List ℕ) (count : ℕ) (r : List ℕ) : Type 0 where
+pub record LiveFirst (live : List ℕ) (count : ℕ) (r : List ℕ) : Type 0 where
   pub long : length r ≡ pass-slots
   pub first : take count r ≡ take count live
 
@@ -139,7 +139,7 @@ abbrev pub Agrees : (keys : List ℕ) (K : ℕ → List ℕ) → Type 0
 Agrees keys K = (i j : ℕ) → has j (getD keys i 0) ≡ mem j (K i)
 
 abbrev pub Begins : (keys live : List ℕ) (count : ℕ) (r : Pass) → Type 0
-Begins keys live count r = (n : ℕ) (K : ℕ → List ℕ) → n ≤ max-variables → Agrees keys K → Means n K r (after n K (take count live) [])
+Begins keys live count r = (n : ℕ) (K : ℕ → List ℕ) → n ≤ max-variables → Agrees keys K → Means n K r (stateAfter n K (take count live) [])
 
 -- The messages of r are those of the definition, along the order, for every table that the masks agree with.
 abbrev pub Passes : (keys N order : List ℕ) (n : ℕ) (r : Pass) → Type 0

@@ -1,4 +1,4 @@
--- What the whole plan means, and what it asks.
+-- Inner: what the whole plan means, and what it asks.
 -- Assumes nothing.
 use mathlib.Core.Path.{_≡_}
 use mathlib.Core.List.{List, [], map}
@@ -7,18 +7,18 @@ use lib.Dec.{T}
 use lib.ListN.{length, getD, take}
 use Rattle.factor.specs.Limits.{max-variables, max-factors}
 use Rattle.schedule.specs.Count.{count, In, from}
-use Rattle.schedule.specs.Plan as lists
+use Rattle.schedule.specs.Plan as schedule
 use Rattle.plan.specs.Mask.{has}
-use Rattle.plan.specs.Pass.{messagesOf, Ready, Live, Agrees}
+use Rattle.plan.specs.Pass.{messagesOf, PassReady, Live, Agrees}
 use Rattle.plan.specs.Gather.{Held, gatheredOf}
-use Rattle.plan.specs.Factors.{keysOf, AllFit}
+use Rattle.plan.specs.Factors.{touchedKeys, AllFit}
 use Rattle.plan.specs.declared.gather.Gathered.{Gathered}
 use Rattle.plan.specs.declared.plan.Plan.{Plan}
-use Rattle.factor.specs.Factor.{past}
+use Rattle.factor.specs.Factor.{absent}
 use Rattle.factor.specs.declared.Factor.{Factor}
 
 abbrev pub place : (k : ℕ) (order : List ℕ) → ℕ
-place k order = lists.place k order
+place k order = schedule.placeIn k order
 
 -- Where a plan starts and along what: the first `number` of live are numbers of originals, none twice, and the first n of the order
 -- name each of n keys once.
@@ -34,13 +34,13 @@ pub record Sound (keys live : List ℕ) (number : ℕ) (order : List ℕ) (n : �
   pub ordered : Ordered live number order n
 
 -- the plan that the arrays hold, for n keys
-unfoldable pub planOf : (n : ℕ) → Plan → lists.Plan
+unfoldable pub planIn : (n : ℕ) → Plan → schedule.Plan
 unfolding messagesOf gatheredOf
-planOf n p = record { forward = messagesOf (p .forward); backward = messagesOf (p .backward); at-key = map gatheredOf (take n (p .at)) }
+planIn n p = record { forward = messagesOf (p .forward); backward = messagesOf (p .backward); at-key = map gatheredOf (take n (p .at)) }
 
 -- The arrays hold the plan of the definition, for every table K that the masks agree with.
 abbrev pub Plans : (keys N order : List ℕ) (n : ℕ) → Plan → Type 0
-Plans keys N order n p = (K : ℕ → List ℕ) → Agrees keys K → planOf n p ≡ lists.plan n K N order
+Plans keys N order n p = (K : ℕ → List ℕ) → Agrees keys K → planIn n p ≡ schedule.plan n K N order
 
 abbrev pub noGathered : Gathered
 noGathered = record { forward = 0; backward = 0; items = []; covered = 0; count = 0; last = 0 }
@@ -48,8 +48,8 @@ noGathered = record { forward = 0; backward = 0; items = []; covered = 0; count 
 -- The arrays hold what their counts say, for whoever reads them: at most n messages a pass, contents of numbers of slots that stand
 -- within the array of all contents, and leaves that are numbers of originals.
 pub record Bounded (n : ℕ) (p : Plan) : Type 0 where
-  pub forward : Ready n (p .forward)
-  pub backward : Ready n (p .backward)
+  pub forward : PassReady n (p .forward)
+  pub backward : PassReady n (p .backward)
   pub long : length (p .at) ≡ max-variables
   pub held : (k : ℕ) → k < n → Held (getD (p .at) k noGathered)
 
@@ -58,4 +58,4 @@ pub record Registered (factors : List Factor) (number n : ℕ) : Type 0 where
   pub few : n ≤ max-variables
   pub some : number ≤ max-factors
   pub fits : AllFit factors number
-  pub below : (i : ℕ) → i < number → (j : ℕ) → In j (keysOf (getD factors i past)) → j < n
+  pub below : (i : ℕ) → i < number → (j : ℕ) → In j (touchedKeys (getD factors i absent)) → j < n

@@ -11,7 +11,7 @@ ghost use Rattle.plan.specs.Factors as spec;
 // The keys of one factor as a set.
 pub fn mask_of(f: Factor) -> u32
     requires { ⌜ spec.Fits f ⌝ }
-    ensures { λ r. ⌜ Set (spec.keysOf f) r ⌝ }
+    ensures { λ r. ⌜ Set (spec.touchedKeys f) r ⌝ }
 {
     let n = wide(f.touched);
     let mut r = 0u32;

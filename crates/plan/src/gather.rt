@@ -53,7 +53,7 @@ fn messages_in(content: &[u8; PASS_SLOTS], from: usize, to: usize) -> u32
 
 // The messages of step at most t that no such message contains.
 fn alive_messages(messages: Pass, t: usize) -> u32
-    requires { ⌜ pass.Ready max-variables messages ⌝ }
+    requires { ⌜ pass.PassReady max-variables messages ⌝ }
     ensures { λ r. ⌜ spec.Alive t messages r ⌝ }
 {
     let b = messages.board;
@@ -100,7 +100,7 @@ fn visit(content: &[u8; PASS_SLOTS], from: usize, to: usize, listing: Listing) -
 
 // The leaves under the message `root`: the top of the stack is opened until none is left.
 fn mark_leaves(messages: Pass, root: usize, listing: Listing) -> Listing
-    requires { ⌜ pass.Ready max-variables messages ⌝ }
+    requires { ⌜ pass.PassReady max-variables messages ⌝ }
     requires { ⌜ spec.Space listing ⌝ }
     requires { ⌜ spec.Openable messages root listing ⌝ }
     ensures { λ r. ⌜ spec.Opened messages root listing r ⌝ }
@@ -123,10 +123,10 @@ fn mark_leaves(messages: Pass, root: usize, listing: Listing) -> Listing
 
 // The leaves under each message of a set, by rising message.
 fn leaves_of(messages: Pass, set: u32, listing: Listing) -> Listing
-    requires { ⌜ pass.Ready max-variables messages ⌝ }
+    requires { ⌜ pass.PassReady max-variables messages ⌝ }
     requires { ⌜ spec.Space listing ⌝ }
     requires { ⌜ spec.Listable messages set listing ⌝ }
-    ensures { λ r. ⌜ spec.Listed messages set listing r ⌝ }
+    ensures { λ r. ⌜ spec.SetListed messages set listing r ⌝ }
 {
     let n = messages.count;
     let mut l = listing;
@@ -160,7 +160,7 @@ fn uncovered(live: [u8; FACTORS], count: usize, listing: Listing) -> Listing
     requires { ⌜ pass.Live live count ⌝ }
     requires { ⌜ spec.Space listing ⌝ }
     requires { ⌜ spec.Coverable live count listing ⌝ }
-    ensures { λ r. ⌜ spec.Covered live count listing r ⌝ }
+    ensures { λ r. ⌜ spec.OthersListed live count listing r ⌝ }
 {
     let mut l = listing;
     let items = l.items;
@@ -180,7 +180,7 @@ fn uncovered(live: [u8; FACTORS], count: usize, listing: Listing) -> Listing
 
 // The kept keys of the messages of a set.
 fn kept_keys(messages: Pass, set: u32) -> u32
-    requires { ⌜ pass.Ready max-variables messages ⌝ }
+    requires { ⌜ pass.PassReady max-variables messages ⌝ }
     ensures { λ r. ⌜ spec.Kept messages set r ⌝ }
 {
     let n = messages.count;

@@ -58,7 +58,7 @@ fn coupled<'a>(
 // The walk over the active slots: one that touches a cleared key is taken out to the content, and the last slot moves into its
 // place, which is looked at again. The order of the content is the order of the walk.
 fn walk(masks: &[u32; PASS_SLOTS], board: Board, cleared: u32) -> Board
-    requires { ⌜ spec.Room board ⌝ }
+    requires { ⌜ spec.BoardRoom board ⌝ }
     ensures { λ r. ⌜ spec.Walks (now (masks .entry)) cleared board r ⌝ }
 {
     let mut b = board;
@@ -84,7 +84,7 @@ fn walk(masks: &[u32; PASS_SLOTS], board: Board, cleared: u32) -> Board
 
 // The masks of the originals, and none yet of a message.
 fn laid_masks(keys: [u32; FACTORS]) -> [u32; PASS_SLOTS]
-    ensures { λ r. ⌜ r ≡ spec.laid keys ⌝ }
+    ensures { λ r. ⌜ r ≡ spec.originalMasks keys ⌝ }
 {
     let mut r = [0u32; PASS_SLOTS];
     let mut i = 0;
@@ -98,7 +98,7 @@ fn laid_masks(keys: [u32; FACTORS]) -> [u32; PASS_SLOTS]
 // The live originals in the first places: a pass starts with them as its active slots.
 fn laid_slots(live: [u8; FACTORS], count: usize) -> [u8; PASS_SLOTS]
     requires { ⌜ count ≤ max-factors ⌝ }
-    ensures { λ r. ⌜ spec.Laid live count r ⌝ }
+    ensures { λ r. ⌜ spec.LiveFirst live count r ⌝ }
 {
     let mut r = [0u8; PASS_SLOTS];
     let mut i = 0;
@@ -112,7 +112,7 @@ fn laid_slots(live: [u8; FACTORS], count: usize) -> [u8; PASS_SLOTS]
 // The pass before its first step: no key is active, and there is no message.
 fn begin(keys: [u32; FACTORS], live: [u8; FACTORS], count: usize) -> Pass
     requires { ⌜ spec.Live live count ⌝ }
-    ensures { λ r. ⌜ spec.Ready 0 r ⌝ }
+    ensures { λ r. ⌜ spec.PassReady 0 r ⌝ }
     ensures { λ r. ⌜ spec.Begins keys live count r ⌝ }
 {
     let masks = laid_masks(keys);
@@ -141,9 +141,9 @@ impl Pass {
     // The message of the step t, which clears the given keys: its content is what the walk takes out, and it keeps those of the
     // content's keys that are still active. It becomes an active slot itself.
     fn send(mut self, cleared: u32, t: usize) -> Pass
-        requires { ⌜ spec.Ready t self ⌝ }
+        requires { ⌜ spec.PassReady t self ⌝ }
         requires { ⌜ t < max-variables ⌝ }
-        ensures { λ r. ⌜ spec.Ready (t + 1) r ⌝ }
+        ensures { λ r. ⌜ spec.PassReady (t + 1) r ⌝ }
         ensures { λ r. ⌜ spec.Sends cleared t self r ⌝ }
     {
         let c = self.count;
@@ -170,10 +170,10 @@ impl Pass {
     // The step t, of the key k: k becomes active, and the active keys other than k that are not coupled are cleared. A message
     // arises exactly if there is one.
     fn step(mut self, k: usize, t: usize) -> Pass
-        requires { ⌜ spec.Ready t self ⌝ }
+        requires { ⌜ spec.PassReady t self ⌝ }
         requires { ⌜ t < max-variables ⌝ }
         requires { ⌜ k < max-variables ⌝ }
-        ensures { λ r. ⌜ spec.Ready (t + 1) r ⌝ }
+        ensures { λ r. ⌜ spec.PassReady (t + 1) r ⌝ }
         ensures { λ r. ⌜ spec.Steps k t self r ⌝ }
     {
         let one = single(k);
@@ -202,7 +202,7 @@ pub fn full_pass(
 ) -> Pass
     requires { ⌜ spec.Live live count ⌝ }
     requires { ⌜ spec.Order order n ⌝ }
-    ensures { λ r. ⌜ spec.Ready n r ⌝ }
+    ensures { λ r. ⌜ spec.PassReady n r ⌝ }
     ensures { λ r. ⌜ spec.Passes keys (take count live) (take n order) n r ⌝ }
 {
     let mut p = begin(keys, live, count);

@@ -13,8 +13,8 @@ ghost use Prim.Native.Nat.{_≤_};
 ghost use lib.ListN.{length, take};
 ghost use Rattle.factor.specs.Limits.{max-variables};
 ghost use Rattle.schedule.specs.Count.{from};
-ghost use Rattle.schedule.specs.Plan as lists;
-ghost use Rattle.plan.specs.Factors.{keysAt};
+ghost use Rattle.schedule.specs.Plan as schedule;
+ghost use Rattle.plan.specs.Factors.{keysAmong};
 ghost use Rattle.plan.specs.Plan as spec;
 
 // The messages of both passes, and at[k] what the key k gathers.
@@ -105,7 +105,7 @@ pub fn plan_of(
 ) -> Plan
     requires { ⌜ spec.Registered factors count n ⌝ }
     requires { ⌜ spec.Ordered live lives order n ⌝ }
-    ensures { λ r. ⌜ spec.planOf n r ≡ lists.plan n (keysAt factors count) (take lives live) (take n order) ⌝ }
+    ensures { λ r. ⌜ spec.planIn n r ≡ schedule.plan n (keysAmong factors count) (take lives live) (take n order) ⌝ }
     ensures { λ r. ⌜ spec.Bounded n r ⌝ }
 {
     let keys = masks_of(factors, count);

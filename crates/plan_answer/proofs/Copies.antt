@@ -11,9 +11,9 @@ use lib.Seq.{getD-drop, getD-take, length-take-le, length-slice}
 use Rattle.factor.specs.Limits.{max-variables, max-factors}
 use Rattle.schedule.specs.Pass.{at}
 use Rattle.plan.specs.Limits.{pass-slots}
-use Rattle.plan.specs.Pass.{pickSlot, slotOf, msgAt, messagesOf, Ready}
+use Rattle.plan.specs.Pass.{pickSlot, passSlot, msgAt, messagesOf, PassReady}
 use Rattle.plan.specs.Gather.{gatheredOf, Held}
-use Rattle.plan.specs.Plan.{planOf, noGathered}
+use Rattle.plan.specs.Plan.{planIn, noGathered}
 use Rattle.plan.specs.declared.pass.Pass.{Pass}
 use Rattle.plan.specs.declared.gather.Gathered.{Gathered}
 use Rattle.plan.specs.declared.plan.Plan as arrays
@@ -28,20 +28,20 @@ use Rattle.plan_answer.proofs.Filling.{padded-is}
 use Rattle.plan_answer.proofs.Members.{set-members}
 
 -- a slot's number is the one that the arrays have for it
-code-slot : (x : ℕ) → code (slotOf x) ≡ x
-unfolding code slotOf
+code-slot : (x : ℕ) → code (passSlot x) ≡ x
+unfolding code passSlot
 code-slot x = go (ltb x max-factors) refl
   where
     go : (b : Bool) → ltb x max-factors ≡ b → code (pickSlot b x) ≡ x
     go true e = refl
     go false e = omega (arith, ltb-false x max-factors e)
 
-codes : (l : List ℕ) → map code (map slotOf l) ≡ l
+codes : (l : List ℕ) → map code (map passSlot l) ≡ l
 codes [] = refl
 codes (x ∷ l) = rw (code-slot x, codes l) refl
 
 -- the message j of a pass, from its laid content and its masks
-pub message-is : (p : Pass) (j : ℕ) (content : List ℕ) (kept cleared : ℕ) → Ready max-variables p → j < p .count
+pub message-is : (p : Pass) (j : ℕ) (content : List ℕ) (kept cleared : ℕ) → PassReady max-variables p → j < p .count
     → content ≡ drop (getD (p .starts) j 0) (take (getD (p .ends) j 0) (p .board .content)) ++ drop (getD (p .ends) j 0 - getD (p .starts) j 0)
     (replicate pass-slots 0)
     → kept ≡ getD (p .masks) (max-factors + j) 0 → kept < 2 ^ 32 → cleared ≡ getD (p .cleared) j 0 → cleared < 2 ^ 32
@@ -64,7 +64,7 @@ message-is p j content kept cleared ready h e ek hk ec hc =
       e,
       padded-is 0 pass-slots (b - a) l n,
       codes l,
-      length-map l slotOf,
+      length-map l passSlot,
       n,
       getD-drop max-factors (p .masks) j 0,
       ← ek,
@@ -105,6 +105,6 @@ pub answer-is : (n : ℕ) (p : arrays.Plan) (forward backward : List Message) (a
     → forward ≡ spec.messageTable (messagesOf (p .forward)) → backward ≡ spec.messageTable (messagesOf (p .backward)) → at
     ≡ spec.keyTable (map gatheredOf (take n (p .at)))
     → _≡_ {A = Plan} (record { forward = forward; forwards = p .forward .count; backward = backward; backwards = p .backward .count; at = at })
-    (answerOf (planOf n p))
-unfolding answerOf planOf
+    (answerOf (planIn n p))
+unfolding answerOf planIn
 answer-is n p forward backward at ef eb ea = rw (ef, eb, ea, messages-length (p .forward), messages-length (p .backward))

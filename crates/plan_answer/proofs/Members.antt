@@ -6,17 +6,17 @@ use Prim.Native.Nat.{ℕ, zero, suc, _+_, _*_, _/_, _%_, _^_, _<_}
 use native.Mathlib.Nat.{mod-lt, pow-suc, div-add-mod'}
 use native.Mathlib.Omega.{arith}
 use lib.Dec.{eqb}
-use Rattle.schedule.specs.Count.{sum, putIf, keep, from, rising}
+use Rattle.schedule.specs.Count.{sumOver, putIf, keep, from, risingWhere}
 use Rattle.plan.specs.Mask.{has, keysIn}
 use Rattle.plan_answer.specs.Answer.{setOf}
 
 with-one : (j : ℕ) (l : List ℕ) → setOf (j ∷ l) ≡ 2 ^ j + setOf l
-unfolding setOf sum
+unfolding setOf sumOver
 with-one j l = refl
 
 -- members that are all one higher make a set of twice the number
 raised : (p : ℕ → Bool) (a n : ℕ) → setOf (keep p (from (suc a) n)) ≡ 2 * setOf (keep (λ j. p (suc j)) (from a n))
-unfolding keep from setOf sum
+unfolding keep from setOf sumOver
 raised p a zero = refl
 raised p a (suc n) = go (p (suc a)) (keep p (from (suc (suc a)) n)) (keep (λ j. p (suc j)) (from (suc a) n)) (raised p (suc a) n)
   where
@@ -30,8 +30,8 @@ lowest zero l h = omega arith
 lowest (suc zero) l h = with-one 0 l
 lowest (suc (suc x)) l h = absurd (omega arith)
 
-set-rising : (n m : ℕ) → m < 2 ^ n → setOf (rising n (λ j. has j m)) ≡ m
-unfolding rising keep from has setOf sum
+set-rising : (n m : ℕ) → m < 2 ^ n → setOf (risingWhere n (λ j. has j m)) ≡ m
+unfolding risingWhere keep from has setOf sumOver
 set-rising zero m h = omega arith
 set-rising (suc n) m h =
     lowest (m % 2) (keep (λ j. has j m) (from 1 n)) (mod-lt m (omega arith))

@@ -3,10 +3,10 @@ use mathlib.Core.List.{List, _++_, map}
 use Prim.Native.Nat.{ℕ, _+_, _-_, _^_}
 use lib.ListN.{length, replicate}
 use Rattle.factor.specs.Limits.{max-variables, max-factors}
-use Rattle.schedule.specs.Count.{sum}
+use Rattle.schedule.specs.Count.{sumOver}
 use Rattle.schedule.specs.Pass.{Slot, original, closed, ClosedFactor}
 use Rattle.schedule.specs.Gather.{Gathered}
-use Rattle.schedule.specs.Plan as lists
+use Rattle.schedule.specs.Plan as schedule
 use Rattle.plan_answer.specs.declared.Message.{Message}
 use Rattle.plan_answer.specs.declared.KeyPlan.{KeyPlan}
 use Rattle.plan_answer.specs.declared.Plan.{Plan}
@@ -17,7 +17,7 @@ padded blank n l = l ++ replicate (n - length l) blank
 
 -- a set of numbers, none twice, as a mask: the bit j for the member j
 unfoldable pub setOf : List ℕ → ℕ
-setOf l = sum (λ j. 2 ^ j) l
+setOf l = sumOver (λ j. 2 ^ j) l
 
 -- a slot's number: an original has its own, the messages of the pass follow the originals
 unfoldable pub code : Slot → ℕ
@@ -25,8 +25,8 @@ code (original i) = i
 code (closed j) = max-factors + j
 
 -- how many slots a pass has at most
-abbrev pub max-slots : ℕ
-max-slots = max-factors + max-variables
+abbrev pub pass-places : ℕ
+pass-places = max-factors + max-variables
 
 -- ---- messages
 
@@ -34,19 +34,19 @@ max-slots = max-factors + max-variables
 unfoldable pub messageOf : ClosedFactor → Message
 messageOf m = record {
   step = m .step;
-  content = padded 0 max-slots (map code (m .content));
+  content = padded 0 pass-places (map code (m .content));
   slots = length (m .content);
   kept = setOf (m .kept);
   cleared = setOf (m .cleared);
 }
 
 -- what an unused place holds
-abbrev pub noMessage : Message
-noMessage = record { step = 0; content = replicate max-slots 0; slots = 0; kept = 0; cleared = 0 }
+abbrev pub blankMessage : Message
+blankMessage = record { step = 0; content = replicate pass-places 0; slots = 0; kept = 0; cleared = 0 }
 
 -- the messages of a pass in their order
 unfoldable pub messageTable : List ClosedFactor → List Message
-messageTable messages = padded noMessage max-variables (map messageOf messages)
+messageTable messages = padded blankMessage max-variables (map messageOf messages)
 
 -- ---- keys
 
@@ -71,7 +71,7 @@ keyTable keys = padded noKeyPlan max-variables (map keyPlanOf keys)
 
 -- ---- the whole
 
-unfoldable pub answerOf : lists.Plan → Plan
+unfoldable pub answerOf : schedule.Plan → Plan
 answerOf p = record {
   forward = messageTable (p .forward);
   forwards = length (p .forward);

@@ -11,9 +11,9 @@ ghost use Prim.Native.Nat.{ℕ, _-_, _≤_, _<_};
 ghost use lib.ListN.{length, getD, take, drop};
 ghost use Rattle.factor.specs.Limits.{max-variables};
 ghost use Rattle.schedule.specs.Pass.{at};
-ghost use Rattle.plan.specs.Pass.{Ready, messagesOf};
+ghost use Rattle.plan.specs.Pass.{PassReady, messagesOf};
 ghost use Rattle.plan.specs.Gather.{Held, gatheredOf};
-ghost use Rattle.plan.specs.Plan.{Bounded, planOf, noGathered};
+ghost use Rattle.plan.specs.Plan.{Bounded, planIn, noGathered};
 ghost use Rattle.plan_answer.specs.Answer as spec;
 
 // A message: the step of its pass that made it, counted from 0; its content, the first `slots` of content, in the order in which
@@ -69,7 +69,7 @@ fn mask(m: u32) -> u32
 
 // The message j of a pass.
 fn message_of(p: Pass, j: usize) -> Message
-    requires { ⌜ Ready max-variables p × (j < p .count) ⌝ }
+    requires { ⌜ PassReady max-variables p × (j < p .count) ⌝ }
     ensures { λ r. ⌜ r ≡ spec.messageOf (at (messagesOf p) j) ⌝ }
 {
     let board = p.board;
@@ -89,7 +89,7 @@ fn message_of(p: Pass, j: usize) -> Message
 
 // All messages of a pass, each at its number.
 fn message_table(p: Pass) -> [Message; VARIABLES]
-    requires { ⌜ Ready max-variables p ⌝ }
+    requires { ⌜ PassReady max-variables p ⌝ }
     ensures { λ r. ⌜ r ≡ spec.messageTable (messagesOf p) ⌝ }
 {
     let blank = Message {
@@ -150,7 +150,7 @@ fn key_table(at: [Gathered; VARIABLES], n: usize) -> [KeyPlan; VARIABLES]
 // The plan for n keys, copied out of the arrays in which it was made.
 pub fn copy_out(p: plan::plan::Plan, n: usize) -> Plan
     requires { ⌜ (n ≤ max-variables) × Bounded n p ⌝ }
-    ensures { λ r. ⌜ r ≡ spec.answerOf (planOf n p) ⌝ }
+    ensures { λ r. ⌜ r ≡ spec.answerOf (planIn n p) ⌝ }
 {
     let fw = p.forward;
     let bw = p.backward;

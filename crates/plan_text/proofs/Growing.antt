@@ -8,7 +8,7 @@ use native.Mathlib.Nat.{zero-add}
 use native.Mathlib.Numerals.{add-one}
 use lib.ListN.{length, getD, take, drop, length-map}
 use lib.Seq.{take-suc, length-take-le}
-use Rattle.schedule.specs.Count.{joined, putIf, from, rising}
+use Rattle.schedule.specs.Count.{joined, putIf, from, risingWhere}
 use Rattle.schedule.proofs.Sums.{joined-append, length-from}
 use Rattle.plan.proofs.Prefixes.{part-snoc, drop-none, map-append}
 use Rattle.plan.proofs.Membership.{from-snoc}
@@ -31,8 +31,8 @@ joined-map f g [] = refl
 joined-map f g (x ∷ l) = ap (λ (t : List ℕ). f (g x) ++ t) (joined-map f g l)
 
 -- the members of a set below k, and k if it is one
-pub member-more : (f : ℕ → List ℕ) (p : ℕ → Bool) (k : ℕ) → joined f (rising k p) ++ joined f (putIf (p k) k []) ≡ joined f (rising (k + 1) p)
-member-more f p k = sym (ap (joined f) (rising-more p k) ∙ joined-append f (rising k p) (putIf (p k) k []))
+pub member-more : (f : ℕ → List ℕ) (p : ℕ → Bool) (k : ℕ) → joined f (risingWhere k p) ++ joined f (putIf (p k) k []) ≡ joined f (risingWhere (k + 1) p)
+member-more f p k = sym (ap (joined f) (rising-more p k) ∙ joined-append f (risingWhere k p) (putIf (p k) k []))
 
 -- the entries of an array from a place on, and the one at i
 module _ (f : ℕ → List ℕ) (l : List ℕ) where

@@ -9,23 +9,23 @@ use borrow.Author.Tests.{ltb-true, ltb-false}
 use lib.Dec.{ltb}
 use lib.ListN.{length, getD, take, drop, length-append, length-map, length-reverse}
 use Rattle.factor.specs.Limits.{max-variables, max-factors}
-use Rattle.graph.specs.Record.{valid, keysOf}
-use Rattle.graph.specs.Refusals.{numberOf}
+use Rattle.graph.specs.Record.{valid, factorKeys}
+use Rattle.graph.specs.Refusals.{refusalNumber}
 use Rattle.graph.specs.declared.Graph.{Graph}
 use Rattle.graph.specs.declared.refusal.Refusal.{Refusal}
 use Rattle.graph.proofs.Validity.{valid-variables}
-use Rattle.schedule.specs.Count.{count, joined, putIf, from, rising}
+use Rattle.schedule.specs.Count.{count, joined, putIf, from, risingWhere}
 use Rattle.schedule.specs.Pass.{ClosedFactor, at, full-pass}
-use Rattle.schedule.specs.Plan as lists
+use Rattle.schedule.specs.Plan as schedule
 use Rattle.schedule.proofs.Counts.{count-reverse}
 use Rattle.schedule.proofs.Sums.{length-from}
 use Rattle.schedule.proofs.Runs.{from-lt, running}
 use Rattle.schedule.proofs.Demand3.{from-once}
 use Rattle.plan.specs.Limits.{pass-slots}
 use Rattle.plan.specs.Mask.{has, keysIn}
-use Rattle.plan.specs.Pass.{slotOf, msgAt, messagesOf, Codes, Ready}
+use Rattle.plan.specs.Pass.{passSlot, msgAt, messagesOf, Codes, PassReady}
 use Rattle.plan.specs.Gather.{Items, Held, gatheredOf}
-use Rattle.plan.specs.Plan.{noGathered, Bounded, planOf}
+use Rattle.plan.specs.Plan.{noGathered, Bounded, planIn}
 use Rattle.plan.specs.declared.pass.Pass.{Pass}
 use Rattle.plan.specs.declared.gather.Gathered.{Gathered}
 use Rattle.plan.specs.declared.plan.Plan.{Plan}
@@ -33,7 +33,7 @@ use Rattle.plan.proofs.Stepping.{ready-later}
 use Rattle.plan.proofs.Unions.{slot-low, slot-high, at-msg, joined-zero}
 use Rattle.solver.specs.Plan.{Answer, graphPlan, planned}
 use Rattle.solver.specs.declared.Arranged.{Arranged}
-use Rattle.solver.specs.declared.Outcome.the-variants.{Made}
+use Rattle.solver.specs.declared.Outcome.the-variants.{Done}
 use Rattle.text.specs.Decimals.{space, fieldText}
 use Rattle.lines.specs.Lines.{refusalText, written, laidIn}
 use Rattle.lines.specs.declared.Written.{Written}
@@ -70,11 +70,11 @@ grown-most t s most (suc n) e more few =
 field-most : (x : ℕ) → x < 100 → length (fieldText x) ≤ 3
 field-most x l = omega (arith, field-length x, few-digits 1 x (omega arith))
 
-slot-most : (s : ℕ) → s < pass-slots → length (slotText (slotOf s)) ≤ 4
+slot-most : (s : ℕ) → s < pass-slots → length (slotText (passSlot s)) ≤ 4
 unfolding slotText
 slot-most s l = by (ltb s max-factors) refl
   where
-    by : (b : Bool) → ltb s max-factors ≡ b → length (slotText (slotOf s)) ≤ 4
+    by : (b : Bool) → ltb s max-factors ≡ b → length (slotText (passSlot s)) ≤ 4
     by true e = rw (slot-low s (ltb-true s max-factors e)) (omega (arith, field-most s (omega arith)))
     by false e = rw (slot-high s (ltb-false s max-factors e)) (omega (arith, few-digits 1 (s - max-factors) (omega arith)))
 
@@ -99,8 +99,8 @@ unfolding listText keysIn
 set-most word set =
     omega (
       arith,
-      length-append word (joined fieldText (rising max-variables (λ i. has i set))),
-      grown-most (λ k. joined fieldText (rising k (λ i. has i set))) (λ k. joined fieldText (putIf (has k set) k [])) 3 max-variables
+      length-append word (joined fieldText (risingWhere max-variables (λ i. has i set))),
+      grown-most (λ k. joined fieldText (risingWhere k (λ i. has i set))) (λ k. joined fieldText (putIf (has k set) k [])) 3 max-variables
           (sym (joined-zero fieldText (λ i. has i set))) (λ k l. member-more fieldText (λ i. has i set) k) (λ k l. member-most (has k set) k (omega arith)),
     )
 
@@ -118,16 +118,16 @@ items-most word items a b o h =
       part-most fieldText items 3 a b o (omega (arith, h .few, h .long)) (λ i l. field-most (getD items i 0) (omega (arith, h .low i l))),
     )
 
-content-most : (content : List ℕ) (a b used : ℕ) → a ≤ b → b ≤ used → Codes used content → length (contentText (map slotOf (drop a (take b content)))) ≤ 392
+content-most : (content : List ℕ) (a b used : ℕ) → a ≤ b → b ≤ used → Codes used content → length (contentText (map passSlot (drop a (take b content)))) ≤ 392
 unfolding contentText
 content-most content a b used o u h =
-    let e = joined-map slotText slotOf (drop a (take b content)) in
+    let e = joined-map slotText passSlot (drop a (take b content)) in
     omega (
       arith,
-      length-append contentWord (joined slotText (map slotOf (drop a (take b content)))),
+      length-append contentWord (joined slotText (map passSlot (drop a (take b content)))),
       ap length e,
       h .few,
-      part-most (λ s. slotText (slotOf s)) content 4 a b o (omega (arith, h .few, h .long)) (λ i l. slot-most (getD content i 0) (h .low i (omega arith))),
+      part-most (λ s. slotText (passSlot s)) content 4 a b o (omega (arith, h .few, h .long)) (λ i l. slot-most (getD content i 0) (h .low i (omega arith))),
     )
 
 -- ---- the lines
@@ -136,7 +136,7 @@ content-most content a b used o u h =
 abbrev pub LowSteps : Pass → Type 0
 LowSteps p = (j : ℕ) → j < p .count → getD (p .steps) j 0 < 100
 
-message-most : (name : List ℕ) (p : Pass) (j : ℕ) → length name ≤ 8 → Ready max-variables p → LowSteps p → j < p .count
+message-most : (name : List ℕ) (p : Pass) (j : ℕ) → length name ≤ 8 → PassReady max-variables p → LowSteps p → j < p .count
     → length (messageText name j (msgAt p j)) ≤ 617
 unfolding messageText msgAt
 message-most name p j few ready low l =
@@ -150,7 +150,7 @@ message-most name p j few ready low l =
       set-most clearedWord (getD (p .cleared) j 0),
     ))
 
-pass-most : (name : List ℕ) (p : Pass) → length name ≤ 8 → Ready max-variables p → LowSteps p
+pass-most : (name : List ℕ) (p : Pass) → length name ≤ 8 → PassReady max-variables p → LowSteps p
     → length (numbered (messageText name) 0 (messagesOf p)) ≤ 617 * p .count
 unfolding messagesOf
 pass-most name p few ready low =
@@ -178,11 +178,11 @@ keys-most n p few b =
 
 -- 32 messages a pass and 32 keys
 pub plan-most : (n : ℕ) (p : Plan) → n ≤ max-variables → Bounded n p → LowSteps (p .forward) → LowSteps (p .backward)
-    → length (planText (planOf n p)) ≤ text-room
-unfolding planText planOf
+    → length (planText (planIn n p)) ≤ text-room
+unfolding planText planIn
 plan-most n p few b fw bw =
-    let f : Ready max-variables (p .forward) = ready-later n max-variables (p .forward) (p .forward .active) few (b .forward) in
-    let g : Ready max-variables (p .backward) = ready-later n max-variables (p .backward) (p .backward .active) few (b .backward) in
+    let f : PassReady max-variables (p .forward) = ready-later n max-variables (p .forward) (p .forward .active) few (b .forward) in
+    let g : PassReady max-variables (p .backward) = ready-later n max-variables (p .backward) (p .backward .active) few (b .backward) in
     simp length-append (omega (
       arith,
       f .few,
@@ -212,28 +212,28 @@ low-steps p ms most e few low j l =
 
 pub arranged-most : (g : Graph) (made : Arranged) → read made ≡ planned g → valid g ≡ true → Bounded (made .keys) (made .plan)
     → length (arraysText made) ≤ text-room
-unfolding planned read planOf graphPlan lists.plan
+unfolding planned read planIn graphPlan schedule.plan
 arranged-most g made is v b =
     let n = g .variables in
     let few : n ≤ max-variables = valid-variables g v in
-    let a : Answer = record { outcome = Made; keys = n; plan = graphPlan g } in
+    let a : Answer = record { outcome = Done; keys = n; plan = graphPlan g } in
     let e : read made ≡ a = is ∙ rw v refl in
     let k : made .keys ≡ n = ap (λ (x : Answer). x .keys) e in
     plan-most (made .keys) (made .plan) (omega arith) b
     (low-steps (made .plan .forward) _ n (ap (λ (x : Answer). x .plan .forward) e) few
-    (λ j l. omega (arith, order-steps n (keysOf g) (from 0 (g .count)) (from 0 n) (λ i. refl) j l, length-from 0 n)))
+    (λ j l. omega (arith, order-steps n (factorKeys g) (from 0 (g .count)) (from 0 n) (λ i. refl) j l, length-from 0 n)))
     (low-steps (made .plan .backward) _ n (ap (λ (x : Answer). x .plan .backward) e) few
     (λ j l. omega (
       arith,
-      order-steps n (keysOf g) (from 0 (g .count)) (reverse (from 0 n)) (λ i. count-reverse i (from 0 n)) j l,
+      order-steps n (factorKeys g) (from 0 (g .count)) (reverse (from 0 n)) (λ i. count-reverse i (from 0 n)) j l,
       length-reverse (from 0 n),
       length-from 0 n,
     )))
 
 -- ---- what a job shows
 
-pub refusal-within : (why : Refusal) (place : ℕ) → place < 2 ^ 64 → length (refusalText (numberOf why) reading-stage place) ≤ text-room
-refusal-within why place l = omega (arith, refusal-most (numberOf why) reading-stage place (omega (arith, number-most why)) (omega arith) l)
+pub refusal-within : (why : Refusal) (place : ℕ) → place < 2 ^ 64 → length (refusalText (refusalNumber why) reading-stage place) ≤ text-room
+refusal-within why place l = omega (arith, refusal-most (refusalNumber why) reading-stage place (omega (arith, number-most why)) (omega arith) l)
 
 -- an equal text is laid alike, and is as long
 pub all-same : (out s t : List ℕ) (r : Written) (after : List ℕ) → s ≡ t → Lays out s r after → length s ≤ text-room

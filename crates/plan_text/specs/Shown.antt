@@ -1,7 +1,7 @@
 -- What the calls answer and leave in the buffer. Definitions only.
 use mathlib.Core.List.{List}
 use Prim.Native.Nat.{ℕ}
-use Rattle.graph.specs.Refusals.{numberOf}
+use Rattle.graph.specs.Refusals.{refusalNumber}
 use Rattle.graph.specs.declared.Graph.{Graph}
 use Rattle.records.specs.Records.{readAll}
 use Rattle.records.specs.declared.answer.Ended as records
@@ -20,18 +20,18 @@ use Rattle.plan_text.specs.declared.Shown.the-variants.{Length, Short, R
 -- ---- the plan of a graph
 
 -- the plan's own refusal, or how the laying of its text ended
-abbrev pub endedAs : Outcome → Written → Shown
-endedAs outcome.Made (laying.Length n) = Length n
-endedAs outcome.Made laying.Short = Short
-endedAs (outcome.Refused why) w = Refused why
+abbrev pub shownAs : Outcome → Written → Shown
+shownAs outcome.Done (laying.Length n) = Length n
+shownAs outcome.Done laying.Short = Short
+shownAs (outcome.Refused why) w = Refused why
 
 -- a refused plan leaves the buffer as it was
 abbrev pub leftAs : Outcome → (out after : List ℕ) → List ℕ
-leftAs outcome.Made out after = after
+leftAs outcome.Done out after = after
 leftAs (outcome.Refused why) out after = out
 
 abbrev pub shownOf : Answer → List ℕ → Shown
-shownOf a out = endedAs (a .outcome) (written out (planText (a .plan)))
+shownOf a out = shownAs (a .outcome) (written out (planText (a .plan)))
 
 abbrev pub leftOf : Answer → List ℕ → List ℕ
 leftOf a out = leftAs (a .outcome) out (laidIn out (planText (a .plan)))
@@ -45,12 +45,12 @@ shownIn g out = leftOf (planned g) out
 -- ---- the plan of a job
 
 -- how the reading ended: a refused job has no plan
-abbrev pub readText : records.Ended → Graph → List ℕ
-readText reading.Whole g = planText (graphPlan g)
-readText (reading.Refused why place) g = refusalText (numberOf why) reading-stage place
+abbrev pub shownText : records.Ended → Graph → List ℕ
+shownText reading.Done g = planText (graphPlan g)
+shownText (reading.Refused why place) g = refusalText (refusalNumber why) reading-stage place
 
 unfoldable pub showText : List ℕ → List ℕ
-showText bytes = readText (readAll bytes (zeros factor-room) .answer .ended) (readAll bytes (zeros factor-room) .answer .graph)
+showText bytes = shownText (readAll bytes (zeros factor-room) .answer .ended) (readAll bytes (zeros factor-room) .answer .graph)
 
 -- no text of a job's plan is longer
 abbrev pub text-room : ℕ

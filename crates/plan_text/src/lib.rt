@@ -23,7 +23,7 @@ use text::put_decimal;
 use text::put_field;
 use text::put_word;
 ghost use mathlib.Core.Path.{_≡_};
-ghost use mathlib.Core.List.{[], _∷_, map};
+ghost use mathlib.Core.List.{[], map};
 ghost use Prim.Native.Nat.{_≤_, _<_};
 ghost use lib.ListN.{length, take, drop};
 ghost use Rattle.factor.specs.Limits.{max-variables, max-factors};
@@ -33,9 +33,9 @@ ghost use Rattle.lines.specs.Lines.{written, laidIn};
 ghost use Rattle.schedule.specs.Count.{joined, putIf};
 ghost use Rattle.plan.specs.Limits.{pass-slots};
 ghost use Rattle.plan.specs.Mask.{has, keysIn};
-ghost use Rattle.plan.specs.Pass.{Ready, slotOf, msgAt, messagesOf};
+ghost use Rattle.plan.specs.Pass.{PassReady, passSlot, msgAt, messagesOf};
 ghost use Rattle.plan.specs.Gather.{Held, gatheredOf};
-ghost use Rattle.plan.specs.Plan.{Bounded, planOf};
+ghost use Rattle.plan.specs.Plan.{Bounded, planIn};
 ghost use Rattle.plan_text.specs.Text as spec;
 ghost use Rattle.plan_text.specs.Shown.{shown, shownIn, showText, text-room};
 
@@ -51,7 +51,7 @@ pub enum Shown {
 
 // A slot by its number in the pass: an original, or a message.
 fn put_slot(out: &mut [u8], at: usize, s: usize) -> usize
-    ensures { λ r. ⌜ Puts (now (out .entry)) (now (out .exit)) at r (spec.slotText (slotOf s)) ⌝ }
+    ensures { λ r. ⌜ Puts (now (out .entry)) (now (out .exit)) at r (spec.slotText (passSlot s)) ⌝ }
 {
     if s < FACTORS {
         return put_field(out, at, s);
@@ -99,7 +99,7 @@ fn put_content(
     end: usize,
 ) -> usize
     requires { ⌜ (from ≤ end) × (end ≤ pass-slots) ⌝ }
-    ensures { λ r. ⌜ Puts (now (out .entry)) (now (out .exit)) at r (spec.contentText (map slotOf (drop from (take end content)))) ⌝ }
+    ensures { λ r. ⌜ Puts (now (out .entry)) (now (out .exit)) at r (spec.contentText (map passSlot (drop from (take end content)))) ⌝ }
 {
     let mut to = put_word(out, at, b" content");
     for i in from..end {
@@ -131,7 +131,7 @@ fn put_items(
 
 // The line of the message j, led by the name of its pass.
 fn put_message(out: &mut [u8], at: usize, name: &[u8], messages: Pass, j: usize) -> usize
-    requires { ⌜ Ready max-variables messages ⌝ }
+    requires { ⌜ PassReady max-variables messages ⌝ }
     requires { ⌜ j < messages .count ⌝ }
     ensures { λ r. ⌜ Puts (now (out .entry)) (now (out .exit)) at r (spec.messageText (now (name .entry)) j (msgAt messages j)) ⌝ }
 {
@@ -152,7 +152,7 @@ fn put_message(out: &mut [u8], at: usize, name: &[u8], messages: Pass, j: usize)
 
 // The lines of all messages of a pass.
 fn put_pass(out: &mut [u8], at: usize, name: &[u8], messages: Pass) -> usize
-    requires { ⌜ Ready max-variables messages ⌝ }
+    requires { ⌜ PassReady max-variables messages ⌝ }
     ensures { λ r. ⌜ Puts (now (out .entry)) (now (out .exit)) at r (spec.numbered (spec.messageText (now (name .entry))) 0 (messagesOf messages)) ⌝ }
 {
     let mut to = at;
@@ -195,7 +195,7 @@ fn put_keys(out: &mut [u8], at: usize, plan: Plan, n: usize) -> usize
 // The whole plan of n keys, from the buffer's start.
 fn put_plan(out: &mut [u8], plan: Plan, n: usize) -> usize
     requires { ⌜ (n ≤ max-variables) × Bounded n plan ⌝ }
-    ensures { λ r. ⌜ Puts (now (out .entry)) (now (out .exit)) 0 r (spec.planText (planOf n plan)) ⌝ }
+    ensures { λ r. ⌜ Puts (now (out .entry)) (now (out .exit)) 0 r (spec.planText (planIn n plan)) ⌝ }
 {
     let fw = plan.forward;
     let bw = plan.backward;
@@ -207,8 +207,8 @@ fn put_plan(out: &mut [u8], plan: Plan, n: usize) -> usize
 // The text of a plan at the buffer's start, where it fits. The first run is into one byte that nobody reads: it finds the length.
 fn lay_arrays(plan: Plan, n: usize, out: &mut [u8]) -> Written
     requires { ⌜ (n ≤ max-variables) × Bounded n plan ⌝ }
-    ensures { λ r. ⌜ r ≡ written (now (out .entry)) (spec.planText (planOf n plan)) ⌝ }
-    ensures { λ _. ⌜ now (out .exit) ≡ laidIn (now (out .entry)) (spec.planText (planOf n plan)) ⌝ }
+    ensures { λ r. ⌜ r ≡ written (now (out .entry)) (spec.planText (planIn n plan)) ⌝ }
+    ensures { λ _. ⌜ now (out .exit) ≡ laidIn (now (out .entry)) (spec.planText (planIn n plan)) ⌝ }
 {
     let mut nowhere = [0u8; 1];
     let length = put_plan(&mut nowhere, plan, n);
@@ -229,7 +229,7 @@ pub fn lay_plan(g: Graph, out: &mut [u8]) -> Shown
     let p = made.plan;
     let outcome = made.outcome;
     match outcome {
-        Outcome::Made => match lay_arrays(p, made.keys, out) {
+        Outcome::Done => match lay_arrays(p, made.keys, out) {
             Written::Length(n) => Shown::Length(n),
             Written::Short => Shown::Short,
         },
@@ -249,7 +249,7 @@ pub fn show(bytes: &[u8], out: &mut [u8]) -> Written
     let g = read.graph;
     let ended = read.ended;
     match ended {
-        records::answer::Ended::Whole => {
+        records::answer::Ended::Done => {
             let made = solver::arrange(g);
             let p = made.plan;
             lay_arrays(p, made.keys, out)

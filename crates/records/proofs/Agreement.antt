@@ -15,9 +15,9 @@ use Rattle.graph.specs.Record.{sizeAt, valid}
 use Rattle.graph.specs.Registration.{countsFit}
 use Rattle.graph.proofs.Validity.{valid-size, size-most}
 use Rattle.graph.specs.declared.Graph.{Graph}
-use Rattle.records.specs.Bytes.{float-bytes, byteAt, cut, wordAt, numberAt, listed, keysAt, numbersAt}
-use Rattle.records.specs.Records.{Request, header-bytes, most-given, longest, variableAt, priorNumbers, priorAt, meaning, flagKnown, given}
-use Rattle.records.specs.Records.{varianceAt, observedNumbers, observed, observationAt, markOf, marked, recordAt}
+use Rattle.records.specs.Bytes.{float-bytes, byteAt, cut, wordAt, numberAt, listed, keysRead, numbersAt}
+use Rattle.records.specs.Records.{Request, header-bytes, most-given, longest, variableAt, priorNumbers, priorAt, meaning, flagKnown, givenNumbers}
+use Rattle.records.specs.Records.{varianceRead, observedNumbers, observed, observationAt, markOf, marked, recordAt}
 use Rattle.records.specs.declared.kinds.Flag.{Flag}
 use Rattle.records.specs.declared.kinds.Flag.the-variants.{Identity, Given, Unknown}
 use Rattle.records.specs.declared.kinds.Mark.{Mark}
@@ -36,7 +36,7 @@ else-as : (t s : Bool) (p q r : Request) → t ≡ s → (t ≡ false → q ≡ 
 else-as true s p q r e h = rw (sym e)
 else-as false s p q r e h = rw (sym e) (h refl)
 
-pub given-most : (flag : Flag) (rows : ℕ) → given flag rows ≤ rows * rows
+pub given-most : (flag : Flag) (rows : ℕ) → givenNumbers flag rows ≤ rows * rows
 given-most Identity rows = omega arith
 given-most Given rows = omega arith
 given-most Unknown rows = omega arith
@@ -57,7 +57,7 @@ module _ (b c : List ℕ) (most : ℕ) (same : Agree b c most) where
   numbers-as : (at n : ℕ) → at + 8 * n ≤ most → numbersAt b at n ≡ numbersAt c at n
   numbers-as at n l = listed-as (λ i. numberAt b (at + 8 * i)) (λ i. numberAt c (at + 8 * i)) n (λ i m. number-as (at + 8 * i) (omega arith))
 
-  keys-as : (at n : ℕ) → at + n ≤ most → keysAt b at n ≡ keysAt c at n
+  keys-as : (at n : ℕ) → at + n ≤ most → keysRead b at n ≡ keysRead c at n
   keys-as at n l = listed-as (λ i. byteAt b (at + i)) (λ i. byteAt c (at + i)) n (λ i m. same .bytes (at + i) (omega arith))
 
   variable-as : (at : ℕ) → at + 9 ≤ most → variableAt b at ≡ variableAt c at
@@ -79,17 +79,17 @@ module _ (b c : List ℕ) (most : ℕ) (same : Agree b c most) where
       let s : sizeAt g (byteAt c at) ≤ max-size = size-most _ (valid-size g v (byteAt c at) (ltb-true _ _ (not-false _ t))) in
       prior-numbers-as store (byteAt c at) (sizeAt g (byteAt c at)) (at + 1) (omega (arith, mul-le-mul s s)))))
 
-  variance-as : (flag : Flag) (at rows : ℕ) → at + 8 * given flag rows ≤ most → varianceAt flag b at rows ≡ varianceAt flag c at rows
+  variance-as : (flag : Flag) (at rows : ℕ) → at + 8 * givenNumbers flag rows ≤ most → varianceRead flag b at rows ≡ varianceRead flag c at rows
   variance-as Identity at rows l = refl
   variance-as Given at rows l = numbers-as at (rows * rows) l
   variance-as Unknown at rows l = refl
 
-  observed-numbers-as : (store : List Float) (keys : List ℕ) (rows : ℕ) (flag : Flag) (n at : ℕ) → at + 8 * (n + rows + given flag rows) ≤ most
+  observed-numbers-as : (store : List Float) (keys : List ℕ) (rows : ℕ) (flag : Flag) (n at : ℕ) → at + 8 * (n + rows + givenNumbers flag rows) ≤ most
       → observedNumbers store b keys rows flag n at ≡ observedNumbers store c keys rows flag n at
   unfolding observedNumbers
   observed-numbers-as store keys rows flag n at l =
       rw (
-        same .ends (at + 8 * (n + rows + given flag rows)) l,
+        same .ends (at + 8 * (n + rows + givenNumbers flag rows)) l,
         numbers-as at n (omega arith),
         numbers-as (at + 8 * n) rows (omega arith),
         variance-as flag (at + 8 * (n + rows)) rows (omega arith),
@@ -118,10 +118,10 @@ module _ (b c : List ℕ) (most : ℕ) (same : Agree b c most) where
       (λ _. else-as (not (countsFit (byteAt c at) (byteAt c (at + 1)))) (not (countsFit (byteAt c at) (byteAt c (at + 1)))) _ _ _ refl
       (λ h4.
       let k : byteAt c at ≤ max-keys = few-keys _ _ (not-false _ h4) in
-      let y : countsFit (length (keysAt c (at + 3) (byteAt c at))) (byteAt c (at + 1))
+      let y : countsFit (length (keysRead c (at + 3) (byteAt c at))) (byteAt c (at + 1))
       ≡ true = rw (listed-length (λ i. byteAt c (at + 3 + i)) (byteAt c at)) (not-false _ h4) in
       else-as (cut b (at + 3) (byteAt c at)) (cut c (at + 3) (byteAt c at)) _ _ _ (same .ends (at + 3 + byteAt c at) (omega arith))
-      (λ _. rw (keys-as (at + 3) (byteAt c at) (omega arith)) (observed-as g store (keysAt c (at + 3) (byteAt c at)) (byteAt c (at + 1))
+      (λ _. rw (keys-as (at + 3) (byteAt c at) (omega arith)) (observed-as g store (keysRead c (at + 3) (byteAt c at)) (byteAt c (at + 1))
       (meaning (byteAt c (at + 2))) (at + 3 + byteAt c at) v y (omega arith)))))))
 
   marked-as : (m : Mark) (g : Graph) (store : List Float) (at : ℕ) → valid g ≡ true → at + header-bytes + max-keys + float-bytes * most-given ≤ most

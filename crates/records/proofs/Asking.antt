@@ -15,9 +15,9 @@ use Rattle.graph.specs.declared.Symbol.{Symbol}
 use Rattle.graph.specs.declared.Graph.{Graph}
 use Rattle.graph.specs.declared.refusal.Refusal.{Refusal}
 use Rattle.graph.proofs.Checking.{few-keys}
-use Rattle.records.specs.Bytes.{float-bytes, byteAt, cut, keysAt}
+use Rattle.records.specs.Bytes.{float-bytes, byteAt, cut, keysRead}
 use Rattle.records.specs.Records.{Request, ask, refuse, mark-bytes, variable-bytes, header-bytes, factor-frame, variableAt, priorNumbers}
-use Rattle.records.specs.Records.{priorAt, meaning, flagKnown, given, observedNumbers, observed, observationAt, markOf, marked, recordAt}
+use Rattle.records.specs.Records.{priorAt, meaning, flagKnown, givenNumbers, observedNumbers, observed, observationAt, markOf, marked, recordAt}
 use Rattle.records.specs.declared.kinds.Flag.{Flag}
 use Rattle.records.specs.declared.kinds.Mark.{Mark}
 use Rattle.records.specs.declared.kinds.Mark.the-variants as mark
@@ -33,7 +33,7 @@ module _ (g : Graph) (store : List Float) (bytes : List ℕ) (start : ℕ) where
   priorBytes key = float-bytes * (sizeAt g key + sizeAt g key * sizeAt g key)
 
   abbrev observationBytes : List ℕ → ℕ → Flag → ℕ
-  observationBytes keys rows flag = float-bytes * (aNumbers (g .sizes) (observationOf keys rows) + rows + given flag rows)
+  observationBytes keys rows flag = float-bytes * (aNumbers (g .sizes) (observationOf keys rows) + rows + givenNumbers flag rows)
 
   -- nothing, because it is turned back, or a call
   pub data Asks : Request → Type 0 where
@@ -76,7 +76,7 @@ module _ (g : Graph) (store : List Float) (bytes : List ℕ) (start : ℕ) where
       (λ _. else-asks (not (flagKnown (meaning (byteAt bytes (at + 2))))) _ _
       (λ _. else-asks (not (countsFit count (byteAt bytes (at + 1)))) _ _
       (λ h4. else-asks (cut bytes (at + header-bytes) count) _ _
-      (λ _. observed-asks (keysAt bytes (at + header-bytes) count) (byteAt bytes (at + 1)) (meaning (byteAt bytes (at + 2)))
+      (λ _. observed-asks (keysRead bytes (at + header-bytes) count) (byteAt bytes (at + 1)) (meaning (byteAt bytes (at + 2)))
       (at + header-bytes + count) (omega arith) (omega (arith, few-keys _ _ (not-false _ h4)))))))
   marked-asks mark.Unmarked = nothing _
 

@@ -9,7 +9,7 @@ use Rattle.graph.specs.Registration.{withVariable, withFactor}
 use Rattle.graph.specs.declared.refusal.Refusal.the-variants.{KeysNotRising, CountOutside, BadRecord, NoSuchKey}
 use Rattle.records.specs.Records.{Reading, reading, readAll}
 use Rattle.records.specs.declared.answer.Ended.{Ended}
-use Rattle.records.specs.declared.answer.Ended.the-variants.{Whole, Refused}
+use Rattle.records.specs.declared.answer.Ended.the-variants.{Done, Refused}
 use Rattle.records.proofs.Computing.{computedReading}
 
 -- 2.0 and 4.0 in a job, and 0.5 and 0.25
@@ -41,12 +41,12 @@ abbrev ended : List ℕ → Ended
 ended bytes = job bytes .answer .ended
 
 -- nothing at all is a whole job
-no-records : job [] ≡ reading fresh Whole (nan ∷ nan ∷ nan ∷ [])
+no-records : job [] ≡ reading fresh Done (nan ∷ nan ∷ nan ∷ [])
 unfolding computedReading
 no-records = refl
 
 -- one variable and one prior, whose xi and W are stored
-one-prior : job (variable-bytes 0 ++ prior-bytes) ≡ reading (withFactor (withVariable fresh (0x61, 0) 1) (priorOf 0 1)) Whole (half ∷ quarter ∷ nan ∷ [])
+one-prior : job (variable-bytes 0 ++ prior-bytes) ≡ reading (withFactor (withVariable fresh (0x61, 0) 1) (priorOf 0 1)) Done (half ∷ quarter ∷ nan ∷ [])
 unfolding computedReading
 one-prior = refl
 

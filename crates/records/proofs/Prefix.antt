@@ -15,10 +15,10 @@ use Rattle.graph.specs.Reached.{Reached}
 use Rattle.graph.specs.declared.Graph.{Graph}
 use Rattle.graph.proofs.Validity.{valid-variables, valid-count}
 use Rattle.graph.proofs.Keeping.{good-of}
-use Rattle.records.specs.Records.{longest, enough, stepOf, storeAfter, recordAt, Reading, reading, onward, readFrom, readAll}
+use Rattle.records.specs.Records.{longest, enough, stepOf, requestStore, recordAt, Reading, reading, onward, readFrom, readAll}
 use Rattle.records.specs.declared.answer.Next.{Next}
-use Rattle.records.specs.declared.answer.Next.the-variants.{At, Stop}
-use Rattle.records.specs.declared.answer.Ended.the-variants.{Whole}
+use Rattle.records.specs.declared.answer.Next.the-variants.{At, Refused}
+use Rattle.records.specs.declared.answer.Ended.the-variants.{Done}
 use Rattle.records.proofs.Agreement.{Agree, record-as}
 use Rattle.records.proofs.Progress.{most-read, record-bounded}
 use Rattle.graph.proofs.Calls.{fresh-reached}
@@ -39,10 +39,10 @@ module _ (b c : List ℕ) (room most : ℕ) (much : enough room ≤ most) (same 
   onward-as : (next : Next) (g : Graph) (s : List Float) (place : ℕ) (f h : ℕ → Reading) → ((n : ℕ) → next ≡ At n → f n ≡ h n)
       → onward next g s place f ≡ onward next g s place h
   onward-as (At n) g s place f h e = e n refl
-  onward-as (Stop why) g s place f h e = refl
+  onward-as (Refused why) g s place f h e = refl
 
   ended : (turns : ℕ) (at place : ℕ) (bytes : List ℕ) (g : Graph) (store : List Float) → ltb at (length bytes) ≡ false
-      → readFrom turns bytes at place g store ≡ reading g Whole store
+      → readFrom turns bytes at place g store ≡ reading g Done store
   unfolding readFrom
   ended zero at place bytes g store e = refl
   ended (suc turns) at place bytes g store e = rw e
@@ -52,7 +52,7 @@ module _ (b c : List ℕ) (room most : ℕ) (much : enough room ≤ most) (same 
     rest = stepOf g (recordAt g store c at) .graph
 
     abbrev left : List Float
-    left = storeAfter g store (recordAt g store c at)
+    left = requestStore g store (recordAt g store c at)
 
     one-turn : (m n : ℕ) → ltb at (length b) ≡ ltb at (length c) → recordAt g store b at ≡ recordAt g store c at
         → ((k : ℕ) → stepOf g (recordAt g store c at) .next ≡ At k → readFrom m b k (place + 1) rest left ≡ readFrom n c k (place + 1) rest left)
@@ -60,7 +60,7 @@ module _ (b c : List ℕ) (room most : ℕ) (much : enough room ≤ most) (same 
     unfolding readFrom
     one-turn m n t e h =
         rw (t, e)
-        (ap (λ (x : Reading). cond (ltb at (length c)) x (reading g Whole store)) (onward-as (stepOf g (recordAt g store c at) .next) rest left place _ _ h))
+        (ap (λ (x : Reading). cond (ltb at (length c)) x (reading g Done store)) (onward-as (stepOf g (recordAt g store c at) .next) rest left place _ _ h))
 
   -- so far, the records of both are the same
   far : (at : ℕ) (g : Graph) (store : List Float) → Reached g → length store ≤ room → offset g (g .count) ≤ length store → at ≤ most-read g

@@ -8,7 +8,7 @@ use lib.Ieee.{Float}
 use lib.ListN.{length}
 use lib.Seq.{getD-set-same, getD-set-other}
 use Rattle.factor.specs.Limits.{max-factors}
-use Rattle.factor.specs.Factor.{past, keyAt, priorOf, observationOf, firstColumn, width, aNumbers, numbers}
+use Rattle.factor.specs.Factor.{absent, keyAt, priorOf, observationOf, firstColumn, width, aNumbers, numbers}
 use Rattle.factor.specs.declared.Factor.{Factor}
 use Rattle.factor.proofs.Counting.{sum-ext}
 use Rattle.factor.proofs.Fitting.{fits-key}
@@ -55,11 +55,11 @@ module _ (g : Graph) (v : valid g ≡ true) (name : Symbol) (size : ℕ) where
 module _ (g : Graph) (sh : Shaped g) (f : Factor) (room : g .count < max-factors) where
   factor-before : offset (withFactor g f) (g .count) ≡ offset g (g .count)
   unfolding offset
-  factor-before = sum-ext _ _ (g .count) (λ i l. ap (numbers (g .sizes)) (getD-set-other (g .factors) (g .count) i f past (λ e. omega arith)))
+  factor-before = sum-ext _ _ (g .count) (λ i l. ap (numbers (g .sizes)) (getD-set-other (g .factors) (g .count) i f absent (λ e. omega arith)))
 
   factor-offset : offset (withFactor g f) (g .count + 1) ≡ offset g (g .count) + numbers (g .sizes) f
   factor-offset =
-      let h : factorAt (withFactor g f) (g .count) ≡ f = getD-set-same (g .factors) (g .count) f past (omega (arith, sh .factors)) in
+      let h : factorAt (withFactor g f) (g .count) ≡ f = getD-set-same (g .factors) (g .count) f absent (omega (arith, sh .factors)) in
       offset-more (withFactor g f) (g .count) ∙ rw (h, factor-before)
 
 -- ---- an accepted call raises the bound by its record's length, or more

@@ -12,16 +12,16 @@ use Rattle.graph.specs.declared.Graph.{Graph}
 use Rattle.graph.specs.declared.Outcome.{Outcome}
 use Rattle.graph.specs.declared.Outcome.the-variants as outcome
 use Rattle.graph.specs.declared.refusal.Refusal.{Refusal}
-use Rattle.records.specs.Records.{Request, ask, refuse, recordAt, nextOf, stepOf, storeAfter, Reading, reading, onward, readFrom}
-use Rattle.records.specs.declared.answer.Next.the-variants.{At, Stop}
+use Rattle.records.specs.Records.{Request, ask, refuse, recordAt, nextOf, stepOf, requestStore, Reading, reading, onward, readFrom}
+use Rattle.records.specs.declared.answer.Next.the-variants as next-record
 use Rattle.records.specs.declared.answer.Step.{Step}
-use Rattle.records.specs.declared.answer.Ended.the-variants.{Whole, Refused}
+use Rattle.records.specs.declared.answer.Ended.the-variants.{Done, Refused}
 use Rattle.records.proofs.Asking.{Present, Asks, nothing, variable-asked, prior-asked, observation-asked, asks}
 
 -- ---- the next record begins later, within the bytes
 
 -- the place that a call goes on at is that of its request
-next-is : (o : Outcome) (next n : ℕ) → nextOf o next ≡ At n → next ≡ n
+next-is : (o : Outcome) (next n : ℕ) → nextOf o next ≡ next-record.At n → next ≡ n
 next-is (outcome.Key k) next n h = cc
 next-is (outcome.Number k) next n h = cc
 next-is (outcome.Refused why) next n h = absurd (let z : _≡_ {A = ℕ} 0 1 = cc in omega arith)
@@ -30,14 +30,14 @@ module _ (bytes : List ℕ) (g : Graph) (store : List Float) (at n : ℕ) where
   ends : {from k : ℕ} → Present g store bytes at from k → from + k ≡ n → (at < n) × (n ≤ length bytes)
   ends w e = let l = w .later in let m : _ + _ ≤ length bytes = ltb-false _ _ (w .there) in (omega arith, omega arith)
 
-  goes-on : {q : Request} → Asks g store bytes at q → stepOf g q .next ≡ At n → (at < n) × (n ≤ length bytes)
+  goes-on : {q : Request} → Asks g store bytes at q → stepOf g q .next ≡ next-record.At n → (at < n) × (n ≤ length bytes)
   goes-on (nothing why) e = absurd (let z : _≡_ {A = ℕ} 0 1 = cc in omega arith)
   goes-on (variable-asked name size w) e = ends w (next-is (answered g (variable name size) .outcome) _ n e)
   goes-on (prior-asked key mean variance from w) e = ends w (next-is (answered g (register (prior key mean variance) store) .outcome) _ n e)
   goes-on (observation-asked keys rows flag a mean variance from w) e = ends w
       (next-is (answered g (register (observation keys rows a mean variance) store) .outcome) _ n e)
 
-  pub record-next : stepOf g (recordAt g store bytes at) .next ≡ At n → (at < n) × (n ≤ length bytes)
+  pub record-next : stepOf g (recordAt g store bytes at) .next ≡ next-record.At n → (at < n) × (n ≤ length bytes)
   record-next e = goes-on (asks g store bytes at) e
 
 -- ---- the graphs on the way are those that calls yield
@@ -51,24 +51,25 @@ step-reached g (refuse why) r = r
 module _ (bytes : List ℕ) (at place : ℕ) (g : Graph) (store : List Float) (all : Reading)
     (e : all ≡ readFrom (length bytes - place) bytes at place g store) where
   -- no bytes are left
-  pub all-read : length bytes ≤ at → all ≡ reading g Whole store
+  pub all-read : length bytes ≤ at → all ≡ reading g Done store
   unfolding readFrom
   all-read l = e ∙ by (length bytes - place)
     where
-      by : (turns : ℕ) → readFrom turns bytes at place g store ≡ reading g Whole store
+      by : (turns : ℕ) → readFrom turns bytes at place g store ≡ reading g Done store
       by zero = refl
       by (suc turns) = rw (le-ltb at (length bytes) l)
 
   module _ (left : at < length bytes) (counted : place ≤ at) (step : Step) (s : List Float) (es : step ≡ stepOf g (recordAt g store bytes at))
-      (et : s ≡ storeAfter g store (recordAt g store bytes at)) where
+      (et : s ≡ requestStore g store (recordAt g store bytes at)) where
     one-turn : all ≡ onward (step .next) (step .graph) s place (λ next. readFrom (length bytes - (place + 1)) bytes next (place + 1) (step .graph) s)
     unfolding readFrom
     one-turn = let n : length bytes - place ≡ suc (length bytes - (place + 1)) = omega arith in e ∙ rw (n, lt-ltb at (length bytes) left, es, et)
 
-    pub on : (n : ℕ) → step .next ≡ At n → (all ≡ readFrom (length bytes - (place + 1)) bytes n (place + 1) (step .graph) s) × (at < n) × (n ≤ length bytes)
+    pub on : (n : ℕ) → step .next ≡ next-record.At n → (all ≡ readFrom (length bytes - (place + 1)) bytes n (place + 1) (step .graph) s) × (at < n) ×
+        (n ≤ length bytes)
     on n h =
         let w : (at < n) × (n ≤ length bytes) = record-next bytes g store at n (ap (λ (x : Step). x .next) (sym es) ∙ h) in
         (one-turn ∙ rw h, w .0, w .1)
 
-    pub off : (why : Refusal) → step .next ≡ Stop why → all ≡ reading (step .graph) (Refused why place) s
+    pub off : (why : Refusal) → step .next ≡ next-record.Refused why → all ≡ reading (step .graph) (Refused why place) s
     off why h = one-turn ∙ rw h

@@ -11,12 +11,12 @@ use Rattle.graph.specs.declared.refusal.Refusal.{Refusal}
 use Rattle.graph.specs.declared.refusal.Refusal.the-variants.{BadRecord}
 use Rattle.graph.specs.Reached.{variable}
 use Rattle.records.specs.Bytes.{byteAt, cut, wordAt}
-use Rattle.records.specs.Records.{Request, ask, refuse, variableAt, stepOf, stopped, storeAfter}
+use Rattle.records.specs.Records.{Request, ask, refuse, variableAt, stepOf, stopped, requestStore}
 use Rattle.records.specs.declared.answer.Step.{Step}
 
 -- what a function answers for a request, and how it leaves the store
 abbrev pub Meets : Graph → List Float → Request → Step → List Float → Type 0
-Meets g store q r s = (r ≡ stepOf g q) × (s ≡ storeAfter g store q)
+Meets g store q r s = (r ≡ stepOf g q) × (s ≡ requestStore g store q)
 
 -- a refusal answers the graph as it came, and leaves the store
 pub turned : (g : Graph) (store s : List Float) (q : Request) (why : Refusal) (r : Step) → q ≡ refuse why → r ≡ stopped g why → s ≡ store → Meets g store q r s
@@ -27,11 +27,11 @@ pub met : (g : Graph) (store s : List Float) (p q : Request) (r : Step) → p �
 met g store s p q r e h = rw e h
 
 -- a variable stores no numbers
-pub as-it-was : (g : Graph) (store : List Float) (bytes : List ℕ) (at : ℕ) → store ≡ storeAfter g store (variableAt bytes at)
+pub as-it-was : (g : Graph) (store : List Float) (bytes : List ℕ) (at : ℕ) → store ≡ requestStore g store (variableAt bytes at)
 unfolding variableAt
 as-it-was g store bytes at = by (cut bytes at 9)
   where
-    by : (b : Bool) → store ≡ storeAfter g store (cond b (refuse BadRecord)
+    by : (b : Bool) → store ≡ requestStore g store (cond b (refuse BadRecord)
         (ask (variable (wordAt bytes at, wordAt bytes (at + 4)) (byteAt bytes (at + 8))) (at + 9)))
     by true = refl
     by false = refl

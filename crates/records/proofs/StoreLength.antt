@@ -18,7 +18,7 @@ use Rattle.records.proofs.Asking.{Asks, nothing, variable-asked, prior-
 use Rattle.graph.proofs.Calls.{Comes, turned, named, taken, comes}
 use Rattle.graph.specs.declared.Added.{Added}
 use Rattle.graph.specs.declared.Graph.{Graph}
-use Rattle.records.specs.Records.{Request, recordAt, storeAfter}
+use Rattle.records.specs.Records.{Request, recordAt, requestStore}
 
 -- ---- the store of a call
 
@@ -54,11 +54,11 @@ call-kept g store c = comes-kept (comes g store c)
 
 -- ---- the store of a record
 
-asks-kept : {g : Graph} {store : List Float} {bytes : List ℕ} {at : ℕ} {q : Request} → Asks g store bytes at q → length (storeAfter g store q) ≡ length store
+asks-kept : {g : Graph} {store : List Float} {bytes : List ℕ} {at : ℕ} {q : Request} → Asks g store bytes at q → length (requestStore g store q) ≡ length store
 asks-kept (nothing why) = refl
 asks-kept (variable-asked name size w) = refl
 asks-kept {g} {store} (prior-asked key mean variance from w) = call-kept g store (register (prior key mean variance) store)
 asks-kept {g} {store} (observation-asked keys rows flag a mean variance from w) = call-kept g store (register (observation keys rows a mean variance) store)
 
-pub record-same : (g : Graph) (store : List Float) (bytes : List ℕ) (at : ℕ) → length (storeAfter g store (recordAt g store bytes at)) ≡ length store
+pub record-same : (g : Graph) (store : List Float) (bytes : List ℕ) (at : ℕ) → length (requestStore g store (recordAt g store bytes at)) ≡ length store
 record-same g store bytes at = asks-kept (asks g store bytes at)

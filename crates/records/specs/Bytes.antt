@@ -32,8 +32,8 @@ listed f zero = []
 listed f (suc n) = listed f n ++ (f n ∷ [])
 
 -- n bytes as numbers, and n floats
-abbrev pub keysAt : (bytes : List ℕ) (at n : ℕ) → List ℕ
-keysAt bytes at n = listed (λ i. byteAt bytes (at + i)) n
+abbrev pub keysRead : (bytes : List ℕ) (at n : ℕ) → List ℕ
+keysRead bytes at n = listed (λ i. byteAt bytes (at + i)) n
 
 abbrev pub numbersAt : (bytes : List ℕ) (at n : ℕ) → List Float
 numbersAt bytes at n = listed (λ i. numberAt bytes (at + float-bytes * i)) n

@@ -18,16 +18,16 @@ use Rattle.graph.specs.declared.Outcome.{Outcome}
 use Rattle.graph.specs.declared.Outcome.the-variants as outcome
 use Rattle.graph.specs.declared.refusal.Refusal.{Refusal}
 use Rattle.graph.specs.declared.refusal.Refusal.the-variants.{KeysNotRising, CountOutside, BadRecord, NoSuchKey}
-use Rattle.records.specs.Bytes.{float-bytes, byteAt, cut, wordAt, keysAt, numbersAt}
+use Rattle.records.specs.Bytes.{float-bytes, byteAt, cut, wordAt, keysRead, numbersAt}
 use Rattle.records.specs.declared.kinds.Mark.{Mark}
 use Rattle.records.specs.declared.kinds.Mark.the-variants as mark
 use Rattle.records.specs.declared.kinds.Flag.{Flag}
 use Rattle.records.specs.declared.kinds.Flag.the-variants.{Identity, Given, Unknown}
 use Rattle.records.specs.declared.answer.Next.{Next}
-use Rattle.records.specs.declared.answer.Next.the-variants.{At, Stop}
+use Rattle.records.specs.declared.answer.Next.the-variants as next-record
 use Rattle.records.specs.declared.answer.Step.{Step}
 use Rattle.records.specs.declared.answer.Ended.{Ended}
-use Rattle.records.specs.declared.answer.Ended.the-variants.{Whole, Refused}
+use Rattle.records.specs.declared.answer.Ended.the-variants.{Done, Refused}
 use Rattle.records.specs.declared.answer.Read.{Read}
 
 -- what a record asks for: a registering call, with the place of the record after it, or nothing, because it is turned back
@@ -96,25 +96,25 @@ flagKnown Given = true
 flagKnown Unknown = false
 
 -- how many numbers of the variance of y rows follow, and the variance
-abbrev pub given : Flag → ℕ → ℕ
-given Identity y = 0
-given Given y = y * y
-given Unknown y = 0
+abbrev pub givenNumbers : Flag → ℕ → ℕ
+givenNumbers Identity y = 0
+givenNumbers Given y = y * y
+givenNumbers Unknown y = 0
 
-abbrev pub varianceAt : Flag → (bytes : List ℕ) (at y : ℕ) → List Float
-varianceAt Identity bytes at y = identityOf y
-varianceAt Given bytes at y = numbersAt bytes at (y * y)
-varianceAt Unknown bytes at y = []
+abbrev pub varianceRead : Flag → (bytes : List ℕ) (at y : ℕ) → List Float
+varianceRead Identity bytes at y = identityOf y
+varianceRead Given bytes at y = numbersAt bytes at (y * y)
+varianceRead Unknown bytes at y = []
 
 -- from the numbers on, of which A takes n
 unfoldable pub observedNumbers : (store : List Float) (bytes keys : List ℕ) (rows : ℕ) (flag : Flag) (n at : ℕ) → Request
 observedNumbers store bytes keys rows flag n at =
-    cond (cut bytes at (float-bytes * (n + rows + given flag rows))) (refuse BadRecord)
+    cond (cut bytes at (float-bytes * (n + rows + givenNumbers flag rows))) (refuse BadRecord)
     (ask (register (observation keys rows
     (numbersAt bytes at n)
     (numbersAt bytes (at + float-bytes * n) rows)
-    (varianceAt flag bytes (at + float-bytes * (n + rows)) rows)) store)
-    (at + float-bytes * (n + rows + given flag rows)))
+    (varianceRead flag bytes (at + float-bytes * (n + rows)) rows)) store)
+    (at + float-bytes * (n + rows + givenNumbers flag rows)))
 
 -- from the judging of the keys on
 unfoldable pub observed : (g : Graph) (store : List Float) (bytes keys : List ℕ) (rows : ℕ) (flag : Flag) (at : ℕ) → Request
@@ -129,7 +129,7 @@ observationAt g store bytes at =
     (cond (not (flagKnown (meaning (byteAt bytes (at + 2))))) (refuse BadRecord)
     (cond (not (countsFit (byteAt bytes at) (byteAt bytes (at + 1)))) (refuse CountOutside)
     (cond (cut bytes (at + header-bytes) (byteAt bytes at)) (refuse BadRecord)
-    (observed g store bytes (keysAt bytes (at + header-bytes) (byteAt bytes at)) (byteAt bytes (at + 1)) (meaning (byteAt bytes (at + 2)))
+    (observed g store bytes (keysRead bytes (at + header-bytes) (byteAt bytes at)) (byteAt bytes (at + 1)) (meaning (byteAt bytes (at + 2)))
     (at + header-bytes + byteAt bytes at)))))
 
 -- ---- a record: a mark, then its kind
@@ -156,23 +156,23 @@ recordAt g store bytes at =
 
 -- an accepted record leads to the next one
 abbrev pub nextOf : Outcome → ℕ → Next
-nextOf (outcome.Key key) next = At next
-nextOf (outcome.Number number) next = At next
-nextOf (outcome.Refused why) next = Stop why
+nextOf (outcome.Key key) next = next-record.At next
+nextOf (outcome.Number number) next = next-record.At next
+nextOf (outcome.Refused why) next = next-record.Refused why
 
 abbrev pub wentTo : Added → ℕ → Step
 wentTo added next = record { graph = added .graph; next = nextOf (added .outcome) next }
 
 abbrev pub stopped : Graph → Refusal → Step
-stopped g why = record { graph = g; next = Stop why }
+stopped g why = record { graph = g; next = next-record.Refused why }
 
 abbrev pub stepOf : Graph → Request → Step
 stepOf g (ask call next) = wentTo (answered g call) next
 stepOf g (refuse why) = stopped g why
 
-abbrev pub storeAfter : Graph → List Float → Request → List Float
-storeAfter g store (ask call next) = calls.storeAfter g store call
-storeAfter g store (refuse why) = store
+abbrev pub requestStore : Graph → List Float → Request → List Float
+requestStore g store (ask call next) = calls.storeAfter g store call
+requestStore g store (refuse why) = store
 
 -- ---- all records
 
@@ -185,17 +185,17 @@ abbrev pub reading : Graph → Ended → List Float → Reading
 reading g ended store = record { answer = record { graph = g; ended = ended }; store = store }
 
 abbrev pub onward : Next → (g : Graph) (store : List Float) (place : ℕ) (rest : ℕ → Reading) → Reading
-onward (At next) g store place rest = rest next
-onward (Stop why) g store place rest = reading g (Refused why place) store
+onward (next-record.At next) g store place rest = rest next
+onward (next-record.Refused why) g store place rest = reading g (Refused why place) store
 
 -- The records from a byte on; `place` counts them from 0. Each takes two bytes or more, so as many turns as there are bytes suffice.
 unfoldable pub readFrom : (turns : ℕ) (bytes : List ℕ) (at place : ℕ) (g : Graph) (store : List Float) → Reading
-readFrom zero bytes at place g store = reading g Whole store
+readFrom zero bytes at place g store = reading g Done store
 readFrom (suc turns) bytes at place g store =
     cond (ltb at (length bytes))
-    (onward (stepOf g (recordAt g store bytes at) .next) (stepOf g (recordAt g store bytes at) .graph) (storeAfter g store (recordAt g store bytes at)) place
-    (λ next. readFrom turns bytes next (place + 1) (stepOf g (recordAt g store bytes at) .graph) (storeAfter g store (recordAt g store bytes at))))
-    (reading g Whole store)
+    (onward (stepOf g (recordAt g store bytes at) .next) (stepOf g (recordAt g store bytes at) .graph) (requestStore g store (recordAt g store bytes at)) place
+    (λ next. readFrom turns bytes next (place + 1) (stepOf g (recordAt g store bytes at) .graph) (requestStore g store (recordAt g store bytes at))))
+    (reading g Done store)
 
 unfoldable pub readAll : List ℕ → List Float → Reading
 readAll bytes store = readFrom (length bytes) bytes 0 0 fresh store

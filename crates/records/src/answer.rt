@@ -4,7 +4,7 @@ use graph::refusal::Refusal;
 
 // Every record was taken, or one was turned back: why, and its place among the records, from 0.
 pub enum Ended {
-    Whole,
+    Done,
     Refused(Refusal, usize),
 }
 
@@ -17,7 +17,7 @@ pub struct Read {
 // Where the next record begins, or why this one is turned back.
 pub enum Next {
     At(usize),
-    Stop(Refusal),
+    Refused(Refusal),
 }
 
 pub struct Step {

@@ -70,7 +70,7 @@ pub fn numbers(bytes: &[u8], at: usize, out: &mut [f64], n: usize)
 // The first n keys of out become those of the bytes.
 pub fn keys(bytes: &[u8], at: usize, out: &mut [usize], n: usize)
     requires { ⌜ (at + n ≤ length (now bytes)) × (n ≤ length (now out)) ⌝ }
-    ensures { λ _. ⌜ now (out .exit) ≡ spec.keysAt (now (bytes .entry)) at n ++ drop n (now (out .entry)) ⌝ }
+    ensures { λ _. ⌜ now (out .exit) ≡ spec.keysRead (now (bytes .entry)) at n ++ drop n (now (out .entry)) ⌝ }
 {
     for i in 0..n {
         out[i] = byte(bytes, at + i);

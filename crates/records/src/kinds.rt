@@ -69,7 +69,7 @@ pub fn flag_known(flag: Flag) -> bool
 // How many numbers of the variance the record has.
 pub fn given(flag: Flag, rows: usize) -> usize
     requires { ⌜ rows ≤ max-rows ⌝ }
-    ensures { λ r. ⌜ (r ≡ spec.given flag rows) × (r ≤ max-rows * max-rows) ⌝ }
+    ensures { λ r. ⌜ (r ≡ spec.givenNumbers flag rows) × (r ≤ max-rows * max-rows) ⌝ }
 {
     match flag {
         Flag::Identity => 0,

@@ -37,7 +37,7 @@ ghost use Rattle.graph.specs.Record.{valid};
 ghost use Rattle.graph.specs.Registration.{countsFit};
 ghost use Rattle.records.specs.Bytes.{float-bytes};
 ghost use Rattle.records.specs.Records as spec;
-ghost use Rattle.records.specs.Told.{endedTold};
+ghost use Rattle.records.specs.Told.{readTold};
 
 // Refuses: the graph unchanged, with the reason.
 fn stop(g: Graph, why: Refusal) -> Step
@@ -45,7 +45,7 @@ fn stop(g: Graph, why: Refusal) -> Step
 {
     Step {
         graph: g,
-        next: Next::Stop(why),
+        next: Next::Refused(why),
     }
 }
 
@@ -95,7 +95,7 @@ fn read_prior_numbers(
     requires { ⌜ (at ≤ length (now bytes)) × (s ≤ max-size) × (valid g ≡ true) ⌝ }
     ensures { λ r. ⌜ r ≡ spec.stepOf g (spec.priorNumbers (now (store .entry)) (now (bytes .entry)) key s at) ⌝ }
     ensures { λ _. ⌜ now (store .exit) ≡
-        spec.storeAfter g (now (store .entry)) (spec.priorNumbers (now (store .entry)) (now (bytes .entry)) key s at) ⌝ }
+        spec.requestStore g (now (store .entry)) (spec.priorNumbers (now (store .entry)) (now (bytes .entry)) key s at) ⌝ }
 {
     let square = s * s;
     if cut(bytes, at, FLOAT_BYTES * (s + square)) {
@@ -114,7 +114,7 @@ fn read_prior_numbers(
 fn read_prior(g: Graph, bytes: &[u8], at: usize, store: &mut [f64]) -> Step
     requires { ⌜ (valid g ≡ true) × (at ≤ length (now bytes)) ⌝ }
     ensures { λ r. ⌜ r ≡ spec.stepOf g (spec.priorAt g (now (store .entry)) (now (bytes .entry)) at) ⌝ }
-    ensures { λ _. ⌜ now (store .exit) ≡ spec.storeAfter g (now (store .entry)) (spec.priorAt g (now (store .entry)) (now (bytes .entry)) at) ⌝ }
+    ensures { λ _. ⌜ now (store .exit) ≡ spec.requestStore g (now (store .entry)) (spec.priorAt g (now (store .entry)) (now (bytes .entry)) at) ⌝ }
 {
     if cut(bytes, at, 1) {
         return stop(g, Refusal::BadRecord);
@@ -130,9 +130,9 @@ fn read_prior(g: Graph, bytes: &[u8], at: usize, store: &mut [f64]) -> Step
 
 // The first numbers of out become the variance that the flag says.
 fn read_variance(bytes: &[u8], at: usize, flag: Flag, rows: usize, out: &mut [f64])
-    requires { ⌜ (at + float-bytes * spec.given flag rows ≤ length (now bytes)) × (spec.flagKnown flag ≡ true) ⌝ }
+    requires { ⌜ (at + float-bytes * spec.givenNumbers flag rows ≤ length (now bytes)) × (spec.flagKnown flag ≡ true) ⌝ }
     requires { ⌜ (1 ≤ rows) × (rows ≤ max-rows) × (rows * rows ≤ length (now out)) ⌝ }
-    ensures { λ _. ⌜ now (out .exit) ≡ spec.varianceAt flag (now (bytes .entry)) at rows ++ drop (rows * rows) (now (out .entry)) ⌝ }
+    ensures { λ _. ⌜ now (out .exit) ≡ spec.varianceRead flag (now (bytes .entry)) at rows ++ drop (rows * rows) (now (out .entry)) ⌝ }
 {
     match flag {
         Flag::Identity => input::identity(out, rows),
@@ -156,7 +156,7 @@ fn read_observed_numbers(
     requires { ⌜ (1 ≤ rows) × (rows ≤ max-rows) × (n ≤ max-rows * max-total) ⌝ }
     ensures { λ r. ⌜ r ≡ spec.stepOf g (spec.observedNumbers (now (store .entry)) (now (bytes .entry)) (now (keys .entry)) rows flag n at) ⌝ }
     ensures { λ _. ⌜ now (store .exit) ≡
-        spec.storeAfter g (now (store .entry)) (spec.observedNumbers (now (store .entry)) (now (bytes .entry)) (now (keys .entry)) rows flag n at) ⌝ }
+        spec.requestStore g (now (store .entry)) (spec.observedNumbers (now (store .entry)) (now (bytes .entry)) (now (keys .entry)) rows flag n at) ⌝ }
 {
     let square = rows * rows;
     let all = FLOAT_BYTES * (n + rows + kinds::given(flag, rows));
@@ -201,7 +201,7 @@ fn read_observed(
     requires { ⌜ (countsFit (length (now keys)) rows ≡ true) × (spec.flagKnown flag ≡ true) ⌝ }
     ensures { λ r. ⌜ r ≡ spec.stepOf g (spec.observed g (now (store .entry)) (now (bytes .entry)) (now (keys .entry)) rows flag at) ⌝ }
     ensures { λ _. ⌜ now (store .exit) ≡
-        spec.storeAfter g (now (store .entry)) (spec.observed g (now (store .entry)) (now (bytes .entry)) (now (keys .entry)) rows flag at) ⌝ }
+        spec.requestStore g (now (store .entry)) (spec.observed g (now (store .entry)) (now (bytes .entry)) (now (keys .entry)) rows flag at) ⌝ }
 {
     if !factor::lists::rising(keys) {
         return stop(g, Refusal::KeysNotRising);
@@ -219,7 +219,7 @@ fn read_observed(
 fn read_observation(g: Graph, bytes: &[u8], at: usize, store: &mut [f64]) -> Step
     requires { ⌜ (valid g ≡ true) × (at ≤ length (now bytes)) ⌝ }
     ensures { λ r. ⌜ r ≡ spec.stepOf g (spec.observationAt g (now (store .entry)) (now (bytes .entry)) at) ⌝ }
-    ensures { λ _. ⌜ now (store .exit) ≡ spec.storeAfter g (now (store .entry)) (spec.observationAt g (now (store .entry)) (now (bytes .entry)) at) ⌝ }
+    ensures { λ _. ⌜ now (store .exit) ≡ spec.requestStore g (now (store .entry)) (spec.observationAt g (now (store .entry)) (now (bytes .entry)) at) ⌝ }
 {
     if cut(bytes, at, HEADER_BYTES) {
         return stop(g, Refusal::BadRecord);
@@ -253,7 +253,7 @@ fn read_observation(g: Graph, bytes: &[u8], at: usize, store: &mut [f64]) -> Ste
 fn read_record(g: Graph, bytes: &[u8], at: usize, store: &mut [f64]) -> Step
     requires { ⌜ (valid g ≡ true) × (at ≤ length (now bytes)) ⌝ }
     ensures { λ r. ⌜ r ≡ spec.stepOf g (spec.recordAt g (now (store .entry)) (now (bytes .entry)) at) ⌝ }
-    ensures { λ _. ⌜ now (store .exit) ≡ spec.storeAfter g (now (store .entry)) (spec.recordAt g (now (store .entry)) (now (bytes .entry)) at) ⌝ }
+    ensures { λ _. ⌜ now (store .exit) ≡ spec.requestStore g (now (store .entry)) (spec.recordAt g (now (store .entry)) (now (bytes .entry)) at) ⌝ }
 {
     if cut(bytes, at, MARK_BYTES) {
         return stop(g, Refusal::BadRecord);
@@ -271,7 +271,7 @@ fn read_record(g: Graph, bytes: &[u8], at: usize, store: &mut [f64]) -> Step
 pub fn read(bytes: &[u8], store: &mut [f64]) -> Read
     ensures { λ r. ⌜ (r ≡ spec.readAll (now (bytes .entry)) (now (store .entry)) .answer) × (valid (r .graph) ≡ true) ⌝ }
     ensures { λ _. ⌜ now (store .exit) ≡ spec.readAll (now (bytes .entry)) (now (store .entry)) .store ⌝ }
-    ensures { λ r. ⌜ endedTold (r .ended) ≡ endedTold (spec.readAll (now (bytes .entry)) (now (store .entry)) .answer .ended) ⌝ }
+    ensures { λ r. ⌜ readTold (r .ended) ≡ readTold (spec.readAll (now (bytes .entry)) (now (store .entry)) .answer .ended) ⌝ }
 {
     let mut g = Graph::new();
     let mut at = 0;
@@ -284,7 +284,7 @@ pub fn read(bytes: &[u8], store: &mut [f64]) -> Read
             Next::At(after) => {
                 at = after;
             }
-            Next::Stop(why) => {
+            Next::Refused(why) => {
                 return Read {
                     graph: g,
                     ended: Ended::Refused(why, place),
@@ -295,6 +295,6 @@ pub fn read(bytes: &[u8], store: &mut [f64]) -> Read
     }
     Read {
         graph: g,
-        ended: Ended::Whole,
+        ended: Ended::Done,
     }
 }

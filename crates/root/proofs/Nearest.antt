@@ -12,7 +12,7 @@ use lib.Ieee.Digits.{size-le}
 use lib.Ieee.Bits.{toBits-ofBits, ofBits-toBits, nanBits-is}
 use lib.Ieee.Positive.{positive, value-pos}
 use Rattle.root.specs.Root.{isqrt, inUnits, rootBits, rootOf}
-use Rattle.root.specs.Nearest.{before, after, both, Nearest, Right}
+use Rattle.root.specs.Nearest.{nextDown, nextUp, both, Nearest, Right}
 use Rattle.root.specs.Told as shown
 use Rattle.root.specs.Told.{pivotTold, rightTold}
 use Rattle.root.specs.declared.Pivot.{Pivot}
@@ -66,11 +66,11 @@ with-digits v m e i q p en sm range f = (record { given = p; above-zero = positi
     positive-at : T (positive (ofBits binary64 b))
     positive-at = subst T (sym (is-positive (ofBits binary64 b) (b % 2 ^ 52 + 2 ^ 52) (b / 2 ^ 52 - 1) (omega arith) (normal b small (omega arith)))) tt
 
-    lower : both (before (ofBits binary64 b)) (ofBits binary64 b) * both (before (ofBits binary64 b)) (ofBits binary64 b) < 4 * (inUnits v * 2 ^ 1074)
+    lower : both (nextDown (ofBits binary64 b)) (ofBits binary64 b) * both (nextDown (ofBits binary64 b)) (ofBits binary64 b) < 4 * (inUnits v * 2 ^ 1074)
     lower = subst (λ (x : ℕ). (units (x - 1) + units b) * (units (x - 1) + units b) < 4 * (inUnits v * 2 ^ 1074)) (sym there)
         (low (inUnits v * 2 ^ 1074) m e i q ((q + 1) / 2) ew sm f (omega arith) (omega arith) range)
 
-    higher : 4 * (inUnits v * 2 ^ 1074) < both (ofBits binary64 b) (after (ofBits binary64 b)) * both (ofBits binary64 b) (after (ofBits binary64 b))
+    higher : 4 * (inUnits v * 2 ^ 1074) < both (ofBits binary64 b) (nextUp (ofBits binary64 b)) * both (ofBits binary64 b) (nextUp (ofBits binary64 b))
     higher = subst (λ (x : ℕ). 4 * (inUnits v * 2 ^ 1074) < (units b + units (x + 1)) * (units b + units (x + 1))) (sym there)
         (high (inUnits v * 2 ^ 1074) m e i q ((q + 1) / 2) ew sm f (omega arith) (omega arith) range)
 

@@ -9,15 +9,15 @@ use Rattle.root.specs.declared.Pivot.{Pivot}
 use Rattle.root.specs.declared.Pivot.the-variants.{Root, Refused}
 
 -- the bit pattern of the root, or that the pivot is refused
-pub data Told : Type 0 where
-  pattern : ℕ → Told
-  refusal : Told
+pub data PivotTold : Type 0 where
+  pattern : ℕ → PivotTold
+  refusal : PivotTold
 
 -- each case of the answer
-abbrev pub pivotTold : Pivot → Told
+abbrev pub pivotTold : Pivot → PivotTold
 pivotTold (Root r) = pattern (toBits binary64 r)
 pivotTold Refused = refusal
 
 -- what is right for v
-unfoldable pub rightTold : Float → Told
+unfoldable pub rightTold : Float → PivotTold
 rightTold v = cond (positive v) (pattern (rootBits (inUnits v))) refusal

@@ -8,7 +8,7 @@ use Prim.Native.Nat.{ℕ, zero, suc, _+_, _≤_, _<_}
 use native.Mathlib.Omega.{arith}
 use native.Mathlib.Decide.{ℕ-discrete, decLt}
 use lib.Dec.{T, eqb, eqb→eq, eqb-refl, T-not, not-T}
-use Rattle.schedule.specs.Count.{bit, hit, count, In, putIf, keep, any, sum, joined, from, rising}
+use Rattle.schedule.specs.Count.{bit, hit, count, In, putIf, keep, any, sumOver, joined, from, risingWhere}
 
 -- ---- tests
 pub sure : (b : Bool) → T b ⊎ T (not b)
@@ -125,33 +125,33 @@ mem-in {x} (List·Memᴰ·head {x = y} {xs = l} e) = omega (arith, subst (λ (z 
 mem-in (List·Memᴰ·tail m) = omega (arith, mem-in m)
 
 module _ {A : Type 0} where
-  pub sum-append : (g : A → ℕ) (a b : List A) → sum g (a ++ b) ≡ sum g a + sum g b
-  unfolding sum
+  pub sum-append : (g : A → ℕ) (a b : List A) → sumOver g (a ++ b) ≡ sumOver g a + sumOver g b
+  unfolding sumOver
   sum-append g [] b = omega arith
   sum-append g (x ∷ a) b = omega (arith, sum-append g a b)
 
-  pub count-joined : (x : ℕ) (g : A → List ℕ) (l : List A) → count x (joined g l) ≡ sum (λ e. count x (g e)) l
-  unfolding sum joined count
+  pub count-joined : (x : ℕ) (g : A → List ℕ) (l : List A) → count x (joined g l) ≡ sumOver (λ e. count x (g e)) l
+  unfolding sumOver joined count
   count-joined x g [] = refl
   count-joined x g (e ∷ l) = omega (arith, count-append x (g e) (joined g l), count-joined x g l)
 
   -- some member counts
-  pub sum-some : (g : A → ℕ) (l : List A) → 1 ≤ sum g l → (e : A) × List·Memᴰ e l × (1 ≤ g e)
-  unfolding sum
+  pub sum-some : (g : A → ℕ) (l : List A) → 1 ≤ sumOver g l → (e : A) × List·Memᴰ e l × (1 ≤ g e)
+  unfolding sumOver
   sum-some g [] h = absurd (omega arith)
   sum-some g (e ∷ l) h = go (g e) refl (sum-some g l)
     where
-      go : (k : ℕ) → g e ≡ k → (1 ≤ sum g l → (e : A) × List·Memᴰ e l × (1 ≤ g e)) → (d : A) × List·Memᴰ d (e ∷ l) × (1 ≤ g d)
+      go : (k : ℕ) → g e ≡ k → (1 ≤ sumOver g l → (e : A) × List·Memᴰ e l × (1 ≤ g e)) → (d : A) × List·Memᴰ d (e ∷ l) × (1 ≤ g d)
       go zero q f = let r = f (omega arith) in (r .0, List·Memᴰ·tail (r .1), r .2)
       go (suc k) q f = (e, List·Memᴰ·head refl, omega arith)
 
-  pub sum-member : (g : A → ℕ) {e : A} {l : List A} → List·Memᴰ e l → g e ≤ sum g l
-  unfolding sum
+  pub sum-member : (g : A → ℕ) {e : A} {l : List A} → List·Memᴰ e l → g e ≤ sumOver g l
+  unfolding sumOver
   sum-member g (List·Memᴰ·head {x = y} {xs = l} q) = omega (arith, ap g q)
   sum-member g (List·Memᴰ·tail {x = y} {xs = l} m) = omega (arith, sum-member g m)
 
-  pub sum-same : (g h : A → ℕ) (l : List A) → ((e : A) → List·Memᴰ e l → g e ≡ h e) → sum g l ≡ sum h l
-  unfolding sum
+  pub sum-same : (g h : A → ℕ) (l : List A) → ((e : A) → List·Memᴰ e l → g e ≡ h e) → sumOver g l ≡ sumOver h l
+  unfolding sumOver
   sum-same g h [] f = refl
   sum-same g h (e ∷ l) f = omega (arith, f e (List·Memᴰ·head refl), sum-same g h l (λ d m. f d (List·Memᴰ·tail m)))
 
@@ -215,20 +215,20 @@ from-in x a (suc n) h k = go (hit-cases x a) (λ i j. from-in x (suc a) n i j)
     go (inl e) f = omega (arith, from-below x (suc a) n (omega arith))
     go (inr e) f = omega (arith, f (omega arith) (omega arith))
 
-pub rising-yes : (n : ℕ) (p : ℕ → Bool) (x : ℕ) → x < n → T (p x) → count x (rising n p) ≡ 1
-unfolding rising
+pub rising-yes : (n : ℕ) (p : ℕ → Bool) (x : ℕ) → x < n → T (p x) → count x (risingWhere n p) ≡ 1
+unfolding risingWhere
 rising-yes n p x h t = keep-yes p x (from 0 n) t ∙ from-in x 0 n (omega arith) (omega arith)
 
-pub rising-no : (n : ℕ) (p : ℕ → Bool) (x : ℕ) → T (not (p x)) → count x (rising n p) ≡ 0
-unfolding rising
+pub rising-no : (n : ℕ) (p : ℕ → Bool) (x : ℕ) → T (not (p x)) → count x (risingWhere n p) ≡ 0
+unfolding risingWhere
 rising-no n p x t = keep-no p x (from 0 n) t
 
 -- what stands in it passes the test, is below n, and stands in it once
-pub rising-in : (n : ℕ) (p : ℕ → Bool) (x : ℕ) → In x (rising n p) → T (p x) × (x < n) × (count x (rising n p) ≡ 1)
-unfolding rising
+pub rising-in : (n : ℕ) (p : ℕ → Bool) (x : ℕ) → In x (risingWhere n p) → T (p x) × (x < n) × (count x (risingWhere n p) ≡ 1)
+unfolding risingWhere
 rising-in n p x h = go (sure (p x)) (decLt x n)
   where
-    go : T (p x) ⊎ T (not (p x)) → Dec (x < n) → T (p x) × (x < n) × (count x (rising n p) ≡ 1)
+    go : T (p x) ⊎ T (not (p x)) → Dec (x < n) → T (p x) × (x < n) × (count x (risingWhere n p) ≡ 1)
     go (inl t) (yes l) = (t, l, rising-yes n p x l t)
     go (inl t) (no l) = absurd (omega (arith, keep-yes p x (from 0 n) t, from-above x 0 n (omega arith)))
     go (inr t) d = absurd (omega (arith, rising-no n p x t))

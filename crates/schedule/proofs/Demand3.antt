@@ -12,9 +12,9 @@ use native.Mathlib.Decide.{decLt}
 use lib.Dec.{T, eqb, ltb→lt, nltb→le, eqb→eq}
 use lib.ListN.{length, getD, length-append, length-reverse}
 use Rattle.schedule.specs.Count.{hit, count, In, mem, joined, from}
-use Rattle.schedule.specs.Pass.{ClosedFactor, at, after, full-pass}
+use Rattle.schedule.specs.Pass.{ClosedFactor, at, stateAfter, full-pass}
 use Rattle.schedule.specs.Gather.{alive-messages, leaves, Gathered, keysLast, uncovered, gathering, gatherAt, gather}
-use Rattle.schedule.specs.Plan.{place, plan}
+use Rattle.schedule.specs.Plan.{placeIn, plan}
 use Rattle.schedule.specs.Once.{behind, clearedBy, Once}
 use Rattle.schedule.proofs.Counts.{sure, hit-other, hit-cases, count-cons, count-append, count-reverse, count-joined, from-in, from-above}
 use Rattle.schedule.proofs.Counts.{mem-in, in-mem, sum-some, sum-member}
@@ -237,20 +237,20 @@ nth g a (suc m) zero l d = ap g (omega arith)
 nth g a (suc m) (suc k) l d = nth g (suc a) m k (omega arith) d ∙ ap g (omega arith)
 
 -- an order that names k, split at k
-pub found-at : (k : ℕ) (order : List ℕ) → In k order → (pre : List ℕ) × (q : List ℕ) × (order ≡ pre ++ (k ∷ q)) × (length pre ≡ place k order)
-unfolding place count hit
+pub found-at : (k : ℕ) (order : List ℕ) → In k order → (pre : List ℕ) × (q : List ℕ) × (order ≡ pre ++ (k ∷ q)) × (length pre ≡ placeIn k order)
+unfolding placeIn count hit
 found-at k [] h = absurd (omega arith)
 found-at k (x ∷ order) h = go (eqb k x) refl (found-at k order)
   where
     Found : (List ℕ) → ℕ → Type 0
     Found l r = (pre : List ℕ) × (q : List ℕ) × (l ≡ pre ++ (k ∷ q)) × (length pre ≡ r)
 
-    more : Found order (place k order) → Found (x ∷ order) (suc (place k order))
+    more : Found order (placeIn k order) → Found (x ∷ order) (suc (placeIn k order))
     more (pre, q, e, d) = (x ∷ pre, q, ap (λ (l : List ℕ). x ∷ l) e, ap suc d)
 
-    go : (b : Bool) → eqb k x ≡ b → (In k order → Found order (place k order)) → Found (x ∷ order) (place k (x ∷ order))
-    go true e f = rw (e, place) ([], order, ap (λ (y : ℕ). y ∷ order) (sym (eqb→eq k x (rw e tt))), refl)
-    go false e f = rw (e, place) (more (f (omega (arith, rw e at h))))
+    go : (b : Bool) → eqb k x ≡ b → (In k order → Found order (placeIn k order)) → Found (x ∷ order) (placeIn k (x ∷ order))
+    go true e f = rw (e, placeIn) ([], order, ap (λ (y : ℕ). y ∷ order) (sym (eqb→eq k x (rw e tt))), refl)
+    go false e f = rw (e, placeIn) (more (f (omega (arith, rw e at h))))
 
 -- no registered key twice
 pub from-once : (n j : ℕ) → count j (from 0 n) ≤ 1
@@ -271,9 +271,9 @@ module _ (n : ℕ) (K : ℕ → List ℕ) (N order : List ℕ) (distinct : (f : 
       ∙ append-assoc (reverse q) (k ∷ []) (reverse pre)
 
   -- the two sides of the order at k
-  sides-meet : (k : ℕ) (pre q : List ℕ) → order ≡ pre ++ (k ∷ q) → length pre ≡ place k order → (fw bw : List ClosedFactor)
+  sides-meet : (k : ℕ) (pre q : List ℕ) → order ≡ pre ++ (k ∷ q) → length pre ≡ placeIn k order → (fw bw : List ClosedFactor)
       → (akF outF : List ℕ) × Side K N (reverse pre) k fw akF outF → (akB outB : List ℕ) × Side K N q k bw akB outB
-      → Once n K N k fw bw (gather n K N fw bw (place k order) k)
+      → Once n K N k fw bw (gather n K N fw bw (placeIn k order) k)
   unfolding gather gatherAt
   sides-meet k pre q e d fw bw (akF, outF, F) (akB, outB, B) =
       subst₂ (λ (r s : ℕ). Once n K N k fw bw (gatherAt n K N fw bw r s k)) (length-reverse pre ∙ d)
@@ -284,29 +284,29 @@ module _ (n : ℕ) (K : ℕ → List ℕ) (N order : List ℕ) (distinct : (f : 
 
   -- the claim at a key, of the two passes
   pub at-each : (k : ℕ) → k < n → Once n K N k (full-pass n K N order) (full-pass n K N (reverse order))
-      (gather n K N (full-pass n K N order) (full-pass n K N (reverse order)) (place k order) k)
+      (gather n K N (full-pass n K N order) (full-pass n K N (reverse order)) (placeIn k order) k)
   unfolding full-pass
   at-each k l = go (found-at k order (omega (arith, each k, from-in k 0 n (omega arith) (omega arith))))
     where
-      go : (pre : List ℕ) × (q : List ℕ) × (order ≡ pre ++ (k ∷ q)) × (length pre ≡ place k order)
+      go : (pre : List ℕ) × (q : List ℕ) × (order ≡ pre ++ (k ∷ q)) × (length pre ≡ placeIn k order)
           → Once n K N k (full-pass n K N order) (full-pass n K N (reverse order))
-          (gather n K N (full-pass n K N order) (full-pass n K N (reverse order)) (place k order) k)
+          (gather n K N (full-pass n K N order) (full-pass n K N (reverse order)) (placeIn k order) k)
       go (pre, q, e, d) =
           sides-meet k pre q e d (full-pass n K N order) (full-pass n K N (reverse order))
-          (subst (λ (o : List ℕ). (ak out : List ℕ) × Side K N (reverse pre) k ((after n K N o) .messages) ak out) (sym (reversed k pre q e))
+          (subst (λ (o : List ℕ). (ak out : List ℕ) × Side K N (reverse pre) k ((stateAfter n K N o) .messages) ak out) (sym (reversed k pre q e))
           (a-side n K N (reverse q) (reverse pre) k (λ j. omega (arith, ap (count j) (reversed k pre q e), count-reverse j order, each j, from-once n j))
           (λ j h. from-lt j n (omega (arith, ap (count j) (reversed k pre q e), count-reverse j order, each j)))))
-          (subst (λ (o : List ℕ). (ak out : List ℕ) × Side K N q k ((after n K N o) .messages) ak out) (sym (reverse-reverse order ∙ e))
+          (subst (λ (o : List ℕ). (ak out : List ℕ) × Side K N q k ((stateAfter n K N o) .messages) ak out) (sym (reverse-reverse order ∙ e))
           (a-side n K N pre q k (λ j. omega (arith, ap (count j) e, each j, from-once n j)) (λ j h. from-lt j n (omega (arith, ap (count j) e, each j)))))
 
   -- what the plan has gathered at a key
   pub gathered-at : (k : ℕ) → k < n → (d : Gathered) → getD ((plan n K N order) .at-key) k d
-      ≡ gather n K N (full-pass n K N order) (full-pass n K N (reverse order)) (place k order) k
+      ≡ gather n K N (full-pass n K N order) (full-pass n K N (reverse order)) (placeIn k order) k
   unfolding plan
   gathered-at k l d = nth at 0 n k l d ∙ ap at (zero-add k)
     where
       at : ℕ → Gathered
-      at j = gather n K N (full-pass n K N order) (full-pass n K N (reverse order)) (place j order) j
+      at j = gather n K N (full-pass n K N order) (full-pass n K N (reverse order)) (placeIn j order) j
 
   -- Demand 3 of the plan, at each registered key: for any order that names each registered key once, and any list of live originals
   -- that names none twice and whose keys are registered.
@@ -317,15 +317,15 @@ module _ (n : ℕ) (K : ℕ → List ℕ) (N order : List ℕ) (distinct : (f : 
 
   -- However the leaves of the gathered messages are listed, no original is met twice: the double-count refusal never comes.
   pub never-twice : (k : ℕ) → k < n → (f : ℕ)
-      → count f (joined (leaves (full-pass n K N order)) (alive-messages (place k order) (full-pass n K N order))
-      ++ joined (leaves (full-pass n K N (reverse order))) (alive-messages (n - 1 - place k order) (full-pass n K N (reverse order)))) ≤ 1
+      → count f (joined (leaves (full-pass n K N order)) (alive-messages (placeIn k order) (full-pass n K N order))
+      ++ joined (leaves (full-pass n K N (reverse order))) (alive-messages (n - 1 - placeIn k order) (full-pass n K N (reverse order)))) ≤ 1
   unfolding gather gatherAt gathering
   never-twice k l f = omega (
     arith,
     distinct f,
     (at-each k l) .listed f,
-    count-append f (joined (leaves fw) (alive-messages (place k order) fw) ++ joined (leaves bw) (alive-messages (n - 1 - place k order) bw))
-        ((gather n K N fw bw (place k order) k) .originals),
+    count-append f (joined (leaves fw) (alive-messages (placeIn k order) fw) ++ joined (leaves bw) (alive-messages (n - 1 - placeIn k order) bw))
+        ((gather n K N fw bw (placeIn k order) k) .originals),
   )
     where
       fw : List ClosedFactor
@@ -335,13 +335,13 @@ module _ (n : ℕ) (K : ℕ → List ℕ) (N order : List ℕ) (distinct : (f : 
       bw = full-pass n K N (reverse order)
 
   -- P9 for every graph: an original without keys is a leaf under no message, so it is uncovered at every key.
-  keyless-meets : (f k : ℕ) → ((j : ℕ) → In j (K f) → ⊥) → In f N → (pre q : List ℕ) → order ≡ pre ++ (k ∷ q) → length pre ≡ place k order
+  keyless-meets : (f k : ℕ) → ((j : ℕ) → In j (K f) → ⊥) → In f N → (pre q : List ℕ) → order ≡ pre ++ (k ∷ q) → length pre ≡ placeIn k order
       → (fw bw : List ClosedFactor)
       → (akF outF : List ℕ) × Side K N (reverse pre) k fw akF outF → (akB outB : List ℕ) × Side K N q k bw akB outB
-      → In f ((gather n K N fw bw (place k order) k) .originals)
+      → In f ((gather n K N fw bw (placeIn k order) k) .originals)
   unfolding gather gatherAt gathering
   keyless-meets f k none live pre q e d fw bw (akF, outF, F) (akB, outB, B) =
-      let s : length q ≡ n - 1 - place k order = omega (arith, ap length e, length-append pre (k ∷ q), long) in
+      let s : length q ≡ n - 1 - placeIn k order = omega (arith, ap length e, length-append pre (k ∷ q), long) in
       subst₂ (λ (r s : ℕ). In f ((gatherAt n K N fw bw r s k) .originals)) (length-reverse pre ∙ d) s
       (omega (arith, uncovered-all (lf ++ lb) N f (not-in (decLt 0 (count f (lf ++ lb))))))
     where
@@ -363,18 +363,18 @@ module _ (n : ℕ) (K : ℕ → List ℕ) (N order : List ℕ) (distinct : (f : 
       not-in (no a) = omega arith
 
   keyless-at : (f k : ℕ) → k < n → ((j : ℕ) → In j (K f) → ⊥) → In f N
-      → In f ((gather n K N (full-pass n K N order) (full-pass n K N (reverse order)) (place k order) k) .originals)
+      → In f ((gather n K N (full-pass n K N order) (full-pass n K N (reverse order)) (placeIn k order) k) .originals)
   unfolding full-pass
   keyless-at f k l none live = go (found-at k order (omega (arith, each k, from-in k 0 n (omega arith) (omega arith))))
     where
-      go : (pre : List ℕ) × (q : List ℕ) × (order ≡ pre ++ (k ∷ q)) × (length pre ≡ place k order)
-          → In f ((gather n K N (full-pass n K N order) (full-pass n K N (reverse order)) (place k order) k) .originals)
+      go : (pre : List ℕ) × (q : List ℕ) × (order ≡ pre ++ (k ∷ q)) × (length pre ≡ placeIn k order)
+          → In f ((gather n K N (full-pass n K N order) (full-pass n K N (reverse order)) (placeIn k order) k) .originals)
       go (pre, q, e, d) =
           keyless-meets f k none live pre q e d (full-pass n K N order) (full-pass n K N (reverse order))
-          (subst (λ (o : List ℕ). (ak out : List ℕ) × Side K N (reverse pre) k ((after n K N o) .messages) ak out) (sym (reversed k pre q e))
+          (subst (λ (o : List ℕ). (ak out : List ℕ) × Side K N (reverse pre) k ((stateAfter n K N o) .messages) ak out) (sym (reversed k pre q e))
           (a-side n K N (reverse q) (reverse pre) k (λ j. omega (arith, ap (count j) (reversed k pre q e), count-reverse j order, each j, from-once n j))
           (λ j h. from-lt j n (omega (arith, ap (count j) (reversed k pre q e), count-reverse j order, each j)))))
-          (subst (λ (o : List ℕ). (ak out : List ℕ) × Side K N q k ((after n K N o) .messages) ak out) (sym (reverse-reverse order ∙ e))
+          (subst (λ (o : List ℕ). (ak out : List ℕ) × Side K N q k ((stateAfter n K N o) .messages) ak out) (sym (reverse-reverse order ∙ e))
           (a-side n K N pre q k (λ j. omega (arith, ap (count j) e, each j, from-once n j)) (λ j h. from-lt j n (omega (arith, ap (count j) e, each j)))))
 
   pub keyless : (f k : ℕ) → k < n → ((j : ℕ) → In j (K f) → ⊥) → In f N → (d : Gathered) → In f ((getD ((plan n K N order) .at-key) k d) .originals)

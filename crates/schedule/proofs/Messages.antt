@@ -10,9 +10,9 @@ use native.Mathlib.Decide.{decLt}
 use lib.Dec.{ltb→lt, lt→ltb}
 use lib.ListN.{length, length-append, length-reverse, List·getD-append}
 use lib.Seq.{getD-append-seam}
-use Rattle.schedule.specs.Count.{hit, count, In, mem, keep, joined, from, rising}
-use Rattle.schedule.specs.Pass.{Slot, original, closed, ClosedFactor, State, noMessage, at, keysOf, Walked, walk, touches, coupled, stays}
-use Rattle.schedule.specs.Pass.{append, sending, closing, step, after, full-pass}
+use Rattle.schedule.specs.Count.{hit, count, In, mem, keep, joined, from, risingWhere}
+use Rattle.schedule.specs.Pass.{Slot, original, closed, ClosedFactor, State, noMessage, at, slotKeys, Walked, walk, touches, coupled, stays}
+use Rattle.schedule.specs.Pass.{append, sending, closing, step, stateAfter, full-pass}
 use Rattle.schedule.specs.Gather.{leaves, alive-messages, alive-among, keysLast, uncovered, gathering, gatherAt, Gathered}
 use Rattle.schedule.proofs.Counts.{and-l, and-i, count-cons, count-nil, count-append, count-reverse, count-joined, hit-same, hit-cases}
 use Rattle.schedule.proofs.Counts.{sum-member, rising-yes, rising-in, in-mem}
@@ -35,7 +35,7 @@ module _ (n : ℕ) (K : ℕ → List ℕ) (N P : List ℕ) (st : State) (k : ℕ
   ms = st .messages
 
   abbrev κ : Slot → List ℕ
-  κ = keysOf K ms
+  κ = slotKeys K ms
 
   abbrev cp : List ℕ
   cp = coupled K ms (k ∷ st .active-keys) (st .active)
@@ -44,13 +44,13 @@ module _ (n : ℕ) (K : ℕ → List ℕ) (N P : List ℕ) (st : State) (k : ℕ
   ak2 = keep (stays k cp) (k ∷ st .active-keys)
 
   abbrev cl : List ℕ
-  cl = rising n (λ j. mem j (k ∷ st .active-keys) && not (stays k cp j))
+  cl = risingWhere n (λ j. mem j (k ∷ st .active-keys) && not (stays k cp j))
 
   abbrev w : Walked
   w = walk (λ s. touches cl (κ s)) (length (st .active)) (st .active)
 
   abbrev kept : List ℕ
-  kept = rising n (λ j. mem j ak2 && mem j (joined κ (w .taken)))
+  kept = risingWhere n (λ j. mem j ak2 && mem j (joined κ (w .taken)))
 
   abbrev m : ClosedFactor
   m = record { step = length P; content = w .taken; kept = kept; cleared = cl }
@@ -60,7 +60,7 @@ module _ (n : ℕ) (K : ℕ → List ℕ) (N P : List ℕ) (st : State) (k : ℕ
   split = S.split n K N κ (lvT ms) (λ i. refl) (λ i. refl) P (st .active-keys) (gone ms) (st .active) k once below (run .inv)
 
   act : (x : ℕ) → count x (k ∷ st .active-keys) + count x (gone ms) ≡ count x (k ∷ P)
-  unfolding keysOf
+  unfolding slotKeys
   act = S.act n K N κ (lvT ms) (λ i. refl) (λ i. refl) P (st .active-keys) (gone ms) (st .active) k once below (run .inv)
 
   inside : (s : Slot) → List·Memᴰ s (w .taken) → (x : ℕ) → In x (κ s) → In x (k ∷ st .active-keys)
@@ -114,14 +114,14 @@ module _ (n : ℕ) (K : ℕ → List ℕ) (N P : List ℕ) (st : State) (k : ℕ
   old-at j l = List·getD-append ms (m ∷ []) noMessage j l
 
   -- what an older message's slot touches stays
-  same-keys : (j : ℕ) → j < length ms → (s : Slot) → List·Memᴰ s (at ms j .content) → keysOf K ms′ s ≡ keysOf K ms s
-  unfolding keysOf
+  same-keys : (j : ℕ) → j < length ms → (s : Slot) → List·Memᴰ s (at ms j .content) → slotKeys K ms′ s ≡ slotKeys K ms s
+  unfolding slotKeys
   same-keys j l (original i) h = refl
   same-keys j l (closed c) h = ap (λ (r : ClosedFactor). r .kept) (old-at c (omega (arith, run .older j c (msgs-in h))))
 
   -- a slot of the new message is an original or an active message
-  new-keys : (s : Slot) → List·Memᴰ s (w .taken) → keysOf K ms′ s ≡ keysOf K ms s
-  unfolding keysOf
+  new-keys : (s : Slot) → List·Memᴰ s (w .taken) → slotKeys K ms′ s ≡ slotKeys K ms s
+  unfolding slotKeys
   new-keys (original i) h = refl
   new-keys (closed c) h =
       let t = walk-taken (λ s. touches cl (κ s)) (length (st .active)) (st .active) h in
@@ -144,7 +144,7 @@ module _ (n : ℕ) (K : ℕ → List ℕ) (N P : List ℕ) (st : State) (k : ℕ
           (record { apart = apart; low = low; keyed = λ s i x h. keyed s i x (rw (new-keys s i) at h); originals = originals })
 
   pub step-tidy : All ms → All (step n K (length P) k st .messages)
-  unfolding step closing sending append coupled coupledBy keysOf
+  unfolding step closing sending append coupled coupledBy slotKeys
   step-tidy all = go cl refl
     where
       go : (v : List ℕ) → cl ≡ v → All (sending n K (length P) st ak2 v .messages)
@@ -152,29 +152,29 @@ module _ (n : ℕ) (K : ℕ → List ℕ) (N P : List ℕ) (st : State) (k : ℕ
       go (c ∷ cs) e = subst (λ (v : List ℕ). All (append n K (length P) st ak2 v
           (walk (λ s. touches v (κ s)) (length (st .active)) (st .active)) .messages)) e (extended all)
 
-tidied : (n : ℕ) (K : ℕ → List ℕ) (N P : List ℕ) → ((j : ℕ) → count j P ≤ 1) → ((j : ℕ) → In j P → j < n) → (j : ℕ) → j < length (after n K N P .messages)
-    → Tidy n K N (after n K N P .messages) (at (after n K N P .messages) j)
-unfolding after
+tidied : (n : ℕ) (K : ℕ → List ℕ) (N P : List ℕ) → ((j : ℕ) → count j P ≤ 1) → ((j : ℕ) → In j P → j < n) → (j : ℕ) → j < length (stateAfter n K N P .messages)
+    → Tidy n K N (stateAfter n K N P .messages) (at (stateAfter n K N P .messages) j)
+unfolding stateAfter
 tidied n K N [] once below = λ j l. absurd (omega arith)
 tidied n K N (k ∷ P) once below =
     let o : (j : ℕ) → count j P ≤ 1 = λ j. omega (arith, once j, count-cons j k P) in
     let b : (j : ℕ) → In j P → j < n = λ j h. below j (omega (arith, count-cons j k P)) in
-    step-tidy n K N P (after n K N P) k once below (running n K N P o b) (tidied n K N P o b)
+    step-tidy n K N P (stateAfter n K N P) k once below (running n K N P o b) (tidied n K N P o b)
 
 -- a step sends one message at most
 step-most : (n : ℕ) (K : ℕ → List ℕ) (t k : ℕ) (st : State) → length (step n K t k st .messages) ≤ length (st .messages) + 1
 unfolding step closing sending append
-step-most n K t k st = go (rising n (λ j. mem j (k ∷ st .active-keys) && not (stays k (coupled K (st .messages) (k ∷ st .active-keys) (st .active)) j)))
+step-most n K t k st = go (risingWhere n (λ j. mem j (k ∷ st .active-keys) && not (stays k (coupled K (st .messages) (k ∷ st .active-keys) (st .active)) j)))
   where
     go : (v : List ℕ) → length (sending n K t st (keep (stays k (coupled K (st .messages) (k ∷ st .active-keys) (st .active))) (k ∷ st .active-keys))
         v .messages) ≤ length (st .messages) + 1
     go [] = omega arith
     go (c ∷ cs) = simp length-append (omega arith)
 
-messages-most : (n : ℕ) (K : ℕ → List ℕ) (N P : List ℕ) → length (after n K N P .messages) ≤ length P
-unfolding after
+messages-most : (n : ℕ) (K : ℕ → List ℕ) (N P : List ℕ) → length (stateAfter n K N P .messages) ≤ length P
+unfolding stateAfter
 messages-most n K N [] = omega arith
-messages-most n K N (k ∷ P) = omega (arith, step-most n K (length P) k (after n K N P), messages-most n K N P)
+messages-most n K N (k ∷ P) = omega (arith, step-most n K (length P) k (stateAfter n K N P), messages-most n K N P)
 
 -- ---- a whole pass, along an order that names each key once
 

@@ -11,9 +11,9 @@ use native.Mathlib.Omega.{arith}
 use native.Mathlib.Decide.{ℕ-discrete, decLt}
 use lib.ListN.{length, length-append, List·getD-append, List·getD-eq-default}
 use lib.Seq.{getD-append-seam}
-use Rattle.schedule.specs.Count.{hit, count, In, mem, keep, sum, joined, from, rising}
-use Rattle.schedule.specs.Pass.{Slot, original, closed, ClosedFactor, State, noMessage, at, keysOf, Walked, walk, touches, coupled, stays}
-use Rattle.schedule.specs.Pass.{append, sending, closing, step, after}
+use Rattle.schedule.specs.Count.{hit, count, In, mem, keep, sumOver, joined, from, risingWhere}
+use Rattle.schedule.specs.Pass.{Slot, original, closed, ClosedFactor, State, noMessage, at, slotKeys, Walked, walk, touches, coupled, stays}
+use Rattle.schedule.specs.Pass.{append, sending, closing, step, stateAfter}
 use Rattle.schedule.specs.Gather.{originalsIn, messagesIn}
 use Rattle.schedule.proofs.Counts.{count-cons, count-nil, count-append, mem-in, in-mem, sum-append, sum-member, sum-same}
 use Rattle.schedule.proofs.Sums.{sum-perm, sum-from-snoc, from-mem, joined-append}
@@ -41,14 +41,14 @@ abbrev pub gone : List ClosedFactor → List ℕ
 gone ms = joined (λ m. m .cleared) ms
 
 pub record Run (K : ℕ → List ℕ) (N : List ℕ) (P : List ℕ) (st : State) : Type 0 where
-  pub inv : Inv K N (keysOf K (st .messages)) (lvT (st .messages)) P (st .active-keys) (gone (st .messages)) (st .active)
+  pub inv : Inv K N (slotKeys K (st .messages)) (lvT (st .messages)) P (st .active-keys) (gone (st .messages)) (st .active)
   pub older : Older (st .messages)
   -- each message is active, or in the content of one other
-  pub place : (c : ℕ) → count c (messagesIn (st .active)) + sum (λ m. count c (messagesIn (m .content))) (st .messages)
+  pub place : (c : ℕ) → count c (messagesIn (st .active)) + sumOver (λ m. count c (messagesIn (m .content))) (st .messages)
       ≡ count c (from 0 (length (st .messages)))
   -- under the active messages stand collected messages, each once
-  pub whole : (h : ℕ → ClosedFactor → List ℕ) (x : ℕ) → sum (λ c. count x (collected h (st .messages) c)) (messagesIn (st .active))
-      ≡ sum (λ j. count x (h j (at (st .messages) j))) (from 0 (length (st .messages)))
+  pub whole : (h : ℕ → ClosedFactor → List ℕ) (x : ℕ) → sumOver (λ c. count x (collected h (st .messages) c)) (messagesIn (st .active))
+      ≡ sumOver (λ j. count x (h j (at (st .messages) j))) (from 0 (length (st .messages)))
   -- an original that touches a cleared key is a leaf under the message that clears it
   pub covers : (j : ℕ) → j < length (st .messages) → (f : ℕ) → In f N → (x : ℕ) → In x (K f) → In x ((at (st .messages) j) .cleared)
       → In f (collected leafH (st .messages) j)
@@ -62,8 +62,8 @@ msgs-append [] b = refl
 msgs-append (original i ∷ a) b = msgs-append a b
 msgs-append (closed j ∷ a) b = ap (λ (r : List ℕ). j ∷ r) (msgs-append a b)
 
-msgs-count : (c : ℕ) (l : List Slot) → count c (messagesIn l) ≡ sum (λ s. count c (messagesIn (s ∷ []))) l
-unfolding sum
+msgs-count : (c : ℕ) (l : List Slot) → count c (messagesIn l) ≡ sumOver (λ s. count c (messagesIn (s ∷ []))) l
+unfolding sumOver
 msgs-count c [] = count-nil c
 msgs-count c (original i ∷ l) = omega (arith, msgs-count c l, count-nil c)
 msgs-count c (closed j ∷ l) = omega (arith, msgs-count c l, count-cons c j (messagesIn l), count-cons c j [], count-nil c)
@@ -77,21 +77,21 @@ msgs-in {c} {l} m = omega (
   Rattle.schedule.proofs.Counts.hit-same c,
 )
 
-pub parts : (f : ℕ) (ms : List ClosedFactor) (l : List Slot) → count f (originalsIn l) + sum (λ c. count f (collected leafH ms c)) (messagesIn l)
-    ≡ sum (λ s. count f (lvT ms s)) l
-unfolding sum
+pub parts : (f : ℕ) (ms : List ClosedFactor) (l : List Slot) → count f (originalsIn l) + sumOver (λ c. count f (collected leafH ms c)) (messagesIn l)
+    ≡ sumOver (λ s. count f (lvT ms s)) l
+unfolding sumOver
 parts f ms [] = omega (arith, count-nil f)
 parts f ms (original i ∷ l) = omega (arith, parts f ms l, count-cons f i (originalsIn l), count-cons f i [], count-nil f)
 parts f ms (closed j ∷ l) = omega (arith, parts f ms l)
 
-pub count-sum : (c : ℕ) (l : List ℕ) → count c l ≡ sum (hit c) l
-unfolding sum count
+pub count-sum : (c : ℕ) (l : List ℕ) → count c l ≡ sumOver (hit c) l
+unfolding sumOver count
 count-sum c [] = refl
 count-sum c (x ∷ l) = omega (arith, count-sum c l)
 
 -- a list is its elements, one by one
-pub singles : (x : ℕ) (l : List ℕ) → sum (λ j. count x (j ∷ [])) l ≡ count x l
-unfolding sum count
+pub singles : (x : ℕ) (l : List ℕ) → sumOver (λ j. count x (j ∷ [])) l ≡ count x l
+unfolding sumOver count
 singles x [] = refl
 singles x (j ∷ l) = omega (arith, singles x l)
 
@@ -107,7 +107,7 @@ module _ (n : ℕ) (K : ℕ → List ℕ) (N P : List ℕ) (st : State) (k : ℕ
   ms = st .messages
 
   abbrev κ : Slot → List ℕ
-  κ = keysOf K ms
+  κ = slotKeys K ms
 
   abbrev cp : List ℕ
   cp = coupled K ms (k ∷ st .active-keys) (st .active)
@@ -116,13 +116,13 @@ module _ (n : ℕ) (K : ℕ → List ℕ) (N P : List ℕ) (st : State) (k : ℕ
   ak2 = keep (stays k cp) (k ∷ st .active-keys)
 
   abbrev cl : List ℕ
-  cl = rising n (λ j. mem j (k ∷ st .active-keys) && not (stays k cp j))
+  cl = risingWhere n (λ j. mem j (k ∷ st .active-keys) && not (stays k cp j))
 
   abbrev w : Walked
   w = walk (λ s. touches cl (κ s)) (length (st .active)) (st .active)
 
   abbrev m : ClosedFactor
-  m = record { step = length P; content = w .taken; kept = rising n (λ j. mem j ak2 && mem j (joined κ (w .taken))); cleared = cl }
+  m = record { step = length P; content = w .taken; kept = risingWhere n (λ j. mem j ak2 && mem j (joined κ (w .taken))); cleared = cl }
 
   abbrev ms′ : List ClosedFactor
   ms′ = ms ++ (m ∷ [])
@@ -163,25 +163,25 @@ module _ (n : ℕ) (K : ℕ → List ℕ) (N P : List ℕ) (st : State) (k : ℕ
       go (no l) (yes e) = omega (arith, bound c (omega (arith, walked c, rw (e, new-at) at h)))
       go (no l) (no e) = absurd (omega (arith, count-nil c, rw (List·getD-eq-default ms′ noMessage {n = j} (omega (arith, longer))) at h))
 
-  same : (s : Slot) → List·Memᴰ s (st .active) → (keysOf K ms′ s ≡ κ s) × (lvT ms′ s ≡ lvT ms s)
-  unfolding keysOf
+  same : (s : Slot) → List·Memᴰ s (st .active) → (slotKeys K ms′ s ≡ κ s) × (lvT ms′ s ≡ lvT ms s)
+  unfolding slotKeys
   same (original i) i-in = (refl, refl)
   same (closed c) c-in = let l = bound c (msgs-in c-in) in (ap (λ (e : ClosedFactor). e .kept) (old-at c l), all-old leafH ms (m ∷ []) (run .older) c l)
 
-  ls-is : (f : ℕ) → count f (collected leafH ms′ (length ms)) ≡ sum (λ s. count f (lvT ms s)) (w .taken)
+  ls-is : (f : ℕ) → count f (collected leafH ms′ (length ms)) ≡ sumOver (λ s. count f (lvT ms s)) (w .taken)
   ls-is f = all-new leafH ms m (run .older) older′ f ∙ parts f ms (w .taken)
 
-  inv′ : Inv K N (keysOf K ms′) (lvT ms′) (k ∷ P) ak2 (gone ms ++ cl) (w .left ++ (closed (length ms) ∷ []))
-  unfolding coupled coupledBy keysOf
+  inv′ : Inv K N (slotKeys K ms′) (lvT ms′) (k ∷ P) ak2 (gone ms ++ cl) (w .left ++ (closed (length ms) ∷ []))
+  unfolding coupled coupledBy slotKeys
   inv′ = S.sent n K N κ (lvT ms) (λ i. refl) (λ i. refl) P (st .active-keys) (gone ms) (st .active) k once below (run .inv) (length (st .active)) (omega arith)
-      (collected leafH ms′ (length ms)) ls-is (keysOf K ms′) (lvT ms′) (length ms) same (ap (λ (e : ClosedFactor). e .kept) new-at) refl
+      (collected leafH ms′ (length ms)) ls-is (slotKeys K ms′) (lvT ms′) (length ms) same (ap (λ (e : ClosedFactor). e .kept) new-at) refl
 
   gone′ : gone ms′ ≡ gone ms ++ cl
   unfolding joined
   gone′ = joined-append (λ e. e .cleared) ms (m ∷ []) ∙ ap (λ (r : List ℕ). gone ms ++ r) (append-nil cl)
 
   sent : Run K N (k ∷ P) (append n K (length P) st ak2 cl w)
-  unfolding append sum coupled coupledBy keysOf
+  unfolding append sumOver coupled coupledBy slotKeys
   sent = record {
     inv = rw gone′ inv′;
     older = older′;
@@ -199,14 +199,14 @@ module _ (n : ℕ) (K : ℕ → List ℕ) (N P : List ℕ) (st : State) (k : ℕ
     );
     whole = λ h x. omega (
       arith,
-      ap (sum (λ c. count x (collected h ms′ c))) (msgs-append (w .left) (closed (length ms) ∷ [])),
+      ap (sumOver (λ c. count x (collected h ms′ c))) (msgs-append (w .left) (closed (length ms) ∷ [])),
       sum-append (λ c. count x (collected h ms′ c)) (messagesIn (w .left)) (length ms ∷ []),
       all-new h ms m (run .older) older′ x,
       run .whole h x,
       sum-same (λ c. count x (collected h ms′ c)) (λ c. count x (collected h ms c)) (messagesIn (w .left))
           (λ c i. ap (count x) (all-old h ms (m ∷ []) (run .older) c (bound c (omega (arith, mem-in i, walked c))))),
       both h x,
-      ap (λ (y : ℕ). sum (λ j. count x (h j (at ms′ j))) (from 0 y)) longer,
+      ap (λ (y : ℕ). sumOver (λ j. count x (h j (at ms′ j))) (from 0 y)) longer,
       sum-from-snoc (λ j. count x (h j (at ms′ j))) 0 (length ms),
       ap (λ (y : ℕ). count x (h y (at ms′ y))) (zero-add (length ms)),
       ap (λ (e : ClosedFactor). count x (h (length ms) e)) new-at,
@@ -218,8 +218,9 @@ module _ (n : ℕ) (K : ℕ → List ℕ) (N P : List ℕ) (st : State) (k : ℕ
     steps = λ j l. stepping j (index j l);
   }
     where
-      both : (h : ℕ → ClosedFactor → List ℕ) (x : ℕ) → sum (λ c. count x (collected h ms c)) (messagesIn (w .taken)) + sum (λ c. count x (collected h ms c))
-          (messagesIn (w .left)) ≡ sum (λ c. count x (collected h ms c)) (messagesIn (st .active))
+      both : (h : ℕ → ClosedFactor → List ℕ) (x : ℕ) → sumOver (λ c. count x (collected h ms c)) (messagesIn (w .taken)) + sumOver
+          (λ c. count x (collected h ms c))
+          (messagesIn (w .left)) ≡ sumOver (λ c. count x (collected h ms c)) (messagesIn (st .active))
       both h x = omega (
         arith,
         sum-append (λ c. count x (collected h ms c)) (messagesIn (w .taken)) (messagesIn (w .left)),
@@ -262,7 +263,7 @@ module _ (n : ℕ) (K : ℕ → List ℕ) (N P : List ℕ) (st : State) (k : ℕ
       stepping j (inr e) = rw (e, new-at) (omega arith)
 
   pub next : Run K N (k ∷ P) (step n K (length P) k st)
-  unfolding step closing sending coupled coupledBy keysOf
+  unfolding step closing sending coupled coupledBy slotKeys
   next = go cl refl
     where
       go : (v : List ℕ) → cl ≡ v → Run K N (k ∷ P) (sending n K (length P) st ak2 v)
@@ -280,8 +281,8 @@ module _ (n : ℕ) (K : ℕ → List ℕ) (N P : List ℕ) (st : State) (k : ℕ
           (walk (λ s. touches v (κ s)) (length (st .active)) (st .active)))) e sent
 
 -- the start
-lv-start : (ms : List ClosedFactor) (f : ℕ) (N : List ℕ) → sum (λ s. count f (lvT ms s)) (map original N) ≡ count f N
-unfolding sum
+lv-start : (ms : List ClosedFactor) (f : ℕ) (N : List ℕ) → sumOver (λ s. count f (lvT ms s)) (map original N) ≡ count f N
+unfolding sumOver
 lv-start ms f [] = sym (count-nil f)
 lv-start ms f (i ∷ N) = omega (arith, lv-start ms f N, count-cons f i N, count-cons f i [], count-nil f)
 
@@ -297,8 +298,8 @@ start-msgs : (N : List ℕ) → messagesIn (map original N) ≡ []
 start-msgs [] = refl
 start-msgs (i ∷ N) = start-msgs N
 
-pub start : (n : ℕ) (K : ℕ → List ℕ) (N : List ℕ) → Run K N [] (after n K N [])
-unfolding after count sum keysOf joined from
+pub start : (n : ℕ) (K : ℕ → List ℕ) (N : List ℕ) → Run K N [] (stateAfter n K N [])
+unfolding stateAfter count sumOver slotKeys joined from
 start n K N = record {
   inv = record {
     keys = λ j. refl;
@@ -307,7 +308,7 @@ start n K N = record {
   };
   older = λ j c h. absurd (omega arith);
   place = λ c. omega (arith, ap (count c) (start-msgs N));
-  whole = λ h x. ap (sum (λ c. count x (collected h [] c))) (start-msgs N);
+  whole = λ h x. ap (sumOver (λ c. count x (collected h [] c))) (start-msgs N);
   covers = λ j l. absurd (omega arith);
   small = λ j l. absurd (omega arith);
   steps = λ j l. absurd (omega arith);
@@ -316,29 +317,29 @@ start n K N = record {
     hold : (i f : ℕ) → In f (i ∷ []) → (j : ℕ) → In j (K f) → In j (K i)
     hold i f h j q = rw (Rattle.schedule.proofs.Counts.hit-eq f i (omega arith)) at q
 
-    node : (s : Slot) → (i : ℕ) × (s ≡ original i) → Good K (isClosed s) (keysOf K [] s) (lvT [] s) [] [] []
+    node : (s : Slot) → (i : ℕ) × (s ≡ original i) → Good K (isClosed s) (slotKeys K [] s) (lvT [] s) [] [] []
     node s (i, e) = rw e (record { free = λ j h. refl; hold = λ f h j q z. hold i f h j q; inner = λ t. absurd t; full = λ t. absurd t; low = λ t. absurd t })
 
 -- after any list of keys, each below n and none twice
-pub running : (n : ℕ) (K : ℕ → List ℕ) (N P : List ℕ) → ((j : ℕ) → count j P ≤ 1) → ((j : ℕ) → In j P → j < n) → Run K N P (after n K N P)
-unfolding after
+pub running : (n : ℕ) (K : ℕ → List ℕ) (N P : List ℕ) → ((j : ℕ) → count j P ≤ 1) → ((j : ℕ) → In j P → j < n) → Run K N P (stateAfter n K N P)
+unfolding stateAfter
 running n K N [] once below = start n K N
 running n K N (k ∷ P) once below =
-    next n K N P (after n K N P) k once below (running n K N P (λ j. omega (arith, once j, count-cons j k P))
+    next n K N P (stateAfter n K N P) k once below (running n K N P (λ j. omega (arith, once j, count-cons j k P))
     (λ j h. below j (omega (arith, count-cons j k P))))
 
 -- why a key other than the last one processed stays active
 pub stays-why : (n : ℕ) (K : ℕ → List ℕ) (N P : List ℕ) (k : ℕ) → ((j : ℕ) → count j (k ∷ P) ≤ 1) → ((j : ℕ) → In j (k ∷ P) → j < n) → (j : ℕ)
-    → In j ((after n K N (k ∷ P)) .active-keys) → j ≢ k
+    → In j ((stateAfter n K N (k ∷ P)) .active-keys) → j ≢ k
     → (f : ℕ) × In f N × In j (K f) × ((i : ℕ) × In i (K f) × (count i (k ∷ P) ≡ 0))
-unfolding after step closing sending coupled coupledBy keysOf
+unfolding stateAfter step closing sending coupled coupledBy slotKeys
 stays-why n K N P k once below j h ne =
-    S.why n K N (keysOf K (st .messages)) (lvT (st .messages)) (λ i. refl) (λ i. refl) P (st .active-keys) (gone (st .messages)) (st .active) k once
+    S.why n K N (slotKeys K (st .messages)) (lvT (st .messages)) (λ i. refl) (λ i. refl) P (st .active-keys) (gone (st .messages)) (st .active) k once
     below (run .inv) j
     (rw (keys-are (cl n K N P st k once below run)) at h) ne
   where
     st : State
-    st = after n K N P
+    st = stateAfter n K N P
 
     run : Run K N P st
     run = running n K N P (λ j. omega (arith, once j, count-cons j k P)) (λ j h. below j (omega (arith, count-cons j k P)))
@@ -353,23 +354,23 @@ Later t ms ms′ = (more : List ClosedFactor) × (ms′ ≡ ms ++ more) × ((e :
 
 later-step : (n : ℕ) (K : ℕ → List ℕ) (t k : ℕ) (st : State) → Later t (st .messages) ((step n K t k st) .messages)
 unfolding step closing Later append
-later-step n K t k st = go (rising n (λ j. mem j (k ∷ st .active-keys) && not (stays k (coupled K (st .messages) (k ∷ st .active-keys) (st .active)) j)))
+later-step n K t k st = go (risingWhere n (λ j. mem j (k ∷ st .active-keys) && not (stays k (coupled K (st .messages) (k ∷ st .active-keys) (st .active)) j)))
   where
     go : (v : List ℕ) → Later t (st .messages) ((sending n K t st
         (keep (stays k (coupled K (st .messages) (k ∷ st .active-keys) (st .active))) (k ∷ st .active-keys)) v) .messages)
     go [] = ([], sym (append-nil (st .messages)), λ e m. absurd (List·Memᴰ·not-nil m))
     go (c ∷ cs) = (_, refl, λ e m. rw (List·Memᴰ·eq-of-singleton m) (omega arith))
 
-pub later : (n : ℕ) (K : ℕ → List ℕ) (N P′ P : List ℕ) → Later (length P) ((after n K N P) .messages) ((after n K N (P′ ++ P)) .messages)
-unfolding after Later
-later n K N [] P = ([], sym (append-nil ((after n K N P) .messages)), λ e m. absurd (List·Memᴰ·not-nil m))
-later n K N (k ∷ P′) P = go (later n K N P′ P) (later-step n K (length (P′ ++ P)) k (after n K N (P′ ++ P)))
+pub later : (n : ℕ) (K : ℕ → List ℕ) (N P′ P : List ℕ) → Later (length P) ((stateAfter n K N P) .messages) ((stateAfter n K N (P′ ++ P)) .messages)
+unfolding stateAfter Later
+later n K N [] P = ([], sym (append-nil ((stateAfter n K N P) .messages)), λ e m. absurd (List·Memᴰ·not-nil m))
+later n K N (k ∷ P′) P = go (later n K N P′ P) (later-step n K (length (P′ ++ P)) k (stateAfter n K N (P′ ++ P)))
   where
-    go : Later (length P) ((after n K N P) .messages) ((after n K N (P′ ++ P)) .messages)
-        → Later (length (P′ ++ P)) ((after n K N (P′ ++ P)) .messages) ((after n K N (k ∷ P′ ++ P)) .messages)
-        → Later (length P) ((after n K N P) .messages) ((after n K N (k ∷ P′ ++ P)) .messages)
+    go : Later (length P) ((stateAfter n K N P) .messages) ((stateAfter n K N (P′ ++ P)) .messages)
+        → Later (length (P′ ++ P)) ((stateAfter n K N (P′ ++ P)) .messages) ((stateAfter n K N (k ∷ P′ ++ P)) .messages)
+        → Later (length P) ((stateAfter n K N P) .messages) ((stateAfter n K N (k ∷ P′ ++ P)) .messages)
     go (a, e, f) (b, e′, f′) =
-        (a ++ b, e′ ∙ ap (λ (r : List ClosedFactor). r ++ b) e ∙ append-assoc ((after n K N P) .messages) a b, λ x m. each x (List·Memᴰ·append-cases a m))
+        (a ++ b, e′ ∙ ap (λ (r : List ClosedFactor). r ++ b) e ∙ append-assoc ((stateAfter n K N P) .messages) a b, λ x m. each x (List·Memᴰ·append-cases a m))
       where
         each : (x : ClosedFactor) → List·Memᴰ x a ⊎ List·Memᴰ x b → length P ≤ x .step
         each x (inl m) = f x m

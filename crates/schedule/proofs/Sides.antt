@@ -9,8 +9,9 @@ use native.Mathlib.Omega.{arith}
 use native.Mathlib.Decide.{decLt}
 use lib.Dec.{T, eqb, leb→le, le→leb, ltb→lt, nltb→le, T-not, not-T, eqb-refl}
 use lib.ListN.{length, getD, length-append, List·getD-append}
-use Rattle.schedule.specs.Count.{count, In, mem, putIf, keep, sum, joined, from, rising}
-use Rattle.schedule.specs.Pass.{Slot, original, closed, ClosedFactor, State, noMessage, at, keysOf, coupled, stays, append, sending, closing, step, after}
+use Rattle.schedule.specs.Count.{count, In, mem, putIf, keep, sumOver, joined, from, risingWhere}
+use Rattle.schedule.specs.Pass.{Slot, original, closed, ClosedFactor, State, noMessage, at, slotKeys, coupled, stays, append, sending, closing}
+use Rattle.schedule.specs.Pass.{step, stateAfter}
 use Rattle.schedule.specs.Gather.{originalsIn, messagesIn, upTo, within, alive-among, alive-messages, popped, under, leaves}
 use Rattle.schedule.specs.Once.{behind, AllUnder, clearedBy, Covers}
 use Rattle.schedule.proofs.Counts.{sure, and-l, and-i, and-no-r, or-l, not-not, hit-same, count-cons, count-nil, count-append, count-joined}
@@ -139,7 +140,7 @@ module _ (K : ℕ → List ℕ) (N P : List ℕ) (k : ℕ) (st : State) (run : R
   within-is = ap (joined (λ m. messagesIn (m .content))) (keep-append (upTo r) ms more
       ∙ ap₂ _++_ (keep-all (upTo r) ms early) (keep-none (upTo r) more late) ∙ append-nil ms)
 
-  within-sum : (c : ℕ) → count c (within r (ms ++ more)) ≡ sum (λ m. count c (messagesIn (m .content))) ms
+  within-sum : (c : ℕ) → count c (within r (ms ++ more)) ≡ sumOver (λ m. count c (messagesIn (m .content))) ms
   within-sum c = ap (count c) within-is ∙ count-joined c (λ m. messagesIn (m .content)) ms
 
   -- the gathered messages are the active ones
@@ -150,7 +151,7 @@ module _ (K : ℕ → List ℕ) (N P : List ℕ) (k : ℕ) (st : State) (run : R
       test : ℕ → Bool
       test j = upTo r (at (ms ++ more) j) && not (mem j (within r (ms ++ more)))
 
-      beyond : ¬ (c < length ms) → (x : ℕ) → count c (rising (length (ms ++ more)) test) ≡ x → x ≡ 0
+      beyond : ¬ (c < length ms) → (x : ℕ) → count c (risingWhere (length (ms ++ more)) test) ≡ x → x ≡ 0
       beyond h zero e = refl
       beyond h (suc x) e =
           let t = rising-in (length (ms ++ more)) test c (omega arith) in
@@ -158,7 +159,7 @@ module _ (K : ℕ → List ℕ) (N P : List ℕ) (k : ℕ) (st : State) (run : R
           (and-l (upTo r (at (ms ++ more) c)) (not (mem c (within r (ms ++ more)))) (t .0)))
 
       go : Dec (c < length ms) → T (mem c (within r (ms ++ more))) ⊎ T (not (mem c (within r (ms ++ more))))
-          → count c (rising (length (ms ++ more)) test) ≡ count c (messagesIn (st .active))
+          → count c (risingWhere (length (ms ++ more)) test) ≡ count c (messagesIn (st .active))
       go (yes l) (inl t) =
           omega (
             arith,
@@ -180,7 +181,7 @@ module _ (K : ℕ → List ℕ) (N P : List ℕ) (k : ℕ) (st : State) (run : R
             run .place c,
             from-in c 0 (length ms) (omega arith) (omega arith),
           )
-      go (no l) d = omega (arith, beyond l (count c (rising (length (ms ++ more)) test)) refl, run .place c, from-above c 0 (length ms) (omega arith))
+      go (no l) d = omega (arith, beyond l (count c (risingWhere (length (ms ++ more)) test)) refl, run .place c, from-above c 0 (length ms) (omega arith))
 
 -- what the gathering lists of one pass
 abbrev pub gatheredLeaves : List ClosedFactor → ℕ → List ℕ
@@ -206,8 +207,9 @@ pub record Side (K : ℕ → List ℕ) (N P : List ℕ) (k : ℕ) (full : List C
   -- as many turns as there are messages open collected that lies behind
   pub under : AllUnder full (behind full (alive-messages (length P) full))
 
-count-joined² : {A : Type 0} (x : ℕ) (g : ℕ → List ℕ) (h : A → List ℕ) (l : List A) → count x (joined g (joined h l)) ≡ sum (λ c. count x (joined g (h c))) l
-unfolding joined sum
+count-joined² : {A : Type 0} (x : ℕ) (g : ℕ → List ℕ) (h : A → List ℕ) (l : List A) → count x (joined g (joined h l))
+    ≡ sumOver (λ c. count x (joined g (h c))) l
+unfolding joined sumOver
 count-joined² x g h [] = count-nil x
 count-joined² x g h (c ∷ l) = omega (
   arith,
@@ -242,20 +244,21 @@ module _ (K : ℕ → List ℕ) (N P : List ℕ) (k : ℕ) (st : State) (run : R
 
   -- a sum over the gathered messages, as one over the active ones
   over : (g h : ℕ → List ℕ) → ((c : ℕ) → c < length mz → g c ≡ h c) → (x : ℕ) → count x (joined g (alive-messages (length P) full))
-      ≡ sum (λ c. count x (h c)) (messagesIn (st .active))
+      ≡ sumOver (λ c. count x (h c)) (messagesIn (st .active))
   over g h e x =
       count-joined x g (alive-messages (length P) full)
       ∙ sum-same (λ c. count x (g c)) (λ c. count x (h c)) (alive-messages (length P) full) (λ c m. ap (count x) (e c (alive-lt c (mem-in m))))
       ∙ sum-perm (λ c. count x (h c)) (alive-messages (length P) full) (messagesIn (st .active)) same-alive
 
-  leaves-sum : (f : ℕ) → count f (gatheredLeaves full (length P)) ≡ sum (λ c. count f (collected leafH mz c)) (messagesIn (st .active))
+  leaves-sum : (f : ℕ) → count f (gatheredLeaves full (length P)) ≡ sumOver (λ c. count f (collected leafH mz c)) (messagesIn (st .active))
   leaves-sum f = over (leaves full) (collected leafH mz) (λ c l. leaves-is full older small c (mz-full c l) ∙ all-old leafH mz more (run .older) c l) f
 
   -- a gathered leaf, and the active message that it lies under
   leaf-of : (f : ℕ) → In f (gatheredLeaves full (length P)) → (c : ℕ) × List·Memᴰ (closed c) (st .active) × In f (collected leafH mz c)
   leaf-of f h = go (sum-some (λ c. count f (collected leafH mz c)) (messagesIn (st .active)) (omega (arith, leaves-sum f)))
     where
-      go : (c : ℕ) × List·Memᴰ c (messagesIn (st .active)) × In f (collected leafH mz c) → (c : ℕ) × List·Memᴰ (closed c) (st .active) × In f (collected leafH mz c)
+      go : (c : ℕ) × List·Memᴰ c (messagesIn (st .active)) × In f (collected leafH mz c)
+          → (c : ℕ) × List·Memᴰ (closed c) (st .active) × In f (collected leafH mz c)
       go (c, m, i) = (c, msgs-mem (st .active) m, i)
 
   whole-leaves : (f : ℕ) → count f (originalsIn (st .active)) + count f (gatheredLeaves full (length P)) ≡ count f N
@@ -279,7 +282,7 @@ module _ (K : ℕ → List ℕ) (N P : List ℕ) (k : ℕ) (st : State) (run : R
       go (c, m, q) = let l = mz-full c (alive-lt c (mem-in m)) in omega (arith, under-is full older small c i l, small c l i)
 
   side : Side K N P k full (st .active-keys) (gone mz)
-  unfolding keysOf
+  unfolding slotKeys
   side = record {
     keys = run .inv .keys;
     own = own-k;
@@ -309,12 +312,12 @@ module _ (K : ℕ → List ℕ) (N P : List ℕ) (k : ℕ) (st : State) (run : R
       go-inner j (c, m, q) = (run .inv .node (closed c) (msgs-mem (st .active) m)) .inner tt j q
 
 -- the step's key stays active
-pub own-key : (n : ℕ) (K : ℕ → List ℕ) (N P : List ℕ) (k : ℕ) → In k ((after n K N (k ∷ P)) .active-keys)
-unfolding after step closing sending append
-own-key n K N P k = go (rising n (λ j. mem j (k ∷ st .active-keys) && not (stays k cp j)))
+pub own-key : (n : ℕ) (K : ℕ → List ℕ) (N P : List ℕ) (k : ℕ) → In k ((stateAfter n K N (k ∷ P)) .active-keys)
+unfolding stateAfter step closing sending append
+own-key n K N P k = go (risingWhere n (λ j. mem j (k ∷ st .active-keys) && not (stays k cp j)))
   where
     st : State
-    st = after n K N P
+    st = stateAfter n K N P
 
     cp : List ℕ
     cp = coupled K (st .messages) (k ∷ st .active-keys) (st .active)
@@ -328,7 +331,7 @@ own-key n K N P k = go (rising n (λ j. mem j (k ∷ st .active-keys) && not (st
 
 -- one side, for a pass along any keys that has k after P
 pub a-side : (n : ℕ) (K : ℕ → List ℕ) (N P′ P : List ℕ) (k : ℕ) → ((j : ℕ) → count j (P′ ++ (k ∷ P)) ≤ 1) → ((j : ℕ) → In j (P′ ++ (k ∷ P)) → j < n)
-    → (ak out : List ℕ) × Side K N P k ((after n K N (P′ ++ (k ∷ P))) .messages) ak out
+    → (ak out : List ℕ) × Side K N P k ((stateAfter n K N (P′ ++ (k ∷ P))) .messages) ak out
 unfolding Later
 a-side n K N P′ P k once below = go (later n K N P′ (k ∷ P)) (running n K N (P′ ++ (k ∷ P)) once below)
   where
@@ -339,10 +342,10 @@ a-side n K N P′ P k once below = go (later n K N P′ (k ∷ P)) (running n K 
     below′ j h = below j (omega (arith, count-append j P′ (k ∷ P)))
 
     st : State
-    st = after n K N (k ∷ P)
+    st = stateAfter n K N (k ∷ P)
 
-    go : Later (suc (length P)) (st .messages) ((after n K N (P′ ++ (k ∷ P))) .messages) → Run K N (P′ ++ (k ∷ P)) (after n K N (P′ ++ (k ∷ P)))
-        → (ak out : List ℕ) × Side K N P k ((after n K N (P′ ++ (k ∷ P))) .messages) ak out
+    go : Later (suc (length P)) (st .messages) ((stateAfter n K N (P′ ++ (k ∷ P))) .messages) → Run K N (P′ ++ (k ∷ P)) (stateAfter n K N (P′ ++ (k ∷ P)))
+        → (ak out : List ℕ) × Side K N P k ((stateAfter n K N (P′ ++ (k ∷ P))) .messages) ak out
     go (more, e, far) big = (
       st .active-keys,
       gone (st .messages),

@@ -8,7 +8,7 @@ use Prim.Native.Nat.{ℕ, zero, suc, _+_, _≤_, _<_}
 use native.Mathlib.Omega.{arith}
 use lib.Dec.{T, eqb, ltb→lt, lt→ltb, nltb→le, eqb→eq, T-not}
 use lib.ListN.{length}
-use Rattle.schedule.specs.Count.{count, In, mem, keep, sum, joined, rising}
+use Rattle.schedule.specs.Count.{count, In, mem, keep, sumOver, joined, risingWhere}
 use Rattle.schedule.specs.Pass.{Slot, original, closed, Walked, walk, outside, touches, keysIf, stays}
 use Rattle.schedule.proofs.Counts.{sure, and-l, and-r, and-i, and-no-l, and-no-r, or-r, or-e, not-not, un-not, hit-same, hit-eq, count-cons}
 use Rattle.schedule.proofs.Counts.{count-nil, count-append, count-joined, in-mem, mem-in, sum-append, sum-some, sum-member, sum-same, any-some}
@@ -36,7 +36,7 @@ pub record Inv (K : ℕ → List ℕ) (N : List ℕ) (κ lv : Slot → List ℕ)
   -- a processed key is active or cleared, and never both
   pub keys : (j : ℕ) → count j ak + count j gone ≡ count j P
   -- the leaves of the active slots are the originals
-  pub leaf : (f : ℕ) → sum (λ s. count f (lv s)) slots ≡ count f N
+  pub leaf : (f : ℕ) → sumOver (λ s. count f (lv s)) slots ≡ count f N
   pub node : (s : Slot) → List·Memᴰ s slots → Good K (isClosed s) (κ s) (lv s) P ak gone
 
 unfoldable pub coupledBy : (Slot → List ℕ) → List ℕ → List Slot → List ℕ
@@ -53,7 +53,7 @@ module _ (n : ℕ) (K : ℕ → List ℕ) (N : List ℕ) (κ lv : Slot → List 
   ak2 = keep (stays k cp) (k ∷ ak)
 
   abbrev pub cl : List ℕ
-  cl = rising n (λ j. mem j (k ∷ ak) && not (stays k cp j))
+  cl = risingWhere n (λ j. mem j (k ∷ ak) && not (stays k cp j))
 
   pub act : (j : ℕ) → count j (k ∷ ak) + count j gone ≡ count j (k ∷ P)
   act j = omega (arith, count-cons j k ak, count-cons j k P, inv .keys j)
@@ -152,9 +152,9 @@ module _ (n : ℕ) (K : ℕ → List ℕ) (N : List ℕ) (κ lv : Slot → List 
     w = walk (λ s. touches cl (κ s)) d slots
 
     abbrev pub kept : List ℕ
-    kept = rising n (λ j. mem j ak2 && mem j (joined κ (w .taken)))
+    kept = risingWhere n (λ j. mem j ak2 && mem j (joined κ (w .taken)))
 
-    module _ (ls : List ℕ) (ls-is : (f : ℕ) → count f ls ≡ sum (λ s. count f (lv s)) (w .taken)) where
+    module _ (ls : List ℕ) (ls-is : (f : ℕ) → count f ls ≡ sumOver (λ s. count f (lv s)) (w .taken)) where
       -- a leaf of the message lies under a slot that was taken
       under-taken : (f : ℕ) → In f ls → (s : Slot) × List·Memᴰ s (w .taken) × In f (lv s)
       under-taken f h = sum-some (λ s. count f (lv s)) (w .taken) (omega (arith, ls-is f))
@@ -200,7 +200,7 @@ module _ (n : ℕ) (K : ℕ → List ℕ) (N : List ℕ) (κ lv : Slot → List 
 
       -- every original that touches a cleared key is a leaf of the message that clears it
       pub covers : (f : ℕ) → In f N → (j : ℕ) → In j (K f) → In j cl → In f ls
-      covers f h j q c = go (sum (λ s. count f (lv s)) (w .left)) refl
+      covers f h j q c = go (sumOver (λ s. count f (lv s)) (w .left)) refl
         where
           no-left : (s : Slot) × List·Memᴰ s (w .left) × In f (lv s) → ⊥
           no-left (s, m, i) =
@@ -208,7 +208,7 @@ module _ (n : ℕ) (K : ℕ → List ℕ) (N : List ℕ) (κ lv : Slot → List 
               let t : In j (κ s) = (inv .node s (r .0)) .hold f i j q (omega (arith, split j, act j, once j)) in
               T-not (touches cl (κ s)) (r .1) (touches-of cl (κ s) j t c)
 
-          go : (x : ℕ) → sum (λ s. count f (lv s)) (w .left) ≡ x → In f ls
+          go : (x : ℕ) → sumOver (λ s. count f (lv s)) (w .left) ≡ x → In f ls
           go zero e = omega (arith, ls-is f, walk-sum (λ s. count f (lv s)) (λ s. touches cl (κ s)) d slots, inv .leaf f)
           go (suc x) e = absurd (no-left (sum-some (λ s. count f (lv s)) (w .left) (omega arith)))
 
@@ -216,7 +216,7 @@ module _ (n : ℕ) (K : ℕ → List ℕ) (N : List ℕ) (κ lv : Slot → List 
       pub sent : (κ′ lv′ : Slot → List ℕ) (M : ℕ) → ((s : Slot) → List·Memᴰ s slots → (κ′ s ≡ κ s) × (lv′ s ≡ lv s)) → κ′ (closed M) ≡ kept
           → lv′ (closed M) ≡ ls
           → Inv K N κ′ lv′ (k ∷ P) ak2 (gone ++ cl) (w .left ++ (closed M ∷ []))
-      unfolding sum
+      unfolding sumOver
       sent κ′ lv′ M same κM lvM = record {
         keys = λ j. omega (arith, split j, act j, count-append j gone cl);
         leaf = λ f. omega (
@@ -234,7 +234,7 @@ module _ (n : ℕ) (K : ℕ → List ℕ) (N : List ℕ) (κ lv : Slot → List 
           old : {s : Slot} → List·Memᴰ s (w .left) → List·Memᴰ s slots
           old m = (walk-left (λ s. touches cl (κ s)) d slots fuel m) .0
 
-          one : (f : ℕ) → sum (λ s. count f (lv′ s)) (closed M ∷ []) ≡ count f ls
+          one : (f : ℕ) → sumOver (λ s. count f (lv′ s)) (closed M ∷ []) ≡ count f ls
           one f = omega (arith, ap (count f) lvM)
 
           nodes : (s : Slot) → List·Memᴰ s (w .left) ⊎ List·Memᴰ s (closed M ∷ []) → Good K (isClosed s) (κ′ s) (lv′ s) (k ∷ P) ak2 (gone ++ cl)

@@ -6,7 +6,7 @@ use Prim.Native.Nat.{ℕ, zero, suc, _+_, _≤_, _<_}
 use native.Mathlib.Omega.{arith}
 use lib.ListN.{length, List·getD-append}
 use lib.Seq.{getD-append-seam}
-use Rattle.schedule.specs.Count.{count, In, sum, joined}
+use Rattle.schedule.specs.Count.{count, In, sumOver, joined}
 use Rattle.schedule.specs.Pass.{ClosedFactor, noMessage, at}
 use Rattle.schedule.specs.Gather.{messagesIn, popped}
 use Rattle.schedule.specs.Messages.{inner, Older, grow, collected, itself, heavy}
@@ -42,15 +42,16 @@ all-old h ms more old j l = sym (agree h ms (ms ++ more) (length ms) (λ i t. sy
 
 -- the message that is appended: itself, and what lies under the messages that it contains
 pub all-new : (h : ℕ → ClosedFactor → List ℕ) (ms : List ClosedFactor) (m : ClosedFactor) → Older ms → Older (ms ++ (m ∷ [])) → (x : ℕ)
-    → count x (collected h (ms ++ (m ∷ [])) (length ms)) ≡ count x (h (length ms) m) + sum (λ c. count x (collected h ms c)) (messagesIn (m .content))
+    → count x (collected h (ms ++ (m ∷ [])) (length ms)) ≡ count x (h (length ms) m) + sumOver (λ c. count x (collected h ms c)) (messagesIn (m .content))
 all-new h ms m old old′ x =
     ap (count x) (all-eq h ms′ old′ M)
     ∙ count-append x (h M (at ms′ M)) (joined (collected h ms′) (reverse (inner ms′ M)))
     ∙ ap₂ _+_ (ap (λ (e : ClosedFactor). count x (h M e)) new)
     (count-joined x (collected h ms′) (reverse (inner ms′ M))
     ∙ sum-reverse (λ c. count x (collected h ms′ c)) (inner ms′ M)
-    ∙ sum-same (λ c. count x (collected h ms′ c)) (λ c. count x (collected h ms c)) (inner ms′ M) (λ c k. ap (count x) (all-old h ms (m ∷ []) old c (old′ M c (mem-in k))))
-    ∙ ap (λ (e : ClosedFactor). sum (λ c. count x (collected h ms c)) (messagesIn (e .content))) new)
+    ∙ sum-same (λ c. count x (collected h ms′ c)) (λ c. count x (collected h ms c)) (inner ms′ M)
+    (λ c k. ap (count x) (all-old h ms (m ∷ []) old c (old′ M c (mem-in k))))
+    ∙ ap (λ (e : ClosedFactor). sumOver (λ c. count x (collected h ms c)) (messagesIn (e .content))) new)
   where
     M : ℕ
     M = length ms
@@ -63,11 +64,11 @@ all-new h ms m old old′ x =
 
 -- ---- the stack
 pub heavy-one : (ms : List ClosedFactor) (j : ℕ) → heavy ms (j ∷ []) ≡ length (collected (λ i m. i ∷ []) ms j)
-unfolding heavy sum
+unfolding heavy sumOver
 heavy-one ms j = omega arith
 
 pub heavy-step : (ms : List ClosedFactor) → Older ms → (j : ℕ) (stack : List ℕ) → heavy ms (j ∷ stack) ≡ suc (heavy ms (reverseAux (inner ms j) stack))
-unfolding heavy sum
+unfolding heavy sumOver
 heavy-step ms old j stack =
     omega (
       arith,
@@ -79,7 +80,7 @@ heavy-step ms old j stack =
 
 -- each message of the stack weighs something
 pub heavy-length : (ms : List ClosedFactor) → Older ms → (stack : List ℕ) → length stack ≤ heavy ms stack
-unfolding heavy sum
+unfolding heavy sumOver
 heavy-length ms old [] = omega arith
 heavy-length ms old (j ∷ stack) = omega (arith, heavy-length ms old stack, ap length (all-eq itself ms old j))
 

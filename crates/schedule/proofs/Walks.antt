@@ -9,16 +9,16 @@ use native.Mathlib.Omega.{arith}
 use lib.Dec.{T}
 use lib.ListN.{length}
 use lib.Seq.{append-snoc}
-use Rattle.schedule.specs.Count.{sum}
-use Rattle.schedule.specs.Pass.{Slot, Walked, lastOf, initOf, filled, next, put, walk}
+use Rattle.schedule.specs.Count.{sumOver}
+use Rattle.schedule.specs.Pass.{Slot, Walked, lastOf, initOf, filled, restAfter, placed, walk}
 
-last-sum : (g : Slot → ℕ) (s : Slot) (l : List Slot) → g (lastOf s l) + sum g (initOf s l) ≡ g s + sum g l
-unfolding sum
+last-sum : (g : Slot → ℕ) (s : Slot) (l : List Slot) → g (lastOf s l) + sumOver g (initOf s l) ≡ g s + sumOver g l
+unfolding sumOver
 last-sum g s [] = refl
 last-sum g s (r ∷ l) = omega (arith, last-sum g r l)
 
-next-sum : (g : Slot → ℕ) (b : Bool) (l : List Slot) → sum g (next b l) ≡ sum g l
-unfolding sum filled
+next-sum : (g : Slot → ℕ) (b : Bool) (l : List Slot) → sumOver g (restAfter b l) ≡ sumOver g l
+unfolding sumOver filled
 next-sum g true [] = refl
 next-sum g true (s ∷ l) = last-sum g s l
 next-sum g false l = refl
@@ -27,7 +27,7 @@ init-length : (s : Slot) (l : List Slot) → length (initOf s l) ≡ length l
 init-length s [] = refl
 init-length s (r ∷ l) = ap suc (init-length r l)
 
-next-length : (b : Bool) (l : List Slot) → length (next b l) ≡ length l
+next-length : (b : Bool) (l : List Slot) → length (restAfter b l) ≡ length l
 unfolding filled
 next-length true [] = refl
 next-length true (s ∷ l) = ap suc (init-length s l)
@@ -45,7 +45,7 @@ init-mem {e} s (r ∷ l) m = go (List·Memᴰ·cases-cons m) (init-mem r l)
     go (inl q) f = List·Memᴰ·head q
     go (inr q) f = List·Memᴰ·tail (f q)
 
-next-mem : {e : Slot} (b : Bool) (l : List Slot) → List·Memᴰ e (next b l) → List·Memᴰ e l
+next-mem : {e : Slot} (b : Bool) (l : List Slot) → List·Memᴰ e (restAfter b l) → List·Memᴰ e l
 unfolding filled
 next-mem true [] m = m
 next-mem {e} true (s ∷ l) m = go (List·Memᴰ·cases-cons m)
@@ -55,14 +55,14 @@ next-mem {e} true (s ∷ l) m = go (List·Memᴰ·cases-cons m)
     go (inr q) = init-mem s l q
 next-mem false l m = m
 
-pub walk-sum : (g : Slot → ℕ) (p : Slot → Bool) (d : ℕ) (l : List Slot) → sum g ((walk p d l) .taken) + sum g ((walk p d l) .left) ≡ sum g l
-unfolding walk sum
+pub walk-sum : (g : Slot → ℕ) (p : Slot → Bool) (d : ℕ) (l : List Slot) → sumOver g ((walk p d l) .taken) + sumOver g ((walk p d l) .left) ≡ sumOver g l
+unfolding walk sumOver
 walk-sum g p zero l = omega arith
 walk-sum g p (suc d) [] = refl
-walk-sum g p (suc d) (s ∷ l) = go (p s) (walk-sum g p d (next (p s) l))
+walk-sum g p (suc d) (s ∷ l) = go (p s) (walk-sum g p d (restAfter (p s) l))
   where
-    go : (b : Bool) → sum g ((walk p d (next b l)) .taken) + sum g ((walk p d (next b l)) .left) ≡ sum g (next b l)
-        → sum g ((put b s (walk p d (next b l))) .taken) + sum g ((put b s (walk p d (next b l))) .left) ≡ g s + sum g l
+    go : (b : Bool) → sumOver g ((walk p d (restAfter b l)) .taken) + sumOver g ((walk p d (restAfter b l)) .left) ≡ sumOver g (restAfter b l)
+        → sumOver g ((placed b s (walk p d (restAfter b l))) .taken) + sumOver g ((placed b s (walk p d (restAfter b l))) .left) ≡ g s + sumOver g l
     go true ih = omega (arith, next-sum g true l)
     go false ih = omega arith
 
@@ -70,18 +70,18 @@ pub walk-taken : (p : Slot → Bool) (d : ℕ) (l : List Slot) {e : Slot} → Li
 unfolding walk
 walk-taken p zero l m = absurd (List·Memᴰ·not-nil m)
 walk-taken p (suc d) [] m = absurd (List·Memᴰ·not-nil m)
-walk-taken p (suc d) (s ∷ l) {e} m = go (p s) refl m (λ b n. walk-taken p d (next b l) n)
+walk-taken p (suc d) (s ∷ l) {e} m = go (p s) refl m (λ b n. walk-taken p d (restAfter b l) n)
   where
-    up : (b : Bool) → List·Memᴰ e (next b l) × T (p e) → List·Memᴰ e (s ∷ l) × T (p e)
+    up : (b : Bool) → List·Memᴰ e (restAfter b l) × T (p e) → List·Memᴰ e (s ∷ l) × T (p e)
     up b r = (List·Memᴰ·tail (next-mem b l (r .0)), r .1)
 
-    now : p s ≡ true → (e ≡ s) ⊎ List·Memᴰ e ((walk p d (next true l)) .taken)
-        → ((b : Bool) → List·Memᴰ e ((walk p d (next b l)) .taken) → List·Memᴰ e (next b l) × T (p e)) → List·Memᴰ e (s ∷ l) × T (p e)
+    now : p s ≡ true → (e ≡ s) ⊎ List·Memᴰ e ((walk p d (restAfter true l)) .taken)
+        → ((b : Bool) → List·Memᴰ e ((walk p d (restAfter b l)) .taken) → List·Memᴰ e (restAfter b l) × T (p e)) → List·Memᴰ e (s ∷ l) × T (p e)
     now q (inl r) ih = (List·Memᴰ·head r, rw (r, q) tt)
     now q (inr r) ih = up true (ih true r)
 
-    go : (b : Bool) → p s ≡ b → List·Memᴰ e ((put b s (walk p d (next b l))) .taken)
-        → ((b : Bool) → List·Memᴰ e ((walk p d (next b l)) .taken) → List·Memᴰ e (next b l) × T (p e)) → List·Memᴰ e (s ∷ l) × T (p e)
+    go : (b : Bool) → p s ≡ b → List·Memᴰ e ((placed b s (walk p d (restAfter b l))) .taken)
+        → ((b : Bool) → List·Memᴰ e ((walk p d (restAfter b l)) .taken) → List·Memᴰ e (restAfter b l) × T (p e)) → List·Memᴰ e (s ∷ l) × T (p e)
     go true q m ih = now q (List·Memᴰ·cases-cons m) ih
     go false q m ih = up false (ih false m)
 
@@ -91,18 +91,18 @@ unfolding walk
 walk-left p zero [] h m = absurd (List·Memᴰ·not-nil m)
 walk-left p zero (s ∷ l) h m = absurd (omega arith)
 walk-left p (suc d) [] h m = absurd (List·Memᴰ·not-nil m)
-walk-left p (suc d) (s ∷ l) {e} h m = go (p s) refl m (λ b n. walk-left p d (next b l) (omega (arith, next-length b l)) n)
+walk-left p (suc d) (s ∷ l) {e} h m = go (p s) refl m (λ b n. walk-left p d (restAfter b l) (omega (arith, next-length b l)) n)
   where
-    up : (b : Bool) → List·Memᴰ e (next b l) × T (not (p e)) → List·Memᴰ e (s ∷ l) × T (not (p e))
+    up : (b : Bool) → List·Memᴰ e (restAfter b l) × T (not (p e)) → List·Memᴰ e (s ∷ l) × T (not (p e))
     up b r = (List·Memᴰ·tail (next-mem b l (r .0)), r .1)
 
-    now : p s ≡ false → (e ≡ s) ⊎ List·Memᴰ e ((walk p d (next false l)) .left)
-        → ((b : Bool) → List·Memᴰ e ((walk p d (next b l)) .left) → List·Memᴰ e (next b l) × T (not (p e))) → List·Memᴰ e (s ∷ l) × T (not (p e))
+    now : p s ≡ false → (e ≡ s) ⊎ List·Memᴰ e ((walk p d (restAfter false l)) .left)
+        → ((b : Bool) → List·Memᴰ e ((walk p d (restAfter b l)) .left) → List·Memᴰ e (restAfter b l) × T (not (p e))) → List·Memᴰ e (s ∷ l) × T (not (p e))
     now q (inl r) ih = (List·Memᴰ·head r, rw (r, q) tt)
     now q (inr r) ih = up false (ih false r)
 
-    go : (b : Bool) → p s ≡ b → List·Memᴰ e ((put b s (walk p d (next b l))) .left)
-        → ((b : Bool) → List·Memᴰ e ((walk p d (next b l)) .left) → List·Memᴰ e (next b l) × T (not (p e))) → List·Memᴰ e (s ∷ l) × T (not (p e))
+    go : (b : Bool) → p s ≡ b → List·Memᴰ e ((placed b s (walk p d (restAfter b l))) .left)
+        → ((b : Bool) → List·Memᴰ e ((walk p d (restAfter b l)) .left) → List·Memᴰ e (restAfter b l) × T (not (p e))) → List·Memᴰ e (s ∷ l) × T (not (p e))
     go true q m ih = up true (ih true m)
     go false q m ih = now q (List·Memᴰ·cases-cons m) ih
 

@@ -2,8 +2,8 @@
 use mathlib.Core.List.{List, [], _∷_, _++_, reverse, List·Memᴰ}
 use Prim.Native.Nat.{ℕ, zero, suc, _+_, _≤_, _<_}
 use lib.ListN.{length}
-use Rattle.schedule.specs.Count.{count, In, sum, joined}
-use Rattle.schedule.specs.Pass.{Slot, original, ClosedFactor, at, keysOf}
+use Rattle.schedule.specs.Count.{count, In, sumOver, joined}
+use Rattle.schedule.specs.Pass.{Slot, original, ClosedFactor, at, slotKeys}
 use Rattle.schedule.specs.Gather.{Gathered, messagesIn}
 
 -- ---- what lies under a message
@@ -29,7 +29,7 @@ abbrev pub itself : ℕ → ClosedFactor → List ℕ
 itself j m = j ∷ []
 
 unfoldable pub heavy : List ClosedFactor → List ℕ → ℕ
-heavy ms stack = sum (λ j. length (collected itself ms j)) stack
+heavy ms stack = sumOver (λ j. length (collected itself ms j)) stack
 
 -- ---- a message
 
@@ -40,7 +40,7 @@ pub record Tidy (n : ℕ) (K : ℕ → List ℕ) (N : List ℕ) (ms : List Close
   -- they are registered
   pub low : (x : ℕ) → 1 ≤ count x (m .cleared) + count x (m .kept) → x < n
   -- every key of a slot is one of them
-  pub keyed : (s : Slot) → List·Memᴰ s (m .content) → (x : ℕ) → In x (keysOf K ms s) → 1 ≤ count x (m .cleared) + count x (m .kept)
+  pub keyed : (s : Slot) → List·Memᴰ s (m .content) → (x : ℕ) → In x (slotKeys K ms s) → 1 ≤ count x (m .cleared) + count x (m .kept)
   pub originals : (i : ℕ) → List·Memᴰ (original i) (m .content) → In i N
 
 -- ---- what a key gathers

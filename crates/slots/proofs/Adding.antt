@@ -16,7 +16,7 @@ use Rattle.matrix.specs.declared.Update.the-variants.{Add, Store}
 use Rattle.matrix.proofs.Entries.{apart}
 use Rattle.matrix.proofs.Dense.{dense, product-at}
 use Rattle.matrix.proofs.Agreement.{block-same}
-use Rattle.blocks.specs.Blocks.{column, blockColumnOf}
+use Rattle.blocks.specs.Blocks.{columnOf, blockColumnOf}
 use Rattle.workspace.specs.Blocks.{corner, stamp, transposedTimes}
 use Rattle.workspace.specs.Sums.{Sums, change, turns}
 use Rattle.workspace.specs.declared.Frame.{Frame}
@@ -27,47 +27,47 @@ use Rattle.workspace.proofs.InPlace.{dot-same}
 use Rattle.slots.specs.declared.Branch.{Branch}
 use Rattle.slots.specs.declared.Branch.the-variants.{Z, X}
 use Rattle.slots.specs.declared.layout.Layout.{Layout}
-use Rattle.slots.specs.Layouts.{find}
+use Rattle.slots.specs.Layouts.{spotOf}
 use Rattle.slots.specs.Views.{target, targetOf, withProduct, withProducts, withOwn, withKey, withKeys}
 use Rattle.slots.specs.Fitting.{Sits, Wide}
 use Rattle.slots.specs.declared.layout.Spot.{Spot}
 use Rattle.slots.specs.declared.sums.Target.{Target}
 use Rattle.slots.specs.declared.sums.Target.the-variants.{Nowhere, At}
-use Rattle.workspace.specs.Parts.{Laid, from, to}
+use Rattle.workspace.specs.Parts.{FrameLaid, partFrom, partTo}
 
 -- ---- places
 
-small-at : (f : Frame) (len : ℕ) (g : Bool) (a s : ℕ) → Laid f len → a + s ≤ cond g (f .cleared) (f .kept) → a + s ≤ 32
+small-at : (f : Frame) (len : ℕ) (g : Bool) (a s : ℕ) → FrameLaid f len → a + s ≤ cond g (f .cleared) (f .kept) → a + s ≤ 32
 small-at f len true a s l h = omega arith
 small-at f len false a s l h = omega arith
 
-pub small : (f : Frame) (len : ℕ) (k : Spot) → Laid f len → Sits f k → k .at + k .size ≤ 32
+pub small : (f : Frame) (len : ℕ) (k : Spot) → FrameLaid f len → Sits f k → k .at + k .size ≤ 32
 small f len k l h = small-at f len (k .cleared) (k .at) (k .size) l h
 
 -- a block inside one of the matrices
-pub corner-fits : (f : Frame) (p : Part) (n m : ℕ) (v : View) (i j a b : ℕ) → to f p - from f p ≡ n * m → v ≡ corner n i j → i + a ≤ n → j + b ≤ m
-    → Inside v a b (to f p - from f p)
+pub corner-fits : (f : Frame) (p : Part) (n m : ℕ) (v : View) (i j a b : ℕ) → partTo f p - partFrom f p ≡ n * m → v ≡ corner n i j → i + a ≤ n → j + b ≤ m
+    → Inside v a b (partTo f p - partFrom f p)
 corner-fits f p n m v i j a b e ev hi hj = rw (ev, e) (inner n m i j a b hi hj)
 
 pub dense-flip : (m n len : ℕ) → m * n ≤ len → Inside (flip (columns m)) n m len
 dense-flip m n len h i j hi hj = omega (arith, dense m n len h j i hj hi)
 
 -- a block of S for two cleared keys, and in x one of W for two kept keys
-in-s : (f : Frame) (len : ℕ) (k o : Spot) → Laid f len → k .at + k .size ≤ f .cleared → o .at + o .size ≤ f .cleared
-    → Inside (corner (f .cleared) (k .at) (o .at)) (k .size) (o .size) (to f S - from f S)
+in-s : (f : Frame) (len : ℕ) (k o : Spot) → FrameLaid f len → k .at + k .size ≤ f .cleared → o .at + o .size ≤ f .cleared
+    → Inside (corner (f .cleared) (k .at) (o .at)) (k .size) (o .size) (partTo f S - partFrom f S)
 in-s f len k o l hk ho = corner-fits f S (f .cleared) (f .cleared) (corner (f .cleared) (k .at) (o .at)) (k .at) (o .at) (k .size) (o .size)
     (omega arith) refl hk ho
 
-in-w : (f : Frame) (len : ℕ) (k o : Spot) → Laid f len → f .rows ≡ f .kept → k .at + k .size ≤ f .kept → o .at + o .size ≤ f .kept
-    → Inside (corner (f .rows) (k .at) (o .at)) (k .size) (o .size) (to f W - from f W)
+in-w : (f : Frame) (len : ℕ) (k o : Spot) → FrameLaid f len → f .rows ≡ f .kept → k .at + k .size ≤ f .kept → o .at + o .size ≤ f .kept
+    → Inside (corner (f .rows) (k .at) (o .at)) (k .size) (o .size) (partTo f W - partFrom f W)
 in-w f len k o l e hk ho =
     corner-fits f W (f .rows) (f .rows) (corner (f .rows) (k .at) (o .at)) (k .at) (o .at) (k .size) (o .size) (omega arith) refl (omega arith) (omega arith)
 
 abbrev Fits : Frame → ℕ → ℕ → Target → Type 0
 Fits f m n Nowhere = Unit
-Fits f m n (At p v) = Inside v m n (to f p - from f p)
+Fits f m n (At p v) = Inside v m n (partTo f p - partFrom f p)
 
-fits-of : (branch : Branch) (kg og : Bool) (order : Ordering) (f : Frame) (len : ℕ) (k o : Spot) → Laid f len → (branch ≡ X → f .rows ≡ f .kept)
+fits-of : (branch : Branch) (kg og : Bool) (order : Ordering) (f : Frame) (len : ℕ) (k o : Spot) → FrameLaid f len → (branch ≡ X → f .rows ≡ f .kept)
     → k .at + k .size ≤ cond kg (f .cleared) (f .kept) → o .at + o .size ≤ cond og (f .cleared) (f .kept)
     → Fits f (k .size) (o .size) (targetOf branch kg og order f k o)
 unfolding targetOf
@@ -87,9 +87,9 @@ fits-of X false false Ordering·lt f len k o l x hk ho = in-w f len k o l (x ref
 fits-of X false false Ordering·eq f len k o l x hk ho = in-w f len k o l (x refl) hk ho
 fits-of X false false Ordering·gt f len k o l x hk ho = tt
 
-pub goes-inside : (branch : Branch) (f : Frame) (len : ℕ) (k o : Spot) (r : Target) (p : Part) (v : View) → Laid f len
+pub goes-inside : (branch : Branch) (f : Frame) (len : ℕ) (k o : Spot) (r : Target) (p : Part) (v : View) → FrameLaid f len
     → (branch ≡ X → f .rows ≡ f .kept) → Sits f k → Sits f o
-    → r ≡ target branch f k o → r ≡ At p v → Inside v (k .size) (o .size) (to f p - from f p)
+    → r ≡ target branch f k o → r ≡ At p v → Inside v (k .size) (o .size) (partTo f p - partFrom f p)
 goes-inside branch f len k o r p v l x hk ho er ea =
     subst (λ (t : Target). Fits f (k .size) (o .size) t) (sym er ∙ ea)
     (fits-of branch (k .cleared) (o .cleared) (compare (o .key) (k .key)) f len k o l x hk ho)
@@ -113,23 +113,23 @@ product-at-target branch f k o r p v s t y b n σ σ′ er ea e = subst (λ (q :
 
 -- ---- the columns of a factor
 
-column-le : (size keys : List ℕ) (i d : ℕ) → column size keys i ≤ column size keys (i + d)
-unfolding column
+column-le : (size keys : List ℕ) (i d : ℕ) → columnOf size keys i ≤ columnOf size keys (i + d)
+unfolding columnOf
 column-le size keys i zero = rw add-zero (omega arith)
 column-le size keys i (suc d) = rw add-suc (omega (arith, column-le size keys i d))
 
-pub column-next : (size keys : List ℕ) (i : ℕ) → column size keys (i + 1) ≡ column size keys i + getD size (getD keys i 0) 0
-unfolding column
+pub column-next : (size keys : List ℕ) (i : ℕ) → columnOf size keys (i + 1) ≡ columnOf size keys i + getD size (getD keys i 0) 0
+unfolding columnOf
 column-next size keys i = rw add-one
 
 -- the block column of the i-th key, of s columns from column c on, stands in A
-pub column-fits : {sizes keys : List ℕ} {y len c s : ℕ} (i : ℕ) → Wide sizes keys y len → i < length keys → c ≡ column sizes keys i → s
+pub column-fits : {sizes keys : List ℕ} {y len c s : ℕ} (i : ℕ) → Wide sizes keys y len → i < length keys → c ≡ columnOf sizes keys i → s
     ≡ getD sizes (getD keys i 0) 0
-    → (c + s ≡ column sizes keys (i + 1)) × (c + s ≤ 32) × ((c + s) * y ≤ len)
+    → (c + s ≡ columnOf sizes keys (i + 1)) × (c + s ≤ 32) × ((c + s) * y ≤ len)
 column-fits {sizes} {keys} {y} {len} {c} {s} i w h ec es =
-    let n : c + s ≡ column sizes keys (i + 1) = sym (column-next sizes keys i ∙ omega arith) in
+    let n : c + s ≡ columnOf sizes keys (i + 1) = sym (column-next sizes keys i ∙ omega arith) in
     let d : i + 1 + (length keys - (i + 1)) ≡ length keys = omega arith in
-    let b : c + s ≤ column sizes keys (length keys) = rw n (subst (λ (k : ℕ). column sizes keys (i + 1) ≤ column sizes keys k) d
+    let b : c + s ≤ columnOf sizes keys (length keys) = rw n (subst (λ (k : ℕ). columnOf sizes keys (i + 1) ≤ columnOf sizes keys k) d
     (column-le sizes keys (i + 1) (length keys - (i + 1)))) in
     (n, omega arith, omega (arith, mul-le-mul-right y b))
 
@@ -139,7 +139,7 @@ fits-block a b y c s e h = rw e (fits-part a (c * y) ((c + s) * y) (y * s) h (om
 
 pub products-more : (branch : Branch) (f : Frame) (m : Layout) (keys : List ℕ) (y : ℕ) (a : List Float) (k o : Spot) (t b : List Float)
     (σ₀ σ σ′ : Sums) (j c : ℕ)
-    → σ ≡ withProducts branch f m keys y a k t σ₀ j → c ≡ column (m .size) keys j → o ≡ find m (getD keys j 0) → b ≡ blockColumnOf a y c (o .size)
+    → σ ≡ withProducts branch f m keys y a k t σ₀ j → c ≡ columnOf (m .size) keys j → o ≡ spotOf m (getD keys j 0) → b ≡ blockColumnOf a y c (o .size)
     → σ′ ≡ withProduct (target branch f k o) (k .size) t y b (o .size) σ
     → σ′ ≡ withProducts branch f m keys y a k t σ₀ (j + 1)
 unfolding withProducts turns
@@ -209,8 +209,8 @@ unfolding withProducts turns
 products-same branch f m keys y a k t u σ zero h = refl
 products-same branch f m keys y a k t u σ (suc n) h =
     rw (products-same branch f m keys y a k t u σ n h)
-    (product-same (target branch f k (find m (getD keys n 0))) (k .size) t u y
-    (blockColumnOf a y (column (m .size) keys n) (find m (getD keys n 0) .size)) (find m (getD keys n 0) .size)
+    (product-same (target branch f k (spotOf m (getD keys n 0))) (k .size) t u y
+    (blockColumnOf a y (columnOf (m .size) keys n) (spotOf m (getD keys n 0) .size)) (spotOf m (getD keys n 0) .size)
     (withProducts branch f m keys y a k u σ n) h)
 
 pub key-is : (branch : Branch) (f : Frame) (m : Layout) (row : ℕ) (keys : List ℕ) (y : ℕ) (a xi w : List Float) (k : Spot) (b t₀ t : List Float)
@@ -229,7 +229,7 @@ key-is branch f m row keys y a xi w k b t₀ t σ σ₁ σ₂ h e₁ et e₂ =
 
 pub keys-more : (branch : Branch) (f : Frame) (m : Layout) (row : ℕ) (keys : List ℕ) (y : ℕ) (a xi w : List Float) (k : Spot) (b : List Float)
     (σ₀ σ σ′ : Sums) (i c : ℕ)
-    → σ ≡ withKeys branch f m row keys y a xi w σ₀ i → c ≡ column (m .size) keys i → k ≡ find m (getD keys i 0) → b ≡ blockColumnOf a y c (k .size)
+    → σ ≡ withKeys branch f m row keys y a xi w σ₀ i → c ≡ columnOf (m .size) keys i → k ≡ spotOf m (getD keys i 0) → b ≡ blockColumnOf a y c (k .size)
     → σ′ ≡ withKey branch f m row keys y a xi w k b σ
     → σ′ ≡ withKeys branch f m row keys y a xi w σ₀ (i + 1)
 unfolding withKeys turns

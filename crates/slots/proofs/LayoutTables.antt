@@ -12,7 +12,7 @@ use lib.Dec.{eqb}
 use lib.ListN.{length, getD, set, drop, replicate, getD-replicate}
 use lib.Seq.{drop-cons, drop-length, ext-getD, getD-set-same, getD-set-other}
 use Rattle.factor.specs.Limits.{max-variables}
-use Rattle.slots.specs.Layouts.{member, firstOf, dimOf, table, layoutOf}
+use Rattle.slots.specs.Layouts.{member, columnIn, dimOf, table, layoutOf}
 
 -- ---- one key of a list
 
@@ -26,11 +26,11 @@ module _ (l : List ℕ) (i : ℕ) (h : i < length l) where
   pub member-next : (key : ℕ) → (getD l i 0 ≡ key → ⊥) → member key (drop i l) ≡ member key (drop (i + 1) l)
   member-next key e = rw (step, ne-eqb (getD l i 0) key e)
 
-  pub first-here : (sizes : List ℕ) (key : ℕ) → getD l i 0 ≡ key → firstOf sizes (drop i l) key ≡ 0
+  pub first-here : (sizes : List ℕ) (key : ℕ) → getD l i 0 ≡ key → columnIn sizes (drop i l) key ≡ 0
   first-here sizes key e = rw (step, eq-eqb (getD l i 0) key e)
 
-  pub first-next : (sizes : List ℕ) (key : ℕ) → (getD l i 0 ≡ key → ⊥) → firstOf sizes (drop i l) key
-      ≡ getD sizes (getD l i 0) 0 + firstOf sizes (drop (i + 1) l) key
+  pub first-next : (sizes : List ℕ) (key : ℕ) → (getD l i 0 ≡ key → ⊥) → columnIn sizes (drop i l) key
+      ≡ getD sizes (getD l i 0) 0 + columnIn sizes (drop (i + 1) l) key
   first-next sizes key e = rw (step, ne-eqb (getD l i 0) key e)
 
   pub dim-next : (sizes : List ℕ) → dimOf sizes (drop i l) ≡ getD sizes (getD l i 0) 0 + dimOf sizes (drop (i + 1) l)
@@ -41,12 +41,12 @@ pub at-end : (l : List ℕ) (i : ℕ) → i ≡ length l → drop i l ≡ []
 at-end l i e = rw e (drop-length l)
 
 -- the columns of a key that a list has are within the list's dimension
-pub first-fits : (sizes l : List ℕ) (key : ℕ) → member key l ≡ true → firstOf sizes l key + getD sizes key 0 ≤ dimOf sizes l
+pub first-fits : (sizes l : List ℕ) (key : ℕ) → member key l ≡ true → columnIn sizes l key + getD sizes key 0 ≤ dimOf sizes l
 first-fits sizes [] key h = let z : _≡_ {A = ℕ} 0 1 = cc in omega arith
 first-fits sizes (j ∷ l) key h = go (eqb j key) refl h (first-fits sizes l key)
   where
-    go : (b : Bool) → eqb j key ≡ b → (b || member key l) ≡ true → (member key l ≡ true → firstOf sizes l key + getD sizes key 0 ≤ dimOf sizes l)
-        → cond b 0 (getD sizes j 0 + firstOf sizes l key) + getD sizes key 0 ≤ getD sizes j 0 + dimOf sizes l
+    go : (b : Bool) → eqb j key ≡ b → (b || member key l) ≡ true → (member key l ≡ true → columnIn sizes l key + getD sizes key 0 ≤ dimOf sizes l)
+        → cond b 0 (getD sizes j 0 + columnIn sizes l key) + getD sizes key 0 ≤ getD sizes j 0 + dimOf sizes l
     go true e m ih = let s : j ≡ key = eqb-true j key e in rw s (omega arith)
     go false e m ih = omega (arith, ih m)
 
@@ -73,13 +73,13 @@ table-is f d t n e h =
 
 pub layout-is : (gone : List Bool) (first kept cleared sizes : List ℕ) → length gone ≡ length sizes → length first ≡ length sizes
     → ((k : ℕ) → k < length sizes → getD gone k false ≡ member k cleared)
-    → ((k : ℕ) → k < length sizes → getD first k 0 ≡ cond (member k cleared) (firstOf sizes cleared k) (firstOf sizes kept k))
+    → ((k : ℕ) → k < length sizes → getD first k 0 ≡ cond (member k cleared) (columnIn sizes cleared k) (columnIn sizes kept k))
     → record { cleared = gone; first = first; size = sizes } ≡ layoutOf kept cleared sizes
 unfolding layoutOf
 layout-is gone first kept cleared sizes eg ef hg hf =
     rw (
       table-is (λ k. member k cleared) false gone (length sizes) eg hg,
-      table-is (λ k. cond (member k cleared) (firstOf sizes cleared k) (firstOf sizes kept k)) 0 first (length sizes) ef hf,
+      table-is (λ k. cond (member k cleared) (columnIn sizes cleared k) (columnIn sizes kept k)) 0 first (length sizes) ef hf,
     )
 
 -- ---- a list walked from its last key to its first
@@ -105,10 +105,10 @@ marks-back l r i j ej h m low =
 
 pub firsts-back : (sizes l r : List ℕ) (i j column next : ℕ) → j ≡ i + 1 → i < length l → length r ≡ max-variables → getD l i 0 < max-variables
     → next ≡ column + getD sizes (getD l i 0) 0
-    → ((key : ℕ) → key < max-variables → getD r key 0 ≡ next + firstOf sizes (drop j l) key)
-    → (key : ℕ) → key < max-variables → getD (set r (getD l i 0) column) key 0 ≡ column + firstOf sizes (drop i l) key
+    → ((key : ℕ) → key < max-variables → getD r key 0 ≡ next + columnIn sizes (drop j l) key)
+    → (key : ℕ) → key < max-variables → getD (set r (getD l i 0) column) key 0 ≡ column + columnIn sizes (drop i l) key
 firsts-back sizes l r i j column next ej h m low en =
-    rw ej (one-back l r i column 0 (λ key. column + firstOf sizes (drop i l) key) (λ key. next + firstOf sizes (drop (i + 1) l) key) m low
+    rw ej (one-back l r i column 0 (λ key. column + columnIn sizes (drop i l) key) (λ key. next + columnIn sizes (drop (i + 1) l) key) m low
     (λ key e. omega (arith, first-here l i h sizes key e)) (λ key e. omega (arith, first-next l i h sizes key e)))
 
 -- at the end of the list nothing is marked, and every key would stand behind it
@@ -116,8 +116,8 @@ pub marks-none : (l : List ℕ) (key : ℕ) → key < max-variables → getD (re
 marks-none l key h = getD-replicate max-variables key false false h ∙ ap (member key) (sym (drop-length l))
 
 pub firsts-none : (sizes l : List ℕ) (column key : ℕ) → key < max-variables → getD (replicate max-variables column) key 0
-    ≡ column + firstOf sizes (drop (length l) l) key
-firsts-none sizes l column key h = omega (arith, getD-replicate max-variables key column 0 h, ap (λ (t : List ℕ). firstOf sizes t key) (drop-length l))
+    ≡ column + columnIn sizes (drop (length l) l) key
+firsts-none sizes l column key h = omega (arith, getD-replicate max-variables key column 0 h, ap (λ (t : List ℕ). columnIn sizes t key) (drop-length l))
 
 -- the dimension that is left, a key before the last place
 pub dim-back : (sizes l : List ℕ) (i j : ℕ) → j ≡ i + 1 → i < length l → dimOf sizes (drop i l) ≡ getD sizes (getD l i 0) 0 + dimOf sizes (drop j l)

@@ -19,7 +19,7 @@ use Rattle.workspace.specs.declared.Part.the-variants.{S, H, A, Xi, W}
 use Rattle.slots.specs.declared.Branch.{Branch}
 use Rattle.slots.specs.declared.Branch.the-variants.{Z, X}
 use Rattle.slots.specs.declared.layout.Layout.{Layout}
-use Rattle.slots.specs.Layouts.{find}
+use Rattle.slots.specs.Layouts.{spotOf}
 use Rattle.slots.specs.Views.{withKeys, withRows, withPrior, withView, viewOf}
 use Rattle.slots.specs.Fitting.{Fitted, BranchFits, Wide}
 use Rattle.slots.specs.declared.layout.Spot.{Spot}
@@ -58,7 +58,7 @@ module _ (branch : Branch) (f : Frame) (row : ℕ) (k : Spot) (xi w : List Float
   prior-z v g x ev e₁ e₂ = rw (g, x, e₂, e₁, ev, x)
 
 module _ (branch : Branch) (f : Frame) (m : Layout) (row : ℕ) (p : Bool) (keys : List ℕ) (y d : ℕ) (t : List Float) (σ σ₁ : Sums) where
-  pub view-prior : (k : Spot) → p ≡ true → k ≡ find m (getD keys 0 0)
+  pub view-prior : (k : Spot) → p ≡ true → k ≡ spotOf m (getD keys 0 0)
       → σ₁ ≡ withPrior branch (k .cleared) f row k (part t (y * d) (y * d + y)) (part t (y * d + y) (y * d + y + y * y)) σ
       → σ₁ ≡ withView branch f m row (viewOf p keys y d t) σ
   unfolding withView
@@ -72,7 +72,7 @@ module _ (branch : Branch) (f : Frame) (m : Layout) (row : ℕ) (p : Bool) (keys
 
 -- what the calls ask for
 module _ {f : Frame} {m : Layout} {branch : Branch} {row : ℕ} {p : Bool} {keys : List ℕ} {y d tl len : ℕ} (h : Fitted f m branch row p keys y d tl len) where
-  pub branch-prior : p ≡ true → BranchFits branch f row (cond (find m (getD keys 0 0) .cleared) 0 (find m (getD keys 0 0) .size))
+  pub branch-prior : p ≡ true → BranchFits branch f row (cond (spotOf m (getD keys 0 0) .cleared) 0 (spotOf m (getD keys 0 0) .size))
   branch-prior e = record { square = h .square; inside = λ x. rw e at (h .inside x) }
 
   pub branch-other : p ≡ false → BranchFits branch f row y
@@ -93,7 +93,7 @@ module _ {f : Frame} {m : Layout} {branch : Branch} {row : ℕ} {p : Bool} {keys
     fits-part t 0 (y * d) (y * d) (omega arith) (omega arith),
   )
 
-  pub prior-sizes : (t : List Float) (k : Spot) → len ≡ length t → p ≡ true → k ≡ find m (getD keys 0 0)
+  pub prior-sizes : (t : List Float) (k : Spot) → len ≡ length t → p ≡ true → k ≡ spotOf m (getD keys 0 0)
       → (k .size ≤ length (part t (y * d) (y * d + y))) × (k .size * k .size ≤ length (part t (y * d + y) (y * d + y + y * y)))
   prior-sizes t k e ep ek =
       let s : k .size ≡ y = ap (λ (o : Spot). o .size) ek ∙ h .of-prior ep in

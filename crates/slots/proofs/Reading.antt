@@ -13,8 +13,8 @@ use Rattle.workspace.specs.Sums.{Sums, turns}
 use Rattle.workspace.specs.declared.Frame.{Frame}
 use Rattle.workspace.proofs.Parts.{length-part}
 use Rattle.slots.specs.Views.{withView, withViews, rowsOf, rowsOfAll, viewOf}
-use Rattle.slots.specs.Tables.{keysAt, readView, viewAt, headOf, rowsBy, rowsByAll}
-use Rattle.slots.specs.Fitting.{Fitted, Ready}
+use Rattle.slots.specs.Tables.{headKeys, readView, viewAt, headOf, rowsBy, rowsByAll}
+use Rattle.slots.specs.Fitting.{Fitted, SlotReady}
 use Rattle.slots.specs.declared.Branch.{Branch}
 use Rattle.slots.specs.declared.layout.Layout.{Layout}
 use Rattle.slots.specs.declared.Head.{Head}
@@ -28,7 +28,7 @@ refit {f} {m} {branch} {row} {p} {keys} {y} {d} {t} {n} s u at e h r =
     subst (λ (k : ℕ). Fitted f m branch row p keys y d t k) g r
 
 -- the first key of a slot
-first-key : (keys : List ℕ) (h : Head) → 0 < length (keysAt keys h) → getD (keysAt keys h) 0 0 ≡ getD keys (h .first) 0
+first-key : (keys : List ℕ) (h : Head) → 0 < length (headKeys keys h) → getD (headKeys keys h) 0 0 ≡ getD keys (h .first) 0
 first-key keys h s =
     let c : 0 < h .first + h .count - h .first = omega (arith, length-take (h .first + h .count - h .first) (drop (h .first) keys)) in
     let e : h .first + 0 ≡ h .first = omega arith in
@@ -42,7 +42,7 @@ rows-of-view m false keys key y d t h k = refl
 
 -- the key of a prior is where its head says
 pub prior-key : {f : Frame} {m : Layout} {branch : Branch} {row : ℕ} {factors messages : List Float} {keys : List ℕ} {t : ℕ} {h : Head}
-    → Ready f m branch row factors messages keys t h → h .prior ≡ true
+    → SlotReady f m branch row factors messages keys t h → h .prior ≡ true
     → (h .first < length keys) × (getD keys (h .first) 0 < 32)
 prior-key {keys = keys} {h = h} r e =
     let s = r .fitted .some e in
@@ -50,11 +50,12 @@ prior-key {keys = keys} {h = h} r e =
 
 -- the rows by a head alone are those of the factor
 pub rows-is : {f : Frame} {m : Layout} {branch : Branch} {row : ℕ} {factors messages : List Float} {keys : List ℕ} {t : ℕ} {h : Head}
-    → Ready f m branch row factors messages keys t h
+    → SlotReady f m branch row factors messages keys t h
     → rowsBy m keys h ≡ rowsOf m (readView factors messages keys h)
 unfolding rowsBy
 rows-is {m = m} {keys = keys} {h = h} r =
-    rows-of-view m (h .prior) (keysAt keys h) (getD keys (h .first) 0) (h .rows) (h .width) _ (r .fitted .of-prior) (λ e. first-key keys h (r .fitted .some e))
+    rows-of-view m (h .prior) (headKeys keys h) (getD keys (h .first) 0) (h .rows) (h .width) _ (r .fitted .of-prior)
+    (λ e. first-key keys h (r .fitted .some e))
 
 pub view-read : (branch : Branch) (f : Frame) (m : Layout) (row : ℕ) (p : Bool) (keys : List ℕ) (y d : ℕ) (t u : List Float) (σ σ′ : Sums) → t ≡ u
     → σ′ ≡ withView branch f m row (viewOf p keys y d t) σ
@@ -63,7 +64,7 @@ view-read branch f m row p keys y d t u σ σ′ e g = rw e at g
 
 pub re-ready : {f : Frame} {m : Layout} {branch : Branch} {row row′ : ℕ} {factors messages : List Float} {keys : List ℕ} {t t′ : ℕ} {h h′ : Head}
     → row′ ≡ row → t′ ≡ t → h′ ≡ h
-    → Ready f m branch row factors messages keys t h → Ready f m branch row′ factors messages keys t′ h′
+    → SlotReady f m branch row factors messages keys t h → SlotReady f m branch row′ factors messages keys t′ h′
 re-ready er et eh r = rw (er, et, eh) r
 
 -- ---- one slot more

@@ -6,7 +6,7 @@ ghost use mathlib.Core.Bool.{false, cond};
 ghost use Prim.Native.Nat.{ℕ, _<_};
 ghost use lib.ListN.{length, getD};
 ghost use Rattle.factor.specs.Limits.{max-variables};
-ghost use Rattle.slots.specs.Layouts.{member, dimOf, firstOf, layoutOf, find, Listed};
+ghost use Rattle.slots.specs.Layouts.{member, dimOf, columnIn, layoutOf, spotOf, Listed};
 
 // For each key: whether it is cleared, its first column among the cleared or the kept keys, and its size.
 pub struct Layout {
@@ -52,7 +52,7 @@ pub fn dim_of(list: &[usize], sizes: [u8; VARIABLES]) -> usize
 // that stands twice the first place counts.
 fn firsts(list: &[usize], sizes: [u8; VARIABLES]) -> [u8; VARIABLES]
     requires { ⌜ Listed (now list) sizes ⌝ }
-    ensures { λ r. ⌜ (length r ≡ max-variables) × ((key : ℕ) → key < max-variables → getD r key 0 ≡ firstOf sizes (now (list .entry)) key) ⌝ }
+    ensures { λ r. ⌜ (length r ≡ max-variables) × ((key : ℕ) → key < max-variables → getD r key 0 ≡ columnIn sizes (now (list .entry)) key) ⌝ }
 {
     let mut column = dim_of(list, sizes);
     let mut r = [column as u8; VARIABLES];
@@ -110,7 +110,7 @@ impl Layout {
     // Where a key stands.
     pub fn find(self, key: usize) -> Spot
         requires { ⌜ key < max-variables ⌝ }
-        ensures { λ r. ⌜ r ≡ find self key ⌝ }
+        ensures { λ r. ⌜ r ≡ spotOf self key ⌝ }
     {
         Spot {
             key,

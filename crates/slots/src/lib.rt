@@ -16,9 +16,9 @@ ghost use Rattle.matrix.specs.Views.{part};
 ghost use Rattle.factor.specs.Limits.{max-variables};
 ghost use Rattle.slots.specs.Limits.{head-numbers};
 ghost use Rattle.slots.specs.Views.{rowsOf, rowsOfAll, withView, withViews};
-ghost use Rattle.slots.specs.Tables.{slotOf, headOf, storeOf, readView, viewAt, rowsBy, rowsByAll};
-ghost use Rattle.slots.specs.Fitting.{Ready, Counted};
-ghost use Rattle.workspace.specs.Parts.{Laid, cut};
+ghost use Rattle.slots.specs.Tables.{numberedSlot, headOf, slotStore, readView, viewAt, rowsBy, rowsByAll};
+ghost use Rattle.slots.specs.Fitting.{SlotReady, Counted};
+ghost use Rattle.workspace.specs.Parts.{FrameLaid, matricesIn};
 
 // The two branches of an elimination: in z the message has the factors' own rows, in x as many rows as kept columns.
 pub enum Branch {
@@ -46,7 +46,7 @@ pub struct Head {
 
 // The slot of a number: originals have their own, and messages follow.
 pub fn slot_of(number: usize) -> Slot
-    ensures { λ r. ⌜ r ≡ slotOf number ⌝ }
+    ensures { λ r. ⌜ r ≡ numberedSlot number ⌝ }
 {
     if number < FACTORS {
         return Slot::Original(number);
@@ -79,8 +79,8 @@ pub fn numbers<'a>(
     at: usize,
     n: usize,
 ) -> &'a [f64]
-    requires { ⌜ at + n ≤ length (storeOf slot (now factors) (now messages)) ⌝ }
-    ensures { λ r. ⌜ now r ≡ part (storeOf slot (now (factors .entry)) (now (messages .entry))) at (at + n) ⌝ }
+    requires { ⌜ at + n ≤ length (slotStore slot (now factors) (now messages)) ⌝ }
+    ensures { λ r. ⌜ now r ≡ part (slotStore slot (now (factors .entry)) (now (messages .entry))) at (at + n) ⌝ }
 {
     match slot {
         Slot::Original(_) => &factors[at..at + n],
@@ -117,7 +117,7 @@ pub fn count_rows(layout: Layout, keys: &[usize], heads: &[usize], slots: &[usiz
     rows
 }
 
-// A slot as its head says; the answer is the row after its own.
+// Adds the factor of one slot, read where its head says that its keys and numbers stand. Answers the first free row.
 fn add_slot<'a>(
     work: &mut [f64],
     t: &mut [f64],
@@ -130,11 +130,11 @@ fn add_slot<'a>(
     keys: &[usize],
     h: Head,
 ) -> usize
-    requires { ⌜ Laid f (length (now work)) ⌝ }
-    requires { ⌜ Ready f layout branch row (now factors) (now messages) (now keys) (length (now t)) h ⌝ }
+    requires { ⌜ FrameLaid f (length (now work)) ⌝ }
+    requires { ⌜ SlotReady f layout branch row (now factors) (now messages) (now keys) (length (now t)) h ⌝ }
     ensures { λ r. ⌜ r ≡ row + rowsOf layout (readView (now (factors .entry)) (now (messages .entry)) (now (keys .entry)) h) ⌝ }
-    ensures { λ _. ⌜ cut f (now (work .exit))
-        ≡ withView branch f layout row (readView (now (factors .entry)) (now (messages .entry)) (now (keys .entry)) h) (cut f (now (work .entry))) ⌝ }
+    ensures { λ _. ⌜ matricesIn f (now (work .exit))
+        ≡ withView branch f layout row (readView (now (factors .entry)) (now (messages .entry)) (now (keys .entry)) h) (matricesIn f (now (work .entry))) ⌝ }
 {
     let p = h.first;
     let q = p + h.count;
@@ -171,14 +171,14 @@ pub fn add_slots<'a>(
     heads: &[usize],
     slots: &[usize],
 )
-    requires { ⌜ Laid f (length (now work)) ⌝ }
+    requires { ⌜ FrameLaid f (length (now work)) ⌝ }
     requires { ⌜ Counted (now keys) (now heads) (now slots) ⌝ }
     requires { ⌜ ((i : ℕ) → i < length (now slots)
-        → Ready f layout branch (rowsOfAll layout (viewAt (now factors) (now messages) (now keys) (now heads) (now slots)) i)
+        → SlotReady f layout branch (rowsOfAll layout (viewAt (now factors) (now messages) (now keys) (now heads) (now slots)) i)
         (now factors) (now messages) (now keys) (length (now t)) (headOf (now heads) (getD (now slots) i 0))) ⌝ }
-    ensures { λ _. ⌜ cut f (now (work .exit))
+    ensures { λ _. ⌜ matricesIn f (now (work .exit))
         ≡ withViews branch f layout (viewAt (now (factors .entry)) (now (messages .entry)) (now (keys .entry)) (now (heads .entry)) (now (slots .entry)))
-        (cut f (now (work .entry))) (length (now (slots .entry))) ⌝ }
+        (matricesIn f (now (work .entry))) (length (now (slots .entry))) ⌝ }
 {
     let mut row = 0;
     for i in 0..slots.len() {

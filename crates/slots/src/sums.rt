@@ -20,7 +20,7 @@ ghost use Rattle.matrix.specs.Products.{product};
 ghost use Rattle.workspace.specs.Sums.{change};
 ghost use Rattle.slots.specs.Views.{target, withProduct, withProducts, withOwn, withKey, withKeys, withRows, withPrior, withView, viewOf};
 ghost use Rattle.slots.specs.Fitting.{Sits, BranchFits, Known, Wide, Fitted};
-ghost use Rattle.workspace.specs.Parts.{Laid, cut, from, to};
+ghost use Rattle.workspace.specs.Parts.{FrameLaid, matricesIn, partFrom, partTo};
 
 // Where a product goes.
 pub enum Target {
@@ -82,11 +82,11 @@ fn add_product(
     o: Spot,
     b: &[f64],
 )
-    requires { ⌜ Laid f (length (now work)) ⌝ }
+    requires { ⌜ FrameLaid f (length (now work)) ⌝ }
     requires { ⌜ (branch ≡ Branch.X → f .rows ≡ f .kept) × Sits f k × Sits f o ⌝ }
     requires { ⌜ (k .size * y ≤ length (now t)) × (y * o .size ≤ length (now b)) ⌝ }
-    ensures { λ _. ⌜ cut f (now (work .exit))
-        ≡ withProduct (target branch f k o) (k .size) (now (t .entry)) y (now (b .entry)) (o .size) (cut f (now (work .entry))) ⌝ }
+    ensures { λ _. ⌜ matricesIn f (now (work .exit))
+        ≡ withProduct (target branch f k o) (k .size) (now (t .entry)) y (now (b .entry)) (o .size) (matricesIn f (now (work .entry))) ⌝ }
 {
     let Target::At(p, v) = target_of(branch, f, k, o) else {
         return;
@@ -129,12 +129,13 @@ fn add_products(
     k: Spot,
     t: &[f64],
 )
-    requires { ⌜ Laid f (length (now work)) ⌝ }
+    requires { ⌜ FrameLaid f (length (now work)) ⌝ }
     requires { ⌜ (branch ≡ Branch.X → f .rows ≡ f .kept) × Sits f k × (k .size * y ≤ length (now t)) ⌝ }
     requires { ⌜ Known f layout (now keys) ⌝ }
     requires { ⌜ Wide (layout .size) (now keys) y (length (now a)) ⌝ }
-    ensures { λ _. ⌜ cut f (now (work .exit))
-        ≡ withProducts branch f layout (now (keys .entry)) y (now (a .entry)) k (now (t .entry)) (cut f (now (work .entry))) (length (now (keys .entry))) ⌝ }
+    ensures { λ _. ⌜ matricesIn f (now (work .exit))
+        ≡ withProducts branch f layout (now (keys .entry)) y (now (a .entry)) k (now (t .entry))
+        (matricesIn f (now (work .entry))) (length (now (keys .entry))) ⌝ }
 {
     let mut column = 0;
     for j in 0..keys.len() {
@@ -158,11 +159,11 @@ fn times_at(
     c: &[f64],
     y: usize,
 )
-    requires { ⌜ Laid f (length (now work)) ⌝ }
-    requires { ⌜ Inside v s w (to f which - from f which) ⌝ }
+    requires { ⌜ FrameLaid f (length (now work)) ⌝ }
+    requires { ⌜ Inside v s w (partTo f which - partFrom f which) ⌝ }
     requires { ⌜ (y * s ≤ length (now b)) × (y * w ≤ length (now c)) ⌝ }
-    ensures { λ _. ⌜ cut f (now (work .exit))
-        ≡ change which (λ x. product how v s (now (b .entry)) (flip (columns y)) (now (c .entry)) (columns y) y x w) (cut f (now (work .entry))) ⌝ }
+    ensures { λ _. ⌜ matricesIn f (now (work .exit))
+        ≡ change which (λ x. product how v s (now (b .entry)) (flip (columns y)) (now (c .entry)) (columns y) y x w) (matricesIn f (now (work .entry))) ⌝ }
 {
     let tall = View {
         at: 0,
@@ -177,7 +178,7 @@ fn times_at(
     gemm_at(work, f, which, v, s, w, how, b, wide, c, tall, y);
 }
 
-// The block column B of k by itself: B'xi; and in z B'W into G, or, where k is kept, B into A.
+// What B, the block column of k, adds without another key. k cleared: B'xi into h and, in z, B'W into G. k kept: in z B into A, in x B'xi into xi.
 fn add_own(
     work: &mut [f64],
     f: Frame,
@@ -189,11 +190,11 @@ fn add_own(
     w: &[f64],
     y: usize,
 )
-    requires { ⌜ Laid f (length (now work)) ⌝ }
+    requires { ⌜ FrameLaid f (length (now work)) ⌝ }
     requires { ⌜ BranchFits branch f row y × Sits f k ⌝ }
     requires { ⌜ (y * k .size ≤ length (now b)) × (y ≤ length (now xi)) × (y * y ≤ length (now w)) ⌝ }
-    ensures { λ _. ⌜ cut f (now (work .exit))
-        ≡ withOwn branch (k .cleared) f row k (now (b .entry)) (now (xi .entry)) (now (w .entry)) y (cut f (now (work .entry))) ⌝ }
+    ensures { λ _. ⌜ matricesIn f (now (work .exit))
+        ≡ withOwn branch (k .cleared) f row k (now (b .entry)) (now (xi .entry)) (now (w .entry)) y (matricesIn f (now (work .entry))) ⌝ }
 {
     if k.cleared {
         let v = corner(f.cleared, k.at, 0);
@@ -240,14 +241,14 @@ fn add_key(
     k: Spot,
     b: &[f64],
 )
-    requires { ⌜ Laid f (length (now work)) ⌝ }
+    requires { ⌜ FrameLaid f (length (now work)) ⌝ }
     requires { ⌜ BranchFits branch f row y × Sits f k × (k .size * y ≤ length (now t)) ⌝ }
     requires { ⌜ (y * k .size ≤ length (now b)) × (y ≤ length (now xi)) × (y * y ≤ length (now w)) ⌝ }
     requires { ⌜ Known f layout (now keys) ⌝ }
     requires { ⌜ Wide (layout .size) (now keys) y (length (now a)) ⌝ }
-    ensures { λ _. ⌜ cut f (now (work .exit))
+    ensures { λ _. ⌜ matricesIn f (now (work .exit))
         ≡ withKey branch f layout row (now (keys .entry)) y (now (a .entry)) (now (xi .entry)) (now (w .entry)) k (now (b .entry))
-        (cut f (now (work .entry))) ⌝ }
+        (matricesIn f (now (work .entry))) ⌝ }
 {
     add_own(work, f, branch, row, k, b, xi, w, y);
     let left = View {
@@ -283,13 +284,13 @@ fn add_keys(
     xi: &[f64],
     w: &[f64],
 )
-    requires { ⌜ Laid f (length (now work)) ⌝ }
+    requires { ⌜ FrameLaid f (length (now work)) ⌝ }
     requires { ⌜ BranchFits branch f row y × (6 * y ≤ length (now t)) ⌝ }
     requires { ⌜ (y ≤ length (now xi)) × (y * y ≤ length (now w)) ⌝ }
     requires { ⌜ Known f layout (now keys) ⌝ }
     requires { ⌜ Wide (layout .size) (now keys) y (length (now a)) ⌝ }
-    ensures { λ _. ⌜ cut f (now (work .exit))
-        ≡ withKeys branch f layout row (now (keys .entry)) y (now (a .entry)) (now (xi .entry)) (now (w .entry)) (cut f (now (work .entry)))
+    ensures { λ _. ⌜ matricesIn f (now (work .exit))
+        ≡ withKeys branch f layout row (now (keys .entry)) y (now (a .entry)) (now (xi .entry)) (now (w .entry)) (matricesIn f (now (work .entry)))
         (length (now (keys .entry))) ⌝ }
 {
     let mut column = 0;
@@ -311,9 +312,9 @@ fn copy_rows(
     xi: &[f64],
     w: &[f64],
 )
-    requires { ⌜ Laid f (length (now work)) ⌝ }
+    requires { ⌜ FrameLaid f (length (now work)) ⌝ }
     requires { ⌜ BranchFits branch f row y × (y ≤ length (now xi)) × (y * y ≤ length (now w)) ⌝ }
-    ensures { λ _. ⌜ cut f (now (work .exit)) ≡ withRows branch f row y (now (xi .entry)) (now (w .entry)) (cut f (now (work .entry))) ⌝ }
+    ensures { λ _. ⌜ matricesIn f (now (work .exit)) ≡ withRows branch f row y (now (xi .entry)) (now (w .entry)) (matricesIn f (now (work .entry))) ⌝ }
 {
     match branch {
         Branch::Z => {
@@ -333,10 +334,11 @@ fn copy_rows(
 
 // A prior: added to the cleared block; or, on a kept key, added in x, and in z copied into rows of its own.
 fn add_prior(work: &mut [f64], f: Frame, branch: Branch, row: usize, k: Spot, xi: &[f64], w: &[f64])
-    requires { ⌜ Laid f (length (now work)) ⌝ }
+    requires { ⌜ FrameLaid f (length (now work)) ⌝ }
     requires { ⌜ BranchFits branch f row (cond (k .cleared) 0 (k .size)) × Sits f k ⌝ }
     requires { ⌜ (k .size ≤ length (now xi)) × (k .size * k .size ≤ length (now w)) ⌝ }
-    ensures { λ _. ⌜ cut f (now (work .exit)) ≡ withPrior branch (k .cleared) f row k (now (xi .entry)) (now (w .entry)) (cut f (now (work .entry))) ⌝ }
+    ensures { λ _. ⌜ matricesIn f (now (work .exit))
+        ≡ withPrior branch (k .cleared) f row k (now (xi .entry)) (now (w .entry)) (matricesIn f (now (work .entry))) ⌝ }
 {
     let tall = View {
         at: 0,
@@ -379,10 +381,10 @@ pub fn add_view(
     d: usize,
     nums: &[f64],
 )
-    requires { ⌜ Laid f (length (now work)) ⌝ }
+    requires { ⌜ FrameLaid f (length (now work)) ⌝ }
     requires { ⌜ Fitted f layout branch row prior (now keys) y d (length (now t)) (length (now nums)) ⌝ }
-    ensures { λ _. ⌜ cut f (now (work .exit))
-        ≡ withView branch f layout row (viewOf prior (now (keys .entry)) y d (now (nums .entry))) (cut f (now (work .entry))) ⌝ }
+    ensures { λ _. ⌜ matricesIn f (now (work .exit))
+        ≡ withView branch f layout row (viewOf prior (now (keys .entry)) y d (now (nums .entry))) (matricesIn f (now (work .entry))) ⌝ }
 {
     let p = y * d;
     let q = p + y;

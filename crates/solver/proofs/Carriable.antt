@@ -6,13 +6,13 @@ use mathlib.Core.List.{List, reverse}
 use Prim.Native.Nat.{ℕ, _-_, _≤_, _<_}
 use native.Mathlib.Omega.{arith}
 use lib.ListN.{length, length-map, length-reverse}
-use Rattle.graph.specs.Record.{valid, keysOf}
+use Rattle.graph.specs.Record.{valid, factorKeys}
 use Rattle.graph.specs.declared.Graph.{Graph}
 use Rattle.graph.proofs.Validity.{valid-variables}
 use Rattle.schedule.specs.Count.{count, In, from}
 use Rattle.schedule.specs.Pass.{full-pass}
 use Rattle.schedule.specs.Gather.{gather}
-use Rattle.schedule.specs.Plan as lists
+use Rattle.schedule.specs.Plan as schedule
 use Rattle.schedule.proofs.Counts.{count-reverse, from-in}
 use Rattle.schedule.proofs.Runs.{from-lt}
 use Rattle.schedule.proofs.Messages.{tidy, tidy-more, older, steps, few-messages, settled, settled-more}
@@ -29,7 +29,7 @@ module _ (g : Graph) (v : valid g ≡ true) (N order : List ℕ) (live : (i : �
   n = g .variables
 
   abbrev K : ℕ → List ℕ
-  K = keysOf g
+  K = factorKeys g
 
   known : (i : ℕ) → In i N → In i (from 0 (g .count))
   known i h = omega (arith, from-in i 0 (g .count) (omega arith) (omega (arith, live i h)))
@@ -53,8 +53,8 @@ module _ (g : Graph) (v : valid g ≡ true) (N order : List ℕ) (live : (i : �
   back-long : length (reverse order) ≡ n
   back-long = length-reverse order ∙ order-long
 
-  pub runnable : Runnable g (lists.plan n K N order)
-  unfolding lists.plan gather
+  pub runnable : Runnable g (schedule.plan n K N order)
+  unfolding schedule.plan gather
   runnable =
       let fw : Carriable g (full-pass n K N order) = carriable order each order-long in
       let bw : Carriable g (full-pass n K N (reverse order)) = carriable (reverse order) back back-long in
@@ -67,7 +67,7 @@ module _ (g : Graph) (v : valid g ≡ true) (N order : List ℕ) (live : (i : �
         settled =
             λ k h d. rw (gathered-at n K N order distinct (λ f s. low g v f) each k h d)
             (settled-more known
-            (settled n K N (full-pass n K N order) (full-pass n K N (reverse order)) (lists.place k order) (n - 1 - lists.place k order) k
+            (settled n K N (full-pass n K N order) (full-pass n K N (reverse order)) (schedule.placeIn k order) (n - 1 - schedule.placeIn k order) k
             (λ j l x i. fw .tidy j l .low x (omega arith)) (λ j l x i. bw .tidy j l .low x (omega arith)) (λ i s x u. low g v i x u)));
         single = λ k h d f. omega (arith, demand3 n K N order distinct (λ f s. low g v f) each k h d .listed f, distinct f);
       }

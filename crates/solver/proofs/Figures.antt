@@ -3,7 +3,7 @@ use mathlib.Core.Path.{_≡_, refl}
 use mathlib.Core.List.{[], _∷_}
 use Rattle.factor.specs.Factor.{priorOf, observationOf}
 use Rattle.graph.specs.declared.Graph.{Graph}
-use Rattle.schedule.specs.Count.{sum}
+use Rattle.schedule.specs.Count.{sumOver}
 use Rattle.schedule.specs.Plan.{Plan}
 use Rattle.schedule.specs.Pass.{original}
 use Rattle.messages.specs.Figure.{slotRows, rowsIn, rowsTo, needTo, need}
@@ -28,5 +28,5 @@ plan =
     }
 
 figure-of-two : figureOf graph plan ≡ 6
-unfolding figureOf need needTo rowsTo rowsIn slotRows sum
+unfolding figureOf need needTo rowsTo rowsIn slotRows sumOver
 figure-of-two = refl

@@ -10,7 +10,7 @@ use lib.Dec.{ltb}
 use lib.ListN.{getD, take, length-take}
 use lib.Seq.{getD-take}
 use Rattle.factor.proofs.Fitting.{fits-key}
-use Rattle.graph.specs.Record.{factorAt, valid, keysOf}
+use Rattle.graph.specs.Record.{factorAt, valid, factorKeys}
 use Rattle.graph.specs.declared.Graph.{Graph}
 use Rattle.graph.proofs.Validity.{valid-factor}
 use Rattle.schedule.specs.Count.{count, In, from}
@@ -27,8 +27,8 @@ unfolding count
 none-in j s = omega arith
 
 -- a factor's keys are registered
-pub low : (g : Graph) → valid g ≡ true → (i j : ℕ) → In j (keysOf g i) → j < g .variables
-unfolding keysOf
+pub low : (g : Graph) → valid g ≡ true → (i j : ℕ) → In j (factorKeys g i) → j < g .variables
+unfolding factorKeys
 low g v i j = go (ltb i (g .count)) refl
   where
     go : (b : Bool) → ltb i (g .count) ≡ b → In j (cond b (take (factorAt g i .touched) (factorAt g i .keys)) []) → j < g .variables
@@ -41,15 +41,16 @@ low g v i j = go (ltb i (g .count)) refl
     go false e s = absurd (none-in j s)
 
 pub once : (g : Graph) → valid g ≡ true → (k : ℕ) → k < g .variables → (d : Gathered)
-    → Once (g .variables) (keysOf g) (from 0 (g .count)) k (graphPlan g .forward) (graphPlan g .backward) (getD (graphPlan g .at-key) k d)
+    → Once (g .variables) (factorKeys g) (from 0 (g .count)) k (graphPlan g .forward) (graphPlan g .backward) (getD (graphPlan g .at-key) k d)
 unfolding graphPlan
-once g v k h d = demand3 (g .variables) (keysOf g) (from 0 (g .count)) (from 0 (g .variables)) (from-once (g .count)) (λ f s j u. low g v f j u)
+once g v k h d = demand3 (g .variables) (factorKeys g) (from 0 (g .count)) (from 0 (g .variables)) (from-once (g .count)) (λ f s j u. low g v f j u)
     (λ j. refl) k h d
 
 -- a factor without keys is uncovered at every key
-pub keyless : (g : Graph) → valid g ≡ true → (i k : ℕ) → i < g .count → keysOf g i ≡ [] → k < g .variables → (d : Gathered)
+pub keyless : (g : Graph) → valid g ≡ true → (i k : ℕ) → i < g .count → factorKeys g i ≡ [] → k < g .variables → (d : Gathered)
     → In i (getD (graphPlan g .at-key) k d .originals)
 unfolding graphPlan
 keyless g v i k l e h d =
-    schedule.keyless (g .variables) (keysOf g) (from 0 (g .count)) (from 0 (g .variables)) (from-once (g .count)) (λ f s j u. low g v f j u) (λ j. refl) i k h
+    schedule.keyless (g .variables) (factorKeys g) (from 0 (g .count)) (from 0 (g .variables)) (from-once (g .count)) (λ f s j u. low g v f j u)
+    (λ j. refl) i k h
     (λ j s. none-in j (subst (λ (ks : List ℕ). In j ks) e s)) (omega (arith, from-in i 0 (g .count) (omega arith) (omega arith))) d

@@ -23,20 +23,20 @@ use Rattle.graph.specs.declared.refusal.Refusal.{Refusal}
 use Rattle.graph.specs.declared.refusal.Refusal.the-variants.{FactorStoreShort, StoreShort, NoSuchGraph}
 use Rattle.graph.proofs.Validity.{valid-variables}
 use Rattle.schedule.specs.Pass.{ClosedFactor, at}
-use Rattle.schedule.specs.Plan as lists
+use Rattle.schedule.specs.Plan as schedule
 use Rattle.plan.specs.Pass.{messagesOf, msgAt}
 use Rattle.plan.specs.declared.pass.Pass.{Pass}
 use Rattle.plan.proofs.Unions.{at-msg}
 use Rattle.plan.specs.Gather.{gatheredOf}
-use Rattle.plan.specs.Plan.{planOf, noGathered, Bounded}
+use Rattle.plan.specs.Plan.{planIn, noGathered, Bounded}
 use Rattle.lists.specs.Lists.{messageNumber, backward-shift}
 use Rattle.plan.specs.declared.gather.Gathered as arrays
 use Rattle.plan.specs.declared.plan.Plan.{Plan}
 use Rattle.plan.specs.Pass as pass
 use Rattle.plan.proofs.Sending.{messages-length}
 use Rattle.plan.proofs.Stepping.{ready-later}
-use Rattle.gaussian.specs.Elimination.{Outcome, pivot, unbounded, message}
-use Rattle.messages.specs.Values.{values, none, stopped, stopFrom, finished, overlaid}
+use Rattle.gaussian.specs.Elimination.{Outcome, pivot, notFinite, message}
+use Rattle.messages.specs.Values.{values, none, refusedAt, refusalFrom, finishedNumbers, overlaid}
 use Rattle.messages.specs.Figure.{rowsAt, widthAt, needTo, need}
 use Rattle.messages.proofs.Members.{at-map}
 use Rattle.messages.proofs.Rows.{products}
@@ -44,12 +44,12 @@ use Rattle.messages.proofs.Slots.{message-rows-most, message-kept, message-few}
 use Rattle.messages.proofs.Reading.{values-length}
 use Rattle.messages.proofs.Carrying.{stored-stays}
 use Rattle.messages.specs.Tables.{Carriable, AllStored, Tables, PlacedTo, Before, keys-length, heads-length, firstKey}
-use Rattle.messages.specs.Asked.{most-start, stopOf}
+use Rattle.messages.specs.Asked.{most-start, refusalIn}
 use Rattle.messages.specs.declared.Carried.{Carried}
-use Rattle.messages.specs.declared.Carried.the-variants.{Through, Halted}
+use Rattle.messages.specs.declared.Carried.the-variants as carried-pass
 use Rattle.graph.specs.Moments.{startOf}
 use Rattle.graph.proofs.Moments.{start-none, start-more}
-use Rattle.marginals.specs.Asked.{Findable, Gatherable, planned, Finds, FindsPlanned}
+use Rattle.marginals.specs.Asked.{Findable, PlanCarried, plannedMarginals, Finds, FindsPlanned}
 use Rattle.marginals.specs.Marginals.{marginalNumbers, missingFrom, marginalsIn}
 use Rattle.marginals.proofs.Rooms.{numbers-most}
 use Rattle.marginals.proofs.Gathering.{findable}
@@ -57,9 +57,9 @@ use Rattle.factor.proofs.Laying.{lay-lay}
 use Rattle.solver.specs.Plan.{graphPlan}
 use Rattle.solver.specs.Plan as spec
 use Rattle.solver.specs.declared.Arranged as calls
-use Rattle.solver.specs.declared.Outcome.the-variants.{Made}
-use Rattle.solver.specs.Run.{Verdict, refusal, refuse, first, second, third, carried, checked, figureOf, run, verdict}
-use Rattle.solver.specs.Stages.{Planned, Ready, Enough, storesOf, ThirdPlanned, read}
+use Rattle.solver.specs.declared.Outcome.the-variants as solver
+use Rattle.solver.specs.Run.{RunVerdict, refusal, refuse, first, second, third, carried, checked, figureOf, run, runVerdict}
+use Rattle.solver.specs.Stages.{Planned, RunReady, Enough, storesOf, ThirdPlanned, read}
 use Rattle.solver.specs.declared.run.Places.{Places}
 use Rattle.solver.specs.declared.run.Ran.{Ran}
 use Rattle.solver.specs.declared.run.Ended.the-variants.{Done}
@@ -99,20 +99,21 @@ with-room {g} f results h = record { sound = f .sound; long = f .long; held = f 
 module _ (g : Graph) (at : List arrays.Gathered) (figure : ℕ) (factors messages : List Float) (keys heads : List ℕ) (marginals : List Float)
     (r : Carried) (before after : List Float)
     (finds : FindsPlanned g at factors messages keys heads r before after) where
-  pub third-refused : (k : ℕ) (why : Refusal) → r ≡ Halted k why
+  pub third-refused : (k : ℕ) (why : Refusal) → r ≡ carried-pass.Refused k why
       → ThirdPlanned g at figure factors messages keys heads marginals (refusal figure why 3 k) marginals
   unfolding third
   third-refused k why e q ga =
-      let s : missingFrom 0 (planned g factors q) ≡ stopped k why = sym (finds q ga .tells) ∙ ap stopOf e in
+      let s : missingFrom 0 (plannedMarginals g factors q) ≡ refusedAt k why = sym (finds q ga .tells) ∙ ap refusalIn e in
       rw s refl
 
-  pub third-done : (n : ℕ) (t marginals′ : List Float) → r ≡ Through → n ≡ marginalNumbers g → t ≡ part after 0 n → marginals′ ≡ splice marginals 0 n t
+  pub third-done : (n : ℕ) (t marginals′ : List Float) → r ≡ carried-pass.Done → n ≡ marginalNumbers g → t ≡ part after 0 n → marginals′
+      ≡ splice marginals 0 n t
       → ThirdPlanned g at figure factors messages keys heads marginals (record { figure = figure; ended = Done }) marginals′
   unfolding third
   third-done n t marginals′ e en et em q ga =
-      let found : Finds (planned g factors q) (marginalNumbers g) r before after = finds q ga in
-      let l : List Float = marginalsIn (planned g factors q) in
-      let s : missingFrom 0 (planned g factors q) ≡ none = sym (found .tells) ∙ ap stopOf e in
+      let found : Finds (plannedMarginals g factors q) (marginalNumbers g) r before after = finds q ga in
+      let l : List Float = marginalsIn (plannedMarginals g factors q) in
+      let s : missingFrom 0 (plannedMarginals g factors q) ≡ none = sym (found .tells) ∙ ap refusalIn e in
       let k : length l ≡ n - 0 = found .count e ∙ sym en ∙ omega arith in
       let el : t ≡ l = et ∙ ap (take (n - 0)) (found .stand e) ∙ take-at l (drop (length l) before) (n - 0) k in
       let em′ : marginals′ ≡ overlaid marginals l = em ∙ ap (λ (x : List Float). x ++ drop (n - 0) marginals) el
@@ -146,20 +147,20 @@ unfolding need
 need-most g ms c = omega (arith, need-to-most g ms c (length ms) (omega arith), c .few)
 
 -- where a pass was stopped is one of its messages
-stop-from : (i : ℕ) (vs : List Outcome) (j : ℕ) (why : Refusal) → stopFrom i vs ≡ stopped j why → j < i + length vs
-unfolding stopFrom
+stop-from : (i : ℕ) (vs : List Outcome) (j : ℕ) (why : Refusal) → refusalFrom i vs ≡ refusedAt j why → j < i + length vs
+unfolding refusalFrom
 stop-from i [] j why e = absurd (let z : _≡_ {A = ℕ} 0 1 = cc in omega arith)
 stop-from i (pivot ∷ vs) j why e = let z : i ≡ j = cc in omega arith
-stop-from i (unbounded ∷ vs) j why e = let z : i ≡ j = cc in omega arith
+stop-from i (notFinite ∷ vs) j why e = let z : i ≡ j = cc in omega arith
 stop-from i (message r a xi w ∷ vs) j why e = omega (arith, stop-from (i + 1) vs j why e)
 
-pub stop-low : (g : Graph) (factors : List Float) (p : Pass) (j : ℕ) (why : Refusal) (r : Carried) → stopOf r
-    ≡ stopFrom 0 (values g factors (messagesOf p)) → r ≡ Halted j why → j < p .count
+pub stop-low : (g : Graph) (factors : List Float) (p : Pass) (j : ℕ) (why : Refusal) (r : Carried) → refusalIn r
+    ≡ refusalFrom 0 (values g factors (messagesOf p)) → r ≡ carried-pass.Refused j why → j < p .count
 unfolding values
 stop-low g factors p j why r e er =
     omega (
       arith,
-      stop-from 0 (values g factors (messagesOf p)) j why (sym e ∙ ap stopOf er),
+      stop-from 0 (values g factors (messagesOf p)) j why (sym e ∙ ap refusalIn er),
       values-length g factors (messagesOf p) (length (messagesOf p)),
       messages-length p,
     )
@@ -167,89 +168,91 @@ stop-low g factors p j why r e er =
 -- what a pass asks for, over tables and stores of these lengths
 abbrev Asks : Graph → Pass → (shift start : ℕ) (keys heads : List ℕ) (factors messages work : ℕ) → Type 0
 Asks g ps shift start keys heads factors messages work =
-    (pass.Ready max-variables ps × Carriable g (messagesOf ps) × (shift ≤ backward-shift) × (start ≤ most-start))
+    (pass.PassReady max-variables ps × Carriable g (messagesOf ps) × (shift ≤ backward-shift) × (start ≤ most-start))
     × ((Tables g keys heads × PlacedTo g (messagesOf ps) shift start keys heads (length (messagesOf ps)))
     × ((offset g (g .count) ≤ factors) × (start + need g (messagesOf ps) ≤ messages) × (work-numbers ≤ work)))
 
-pass-ready : {g : Graph} {ps : Pass} → Carriable g (messagesOf ps) → pass.Ready (g .variables) ps → pass.Ready max-variables ps × Carriable g (messagesOf ps)
+pass-ready : {g : Graph} {ps : Pass} → Carriable g (messagesOf ps) → pass.PassReady (g .variables) ps
+    → pass.PassReady max-variables ps × Carriable g (messagesOf ps)
 pass-ready {g} {ps} c r = (ready-later (g .variables) max-variables ps (ps .active) (valid-variables g (c .sound)) r, c)
 
 -- what a pass of a plan is placed and carried with
-module _ (g : Graph) (p : Plan) (pl : Planned g p (planOf (g .variables) p)) where
-  pub forwards : pass.Ready max-variables (p .forward) × Carriable g (messagesOf (p .forward))
-  unfolding planOf
+module _ (g : Graph) (p : Plan) (pl : Planned g p (planIn (g .variables) p)) where
+  pub forwards : pass.PassReady max-variables (p .forward) × Carriable g (messagesOf (p .forward))
+  unfolding planIn
   forwards = pass-ready (pl .runnable .forward) (pl .bounded .forward)
 
-  pub backwards : pass.Ready max-variables (p .backward) × Carriable g (messagesOf (p .backward))
-  unfolding planOf
+  pub backwards : pass.PassReady max-variables (p .backward) × Carriable g (messagesOf (p .backward))
+  unfolding planIn
   backwards = pass-ready (pl .runnable .backward) (pl .bounded .backward)
 
   pub forward-most : need g (messagesOf (p .forward)) ≤ 66560
   forward-most = need-most g (messagesOf (p .forward)) (forwards .1)
 
   -- a refused message has a step
-  pub step-fits : (factors : List Float) (j : ℕ) (why : Refusal) (r : Carried) → stopOf r ≡ stopFrom 0 (values g factors (messagesOf (p .backward)))
-      → r ≡ Halted j why
+  pub step-fits : (factors : List Float) (j : ℕ) (why : Refusal) (r : Carried) → refusalIn r ≡ refusalFrom 0 (values g factors (messagesOf (p .backward)))
+      → r ≡ carried-pass.Refused j why
       → at (messagesOf (p .backward)) j .step < g .variables
-  unfolding planOf
+  unfolding planIn
   step-fits factors j why r et er = pl .runnable .backward-steps j
       (omega (arith, stop-low g factors (p .backward) j why r et er, messages-length (p .backward)))
 
   -- ---- with their places
-  module _ (places : Places) (keys heads : List ℕ) (ready : Ready g (planOf (g .variables) p) places keys heads) where
-    half-is : places .half ≡ need g (messagesOf (p .forward))
-    unfolding planOf
-    half-is = ready .half-is
+  module _ (places : Places) (keys heads : List ℕ) (ready : RunReady g (planIn (g .variables) p) places keys heads) where
+    forward-need-is : places .forward ≡ need g (messagesOf (p .forward))
+    unfolding planIn
+    forward-need-is = ready .forward-need-is
 
-    figure-is : places .figure ≡ places .half + need g (messagesOf (p .backward))
-    unfolding planOf
+    figure-is : places .figure ≡ places .forward + need g (messagesOf (p .backward))
+    unfolding planIn
     figure-is = ready .figure-is
 
     pub first-asks : (factors messages work marginals : ℕ) → Enough g (places .figure) factors messages work marginals
         → Asks g (p .forward) 0 0 keys heads factors messages work
-    unfolding planOf
+    unfolding planIn
     first-asks factors messages work marginals enough = (
       (forwards .0, forwards .1, omega arith, omega arith),
       (
         (ready .tables, ready .placed),
-        (enough .of-factors, omega (arith, half-is, figure-is, enough .of-messages), enough .of-work),
+        (enough .of-factors, omega (arith, forward-need-is, figure-is, enough .of-messages), enough .of-work),
       ),
     )
 
     pub second-asks : (factors messages work marginals : ℕ) → Enough g (places .figure) factors messages work marginals
-        → Asks g (p .backward) backward-shift (places .half) keys heads factors messages work
-    unfolding planOf
+        → Asks g (p .backward) backward-shift (places .forward) keys heads factors messages work
+    unfolding planIn
     second-asks factors messages work marginals enough = (
-      (backwards .0, backwards .1, omega arith, omega (arith, half-is, forward-most)),
+      (backwards .0, backwards .1, omega arith, omega (arith, forward-need-is, forward-most)),
       ((ready .tables, ready .placed′), (enough .of-factors, omega (arith, figure-is, enough .of-messages), enough .of-work)),
     )
 
     module _ (factors messages : List Float) (work marginals : ℕ) (enough : Enough g (places .figure) (length factors) (length messages) work marginals) where
-      -- the forward messages end at half
+      -- the forward messages end where the backward ones begin
       pub forward-ends : (after : List Float) → AllStored g factors (messagesOf (p .forward)) 0 after
-          → places .half ≡ 0 + length (finished (values g factors (messagesOf (p .forward))))
-      forward-ends after fw = omega (arith, half-is, fw .long)
+          → places .forward ≡ 0 + length (finishedNumbers (values g factors (messagesOf (p .forward))))
+      forward-ends after fw = omega (arith, forward-need-is, fw .long)
 
       -- the forward messages stand where they stood
-      pub forward-stays : (after : List Float) → after ≡ lay messages (places .half) (finished (values g factors (messagesOf (p .backward))))
+      pub forward-stays : (after : List Float) → after ≡ lay messages (places .forward) (finishedNumbers (values g factors (messagesOf (p .backward))))
           → AllStored g factors (messagesOf (p .forward)) 0 messages
-          → AllStored g factors (messagesOf (p .backward)) (places .half) after → AllStored g factors (messagesOf (p .forward)) 0 after
+          → AllStored g factors (messagesOf (p .backward)) (places .forward) after → AllStored g factors (messagesOf (p .forward)) 0 after
       unfolding need
       forward-stays after ea fw bw =
           record {
             each = λ j h.
-                stored-stays g factors (messagesOf (p .forward)) 0 messages after j (length (messagesOf (p .forward))) (places .half) h (omega (arith, half-is))
-                (λ a b l. part-stays messages (finished (values g factors (messagesOf (p .backward)))) after (places .half) a b ea
+                stored-stays g factors (messagesOf (p .forward)) 0 messages after j (length (messagesOf (p .forward))) (places .forward) h
+                (omega (arith, forward-need-is))
+                (λ a b l. part-stays messages (finishedNumbers (values g factors (messagesOf (p .backward)))) after (places .forward) a b ea
                 (omega (arith, figure-is, enough .of-messages, bw .long)) l) (fw .each j h);
             long = fw .long;
           }
 
       -- ---- stage 3, where all messages have been made
       module _ (fw : AllStored g factors (messagesOf (p .forward)) 0 messages)
-          (bw : AllStored g factors (messagesOf (p .backward)) (places .half) messages) where
+          (bw : AllStored g factors (messagesOf (p .backward)) (places .forward) messages) where
         -- what a key gathers, in the plan and in the arrays
-        gathered-is : (k : ℕ) → k < g .variables → getD (planOf (g .variables) p .at-key) k (gatheredOf noGathered) ≡ gatheredOf (getD (p .at) k noGathered)
-        unfolding planOf
+        gathered-is : (k : ℕ) → k < g .variables → getD (planIn (g .variables) p .at-key) k (gatheredOf noGathered) ≡ gatheredOf (getD (p .at) k noGathered)
+        unfolding planIn
         gathered-is k l =
             let long : k < length (take (g .variables) (p .at)) = omega (
               arith,
@@ -260,67 +263,70 @@ module _ (g : Graph) (p : Plan) (pl : Planned g p (planOf (g .variables) p)) whe
             at-map gatheredOf (take (g .variables) (p .at)) k noGathered (gatheredOf noGathered) long
             ∙ ap gatheredOf (getD-take (g .variables) (p .at) k noGathered l)
 
-        pub gatherable : Gatherable g (planOf (g .variables) p) (p .at) factors messages keys heads
-        unfolding planOf
+        pub gatherable : PlanCarried g (planIn (g .variables) p) (p .at) factors messages keys heads
+        unfolding planIn
         gatherable =
             record {
               forward = pl .runnable .forward;
               backward = pl .runnable .backward;
               tables = ready .tables;
               placed = ready .placed;
-              placed′ = rw (← ready .half-is) (ready .placed′);
+              placed′ = rw (← ready .forward-need-is) (ready .placed′);
               stored = fw .each;
-              stored′ = rw (← ready .half-is) (bw .each);
+              stored′ = rw (← ready .forward-need-is) (bw .each);
               long = omega (arith, pl .bounded .long, valid-variables g (forwards .1 .sound));
               gathers = refl;
               held = pl .bounded .held;
               settled = λ k l. rw (← gathered-is k l) (pl .runnable .settled k l (gatheredOf noGathered));
               enough = enough .of-factors;
-              enough′ = omega (arith, half-is, figure-is, enough .of-messages);
+              enough′ = omega (arith, forward-need-is, figure-is, enough .of-messages);
             }
 
         pub third-asks : Findable g (p .at) factors messages work keys heads marginals
-        third-asks = findable g (planOf (g .variables) p) (p .at) factors messages keys heads gatherable work marginals (enough .of-work) (enough .of-marginals)
+        third-asks = findable g (planIn (g .variables) p) (p .at) factors messages keys heads gatherable work marginals (enough .of-work) (enough .of-marginals)
 
 -- ---- the stages in turn
 
-module _ (g : Graph) (q : lists.Plan) (figure : ℕ) (factors messages marginals : List Float) where
+module _ (g : Graph) (q : schedule.Plan) (figure : ℕ) (factors messages marginals : List Float) where
   abbrev fw : List Outcome
   fw = values g factors (q .forward)
 
   abbrev bw : List Outcome
   bw = values g factors (q .backward)
 
-  pub first-refused : (after : List Float) (j step : ℕ) (why : Refusal) (r : Carried) → stopOf r ≡ stopFrom 0 fw → r ≡ Halted j why → after
-      ≡ lay messages 0 (finished fw) → step ≡ at (q .forward) j .step
-      → verdict (refusal figure why 1 step) after marginals ≡ carried g q figure factors messages marginals
+  pub first-refused : (after : List Float) (j step : ℕ) (why : Refusal) (r : Carried) → refusalIn r ≡ refusalFrom 0 fw → r ≡ carried-pass.Refused j why → after
+      ≡ lay messages 0 (finishedNumbers fw) → step ≡ at (q .forward) j .step
+      → runVerdict (refusal figure why 1 step) after marginals ≡ carried g q figure factors messages marginals
   unfolding carried first
   first-refused after j step why r et er ea es =
-      let s : stopFrom 0 fw ≡ stopped j why = sym et ∙ ap stopOf er in
-      rw (s, es, ea, laid-first messages (finished fw)) refl
+      let s : refusalFrom 0 fw ≡ refusedAt j why = sym et ∙ ap refusalIn er in
+      rw (s, es, ea, laid-first messages (finishedNumbers fw)) refl
 
   -- the forward pass is through
-  module _ (half : ℕ) (r₁ r₂ : Carried) (after₁ after₂ : List Float) (et₁ : stopOf r₁ ≡ stopFrom 0 fw) (et₂ : stopOf r₂ ≡ stopFrom 0 bw) (er₁ : r₁ ≡ Through)
-      (ea₁ : after₁ ≡ lay messages 0 (finished fw)) (ea₂ : after₂ ≡ lay after₁ half (finished bw)) (eh : half ≡ 0 + length (finished fw)) where
-    through : stopFrom 0 fw ≡ none
-    through = sym et₁ ∙ ap stopOf er₁
+  module _ (forward-need : ℕ) (r₁ r₂ : Carried) (after₁ after₂ : List Float) (et₁ : refusalIn r₁ ≡ refusalFrom 0 fw)
+      (et₂ : refusalIn r₂ ≡ refusalFrom 0 bw) (er₁ : r₁ ≡ carried-pass.Done)
+      (ea₁ : after₁ ≡ lay messages 0 (finishedNumbers fw)) (ea₂ : after₂ ≡ lay after₁ forward-need (finishedNumbers bw))
+      (eh : forward-need ≡ 0 + length (finishedNumbers fw)) where
+    through : refusalFrom 0 fw ≡ none
+    through = sym et₁ ∙ ap refusalIn er₁
 
-    both : after₂ ≡ overlaid messages (finished fw ++ finished bw)
-    both = ea₂ ∙ rw ea₁ (lay-lay messages (finished fw) 0 (omega arith) (finished bw) _ eh) ∙ laid-first messages (finished fw ++ finished bw)
+    both : after₂ ≡ overlaid messages (finishedNumbers fw ++ finishedNumbers bw)
+    both = ea₂ ∙ rw ea₁ (lay-lay messages (finishedNumbers fw) 0 (omega arith) (finishedNumbers bw) _ eh)
+        ∙ laid-first messages (finishedNumbers fw ++ finishedNumbers bw)
 
-    pub second-refused : (j step : ℕ) (why : Refusal) → r₂ ≡ Halted j why → step ≡ at (q .backward) j .step
-        → verdict (refusal figure why 2 (g .variables - 1 - step)) after₂ marginals ≡ carried g q figure factors messages marginals
+    pub second-refused : (j step : ℕ) (why : Refusal) → r₂ ≡ carried-pass.Refused j why → step ≡ at (q .backward) j .step
+        → runVerdict (refusal figure why 2 (g .variables - 1 - step)) after₂ marginals ≡ carried g q figure factors messages marginals
     unfolding carried first second
     second-refused j step why er es =
-        let s : stopFrom 0 bw ≡ stopped j why = sym et₂ ∙ ap stopOf er in
+        let s : refusalFrom 0 bw ≡ refusedAt j why = sym et₂ ∙ ap refusalIn er in
         rw (through, s, es, both) refl
 
-    pub third-told : (r : Ran) (marginals′ : List Float) → r₂ ≡ Through → verdict r after₂ marginals′
-        ≡ third figure after₂ marginals (planned g factors q) (missingFrom 0 (planned g factors q))
-        → verdict r after₂ marginals′ ≡ carried g q figure factors messages marginals
+    pub third-told : (r : Ran) (marginals′ : List Float) → r₂ ≡ carried-pass.Done → runVerdict r after₂ marginals′
+        ≡ third figure after₂ marginals (plannedMarginals g factors q) (missingFrom 0 (plannedMarginals g factors q))
+        → runVerdict r after₂ marginals′ ≡ carried g q figure factors messages marginals
     unfolding carried first second
     third-told r marginals′ er e =
-        let s : stopFrom 0 bw ≡ none = sym et₂ ∙ ap stopOf er in
+        let s : refusalFrom 0 bw ≡ none = sym et₂ ∙ ap refusalIn er in
         e ∙ rw (through, s, both) refl
 
 -- the lengths of the stores stay
@@ -338,7 +344,7 @@ enough-told g figure factors messages work marginals e = go (leb (offset g (g .c
     (every (leb figure messages ∷ leb work-numbers work ∷ leb (marginalNumbers g) marginals ∷ [])) refl refl e
   where
     go : (a b : Bool) → leb (offset g (g .count)) factors ≡ a → every (leb figure messages ∷ leb work-numbers work ∷ leb (marginalNumbers g) marginals ∷ []) ≡ b
-        → cond (not a) (stores.Short FactorStoreShort) (cond (not b) (stores.Short StoreShort) stores.Enough) ≡ stores.Enough
+        → cond (not a) (stores.Refused FactorStoreShort) (cond (not b) (stores.Refused StoreShort) stores.Enough) ≡ stores.Enough
         → Enough g figure factors messages work marginals
     go true true ea eb z =
         let l : List Bool = leb figure messages ∷ leb work-numbers work ∷ leb (marginalNumbers g) marginals ∷ [] in
@@ -353,15 +359,15 @@ enough-told g figure factors messages work marginals e = go (leb (offset g (g .c
     go false b ea eb z = absurd (let x : _≡_ {A = ℕ} 0 1 = cc in omega arith)
 
 -- the test is the definition's
-module _ (g : Graph) (q : lists.Plan) (figure : ℕ) (factors messages marginals : List Float) (work : ℕ) where
-  pub short-checked : (why : Refusal) → storesOf g figure (length factors) (length messages) work (length marginals) ≡ stores.Short why
-      → verdict (refusal figure why 1 0) messages marginals ≡ checked g q figure factors messages work marginals
+module _ (g : Graph) (q : schedule.Plan) (figure : ℕ) (factors messages marginals : List Float) (work : ℕ) where
+  pub short-checked : (why : Refusal) → storesOf g figure (length factors) (length messages) work (length marginals) ≡ stores.Refused why
+      → runVerdict (refusal figure why 1 0) messages marginals ≡ checked g q figure factors messages work marginals
   unfolding storesOf checked
   short-checked why e = go (leb (offset g (g .count)) (length factors))
       (every (leb figure (length messages) ∷ leb work-numbers work ∷ leb (marginalNumbers g) (length marginals) ∷ [])) e
     where
-      go : (a b : Bool) → cond (not a) (stores.Short FactorStoreShort) (cond (not b) (stores.Short StoreShort) stores.Enough) ≡ stores.Short why
-          → verdict (refusal figure why 1 0) messages marginals
+      go : (a b : Bool) → cond (not a) (stores.Refused FactorStoreShort) (cond (not b) (stores.Refused StoreShort) stores.Enough) ≡ stores.Refused why
+          → runVerdict (refusal figure why 1 0) messages marginals
           ≡ cond (not a) (refuse figure FactorStoreShort 1 0 messages marginals)
           (cond (not b) (refuse figure StoreShort 1 0 messages marginals) (carried g q figure factors messages marginals))
       go false b z = let x : why ≡ FactorStoreShort = cc in rw x
@@ -393,53 +399,53 @@ placed-stays g ms keys heads keys′ heads′ c b placed j h =
       key = λ i l. b .of-keys (firstKey 0 j + i) (omega (arith, c .few, message-few g ms c j h)) ∙ placed j h .key i l;
     }
 
-pub all-ready : (g : Graph) (p : Plan) (half figure : ℕ) (keys heads keys′ heads′ : List ℕ) → Planned g p (planOf (g .variables) p) → half
-    ≡ 0 + need g (messagesOf (p .forward)) → figure ≡ half + need g (messagesOf (p .backward))
+pub all-ready : (g : Graph) (p : Plan) (forward-need figure : ℕ) (keys heads keys′ heads′ : List ℕ) → Planned g p (planIn (g .variables) p) → forward-need
+    ≡ 0 + need g (messagesOf (p .forward)) → figure ≡ forward-need + need g (messagesOf (p .backward))
     → PlacedTo g (messagesOf (p .forward)) 0 0 keys heads (length (messagesOf (p .forward))) → Before backward-shift keys heads keys′ heads′
     → Tables g keys′ heads′
-    → PlacedTo g (messagesOf (p .backward)) backward-shift half keys′ heads′ (length (messagesOf (p .backward)))
-    → Ready g (planOf (g .variables) p) (record { half = half; figure = figure }) keys′ heads′
-unfolding planOf
-all-ready g p half figure keys heads keys′ heads′ pl eh ef fw b t bw =
+    → PlacedTo g (messagesOf (p .backward)) backward-shift forward-need keys′ heads′ (length (messagesOf (p .backward)))
+    → RunReady g (planIn (g .variables) p) (record { forward = forward-need; figure = figure }) keys′ heads′
+unfolding planIn
+all-ready g p forward-need figure keys heads keys′ heads′ pl eh ef fw b t bw =
     record {
       tables = t;
       placed = placed-stays g (messagesOf (p .forward)) keys heads keys′ heads′ (pl .runnable .forward) b fw;
       placed′ = bw;
-      half-is = eh ∙ omega arith;
+      forward-need-is = eh ∙ omega arith;
       figure-is = ef;
     }
 
 -- ---- the run
 
-pub made-planned : (r : calls.Arranged) (g : Graph) → read r ≡ spec.planned g → Bounded (r .keys) (r .plan) → r .outcome ≡ Made
+pub made-planned : (r : calls.Arranged) (g : Graph) → read r ≡ spec.planned g → Bounded (r .keys) (r .plan) → r .outcome ≡ solver.Done
     → Planned g (r .plan) (graphPlan g)
 unfolding read spec.planned
 made-planned r g e b h =
     let v : valid g ≡ true = made-valid r g e h in
-    let a : read r ≡ record { outcome = Made; keys = g .variables; plan = graphPlan g } = e ∙ rw v refl in
+    let a : read r ≡ record { outcome = solver.Done; keys = g .variables; plan = graphPlan g } = e ∙ rw v refl in
     let k : r .keys ≡ g .variables = ap (λ (x : spec.Answer). x .keys) a in
     record {
       bounded = subst (λ (n : ℕ). Bounded n (r .plan)) k b;
-      is = ap (λ (n : ℕ). planOf n (r .plan)) (sym k) ∙ ap (λ (x : spec.Answer). x .plan) a;
+      is = ap (λ (n : ℕ). planIn n (r .plan)) (sym k) ∙ ap (λ (x : spec.Answer). x .plan) a;
       runnable = graph-runnable g v;
     }
 
 -- what the arrays hold is what they are said to hold
-pub as-held : (g : Graph) (p : Plan) (q : lists.Plan) → Planned g p q → Planned g p (planOf (g .variables) p)
+pub as-held : (g : Graph) (p : Plan) (q : schedule.Plan) → Planned g p q → Planned g p (planIn (g .variables) p)
 as-held g p q pl = record { bounded = pl .bounded; is = refl; runnable = rw (pl .is) (pl .runnable) }
 
 -- the plan is the graph's, and the figure that of its messages
 module _ (g : Graph) (p : Plan) (places : Places) (keys heads : List ℕ) (factors messages marginals : List Float) (work : ℕ) (pl : Planned g p (graphPlan g))
-    (ready : Ready g (planOf (g .variables) p) places keys heads) where
-  pub run-made : (v : Verdict) → v ≡ checked g (planOf (g .variables) p) (places .figure) factors messages work marginals → v
+    (ready : RunReady g (planIn (g .variables) p) places keys heads) where
+  pub run-made : (v : RunVerdict) → v ≡ checked g (planIn (g .variables) p) (places .figure) factors messages work marginals → v
       ≡ run g factors messages work marginals
   unfolding run figureOf
   run-made v e =
-      let f : places .figure ≡ need g (planOf (g .variables) p .forward) + need g (planOf (g .variables) p .backward) = omega
-      (arith, ready .half-is, ready .figure-is) in
+      let f : places .figure ≡ need g (planIn (g .variables) p .forward) + need g (planIn (g .variables) p .backward) = omega
+      (arith, ready .forward-need-is, ready .figure-is) in
       e ∙ rw (f, pl .is, pl .runnable .forward .sound) refl
 
 pub run-refused : (g : Graph) (factors messages marginals : List Float) (work : ℕ) (why : Refusal) → (valid g ≡ false) × (why ≡ NoSuchGraph)
-    → verdict (refusal 0 why 1 0) messages marginals ≡ run g factors messages work marginals
+    → runVerdict (refusal 0 why 1 0) messages marginals ≡ run g factors messages work marginals
 unfolding run
 run-refused g factors messages marginals work why h = rw (h .1, h .0) refl

@@ -13,52 +13,52 @@ use Rattle.graph.specs.declared.Graph.{Graph}
 use Rattle.graph.specs.declared.refusal.Refusal.{Refusal}
 use Rattle.graph.specs.declared.refusal.Refusal.the-variants.{FactorStoreShort, StoreShort, NoSuchGraph}
 use Rattle.schedule.specs.Pass.{ClosedFactor}
-use Rattle.schedule.specs.Plan as lists
+use Rattle.schedule.specs.Plan as schedule
 use Rattle.workspace.specs.Frames.{work-numbers}
-use Rattle.messages.specs.Values.{Stop, none, stopped, overlaid}
+use Rattle.messages.specs.Values.{FirstRefusal, none, refusedAt, overlaid}
 use Rattle.marginals.specs.Marginals.{Found, marginalNumbers, marginalsIn}
-use Rattle.solver.specs.Run.{Verdict, refuse, third, second, first, carried, checked, figureOf, run}
+use Rattle.solver.specs.Run.{RunVerdict, refuse, third, second, first, carried, checked, figureOf, run}
 use Rattle.solver.specs.Plan.{graphPlan}
 
 -- equal answers, and one list laid over both marginal stores; it is empty where the run was refused
-pub record Alike (r r′ : List Float) (v v′ : Verdict) : Type 0 where
+pub record Alike (r r′ : List Float) (v v′ : RunVerdict) : Type 0 where
   pub answers : v .answer ≡ v′ .answer
   pub found : List Float
   pub laid : v .marginals ≡ overlaid r found
   pub laid′ : v′ .marginals ≡ overlaid r′ found
 
 module _ (m m′ r r′ : List Float) where
-  either : (b : Bool) (v w v′ w′ : Verdict) → Alike r r′ v v′ → Alike r r′ w w′ → Alike r r′ (cond b v w) (cond b v′ w′)
+  either : (b : Bool) (v w v′ w′ : RunVerdict) → Alike r r′ v v′ → Alike r r′ w w′ → Alike r r′ (cond b v w) (cond b v′ w′)
   either true v w v′ w′ a c = a
   either false v w v′ w′ a c = c
 
   refusals : (figure : ℕ) (why : Refusal) (stage key : ℕ) (n n′ : List Float) → Alike r r′ (refuse figure why stage key n r) (refuse figure why stage key n′ r′)
   refusals figure why stage key n n′ = record { answers = refl; found = []; laid = refl; laid′ = refl }
 
-  thirds : (figure : ℕ) (n n′ : List Float) (all : List Found) (s : Stop) → Alike r r′ (third figure n r all s) (third figure n′ r′ all s)
+  thirds : (figure : ℕ) (n n′ : List Float) (all : List Found) (s : FirstRefusal) → Alike r r′ (third figure n r all s) (third figure n′ r′ all s)
   unfolding third
   thirds figure n n′ all none = record { answers = refl; found = marginalsIn all; laid = refl; laid′ = refl }
-  thirds figure n n′ all (stopped k why) = refusals figure why 3 k n n′
+  thirds figure n n′ all (refusedAt k why) = refusals figure why 3 k n n′
 
-  seconds : (figure k : ℕ) (bw : List ClosedFactor) (n n′ : List Float) (s : Stop) (v v′ : Verdict) → Alike r r′ v v′
+  seconds : (figure k : ℕ) (bw : List ClosedFactor) (n n′ : List Float) (s : FirstRefusal) (v v′ : RunVerdict) → Alike r r′ v v′
       → Alike r r′ (second figure k bw n r s v) (second figure k bw n′ r′ s v′)
   unfolding second
   seconds figure k bw n n′ none v v′ a = a
-  seconds figure k bw n n′ (stopped j why) v v′ a = refusals figure why 2 _ n n′
+  seconds figure k bw n n′ (refusedAt j why) v v′ a = refusals figure why 2 _ n n′
 
-  firsts : (figure : ℕ) (fw : List ClosedFactor) (n n′ : List Float) (s : Stop) (v v′ : Verdict) → Alike r r′ v v′
+  firsts : (figure : ℕ) (fw : List ClosedFactor) (n n′ : List Float) (s : FirstRefusal) (v v′ : RunVerdict) → Alike r r′ v v′
       → Alike r r′ (first figure fw n r s v) (first figure fw n′ r′ s v′)
   unfolding first
   firsts figure fw n n′ none v v′ a = a
-  firsts figure fw n n′ (stopped j why) v v′ a = refusals figure why 1 _ n n′
+  firsts figure fw n n′ (refusedAt j why) v v′ a = refusals figure why 1 _ n n′
 
-  carries : (g : Graph) (p : lists.Plan) (figure : ℕ) (factors : List Float) → Alike r r′ (carried g p figure factors m r) (carried g p figure factors m′ r′)
+  carries : (g : Graph) (p : schedule.Plan) (figure : ℕ) (factors : List Float) → Alike r r′ (carried g p figure factors m r) (carried g p figure factors m′ r′)
   unfolding carried
   carries g p figure factors = firsts figure (p .forward) _ _ _ _ _ (seconds figure (g .variables) (p .backward) _ _ _ _ _ (thirds figure _ _ _ _))
 
-  module _ (g : Graph) (p : lists.Plan) (figure : ℕ) (factors : List Float) (work : ℕ) where
+  module _ (g : Graph) (p : schedule.Plan) (figure : ℕ) (factors : List Float) (work : ℕ) where
     -- `checked`, with the lengths of the two stores apart
-    abbrev by : (lm lr : ℕ) (n s : List Float) → Verdict
+    abbrev by : (lm lr : ℕ) (n s : List Float) → RunVerdict
     by lm lr n s =
         cond (not (leb (offset g (g .count)) (length factors))) (refuse figure FactorStoreShort 1 0 n s)
         (cond (not (every (leb figure lm ∷ leb work-numbers work ∷ leb (marginalNumbers g) lr ∷ []))) (refuse figure StoreShort 1 0 n s)

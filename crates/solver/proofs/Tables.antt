@@ -8,12 +8,12 @@ use native.Mathlib.Omega.{arith}
 use lib.ListN.{length, getD, take, length-take}
 use lib.Seq.{getD-take}
 use Rattle.factor.proofs.Fitting.{fits-key}
-use Rattle.graph.specs.Record.{factorAt, valid, keysOf}
+use Rattle.graph.specs.Record.{factorAt, valid, factorKeys}
 use Rattle.graph.specs.declared.Graph.{Graph}
 use Rattle.graph.proofs.Validity.{valid-variables, valid-count, valid-factor, valid-touched}
 use Rattle.schedule.specs.Count.{count, In}
 use Rattle.schedule.proofs.Counts.{hit-cases}
-use Rattle.plan.specs.Factors.{keysAt}
+use Rattle.plan.specs.Factors.{keysAmong}
 use Rattle.plan.specs.Plan.{Registered}
 
 -- a number that stands in a list is below what bounds its elements
@@ -41,6 +41,6 @@ module _ (g : Graph) (v : valid g ≡ true) where
       }
 
 -- the factors mean the keys of the graph
-pub same-keys : (g : Graph) → keysAt (g .factors) (g .count) ≡ keysOf g
-unfolding keysOf
+pub same-keys : (g : Graph) → keysAmong (g .factors) (g .count) ≡ factorKeys g
+unfolding factorKeys
 same-keys g = fun-ext (λ i. refl)

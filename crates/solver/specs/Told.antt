@@ -4,7 +4,7 @@ use mathlib.Core.List.{[], _∷_}
 use Prim.Native.Nat.{ℕ}
 use Rattle.factor.specs.Told.{Told, value, refusal}
 use Rattle.graph.specs.Record.{valid}
-use Rattle.graph.specs.Refusals.{numberOf}
+use Rattle.graph.specs.Refusals.{refusalNumber}
 use Rattle.graph.specs.declared.Graph.{Graph}
 use Rattle.solver.specs.declared.Outcome.{Outcome}
 use Rattle.solver.specs.declared.Outcome.the-variants as outcome
@@ -13,18 +13,18 @@ use Rattle.solver.specs.declared.run.Ended.the-variants as ended
 use Rattle.solver.specs.declared.run.Ran.{Ran}
 
 -- that a plan was made, or the number of the refusal
-unfoldable pub outcomeTold : Outcome → Told
-outcomeTold outcome.Made = value []
-outcomeTold (outcome.Refused why) = refusal (numberOf why) []
+unfoldable pub planOutcomeTold : Outcome → Told
+planOutcomeTold outcome.Done = value []
+planOutcomeTold (outcome.Refused why) = refusal (refusalNumber why) []
 
 -- only 30 refuses a plan
 unfoldable pub planTold : Graph → Told
 planTold g = cond (valid g) (value []) (refusal 30 [])
 
 -- the figure is in every answer of a run; a refusal has its number, the figure, the stage and the key
-unfoldable pub endedTold : ℕ → Ended → Told
-endedTold figure ended.Done = value (figure ∷ [])
-endedTold figure (ended.Refused why stage key) = refusal (numberOf why) (figure ∷ stage ∷ key ∷ [])
+unfoldable pub runTold : ℕ → Ended → Told
+runTold figure ended.Done = value (figure ∷ [])
+runTold figure (ended.Refused why stage key) = refusal (refusalNumber why) (figure ∷ stage ∷ key ∷ [])
 
 abbrev pub ranTold : Ran → Told
-ranTold r = endedTold (r .figure) (r .ended)
+ranTold r = runTold (r .figure) (r .ended)

@@ -13,12 +13,12 @@ ghost use Prim.Native.Nat.{_≤_};
 ghost use Rattle.factor.specs.Limits.{max-variables};
 ghost use Rattle.plan.specs.Plan.{Bounded};
 ghost use Rattle.solver.specs.Plan as spec;
-ghost use Rattle.solver.specs.Told.{outcomeTold, planTold};
+ghost use Rattle.solver.specs.Told.{planOutcomeTold, planTold};
 ghost use Rattle.solver.specs.Stages.{read};
 
 // Whether a plan was made.
 pub enum Outcome {
-    Made,
+    Done,
     Refused(Refusal),
 }
 
@@ -57,7 +57,7 @@ pub fn arrange(g: Graph) -> Arranged
     let n = g.variables;
     let count = g.count;
     Arranged {
-        outcome: Outcome::Made,
+        outcome: Outcome::Done,
         keys: n,
         plan: plan_of(factors, count, live, count, order, n),
     }
@@ -66,8 +66,8 @@ pub fn arrange(g: Graph) -> Arranged
 // The plan of a graph: for each message its pass, step, content, kept and cleared keys; for each key the messages and originals
 // gathered, the leaves, and the keys cleared last.
 pub fn plan(g: Graph) -> Planned
-    ensures { λ r. ⌜ r ≡ spec.answer g ⌝ }
-    ensures { λ r. ⌜ outcomeTold (r .outcome) ≡ planTold g ⌝ }
+    ensures { λ r. ⌜ r ≡ spec.planAnswer g ⌝ }
+    ensures { λ r. ⌜ planOutcomeTold (r .outcome) ≡ planTold g ⌝ }
 {
     let made = arrange(g);
     let outcome = made.outcome;

@@ -25,16 +25,16 @@ ghost use Prim.Native.Nat.{_+_, _*_, _<_, _≤_};
 ghost use lib.ListN.{length};
 ghost use Rattle.factor.specs.Limits.{max-variables};
 ghost use Rattle.graph.specs.Record.{valid};
-ghost use Rattle.plan.specs.Pass.{Ready, messagesOf};
+ghost use Rattle.plan.specs.Pass.{PassReady, messagesOf};
 ghost use Rattle.schedule.specs.Pass.{at};
-ghost use Rattle.plan.specs.Plan.{planOf};
+ghost use Rattle.plan.specs.Plan.{planIn};
 ghost use Rattle.messages.specs.Tables.{keys-length, heads-length};
 ghost use Rattle.marginals.specs.Asked.{Findable};
 ghost use Rattle.marginals.specs.Marginals.{marginalNumbers};
 ghost use Rattle.solver.specs.Run as spec;
 ghost use Rattle.solver.specs.Stages as stages;
 ghost use Rattle.solver.specs.Told.{ranTold};
-ghost use Rattle.solver.specs.Run.{verdict};
+ghost use Rattle.solver.specs.Run.{runVerdict};
 
 // How a run ended: with a mean and a covariance for each key, or refused, with the stage and the key.
 pub enum Ended {
@@ -48,16 +48,16 @@ pub struct Ran {
     pub ended: Ended,
 }
 
-// Where the messages stand in the message store: the forward ones take the first numbers, the backward ones follow from `half` on; `figure` is both together.
+// How many numbers of the message store the forward messages need, after which the backward ones follow; and the figure, the need of both together.
 struct Places {
-    half: usize,
+    forward: usize,
     figure: usize,
 }
 
 // Whether the stores are long enough for a run.
 enum Stores {
     Enough,
-    Short(Refusal),
+    Refused(Refusal),
 }
 
 // The lengths of the tables: a head for each slot; the keys of an original and of a message.
@@ -93,7 +93,7 @@ fn marginal_numbers(g: Graph) -> usize
 
 // The step of a message of a pass.
 fn step_of(p: Pass, j: usize) -> usize
-    requires { ⌜ Ready max-variables p × (j < p .count) ⌝ }
+    requires { ⌜ PassReady max-variables p × (j < p .count) ⌝ }
     ensures { λ r. ⌜ r ≡ at (messagesOf p) j .step ⌝ }
 {
     p.steps[j] as usize
@@ -101,16 +101,19 @@ fn step_of(p: Pass, j: usize) -> usize
 
 // The messages of a plan get their places in the tables and in the message store.
 fn place_plan(g: Graph, p: Plan, keys: &mut [usize], heads: &mut [usize]) -> Places
-    requires { ⌜ stages.Planned g p (planOf (g .variables) p) ⌝ }
+    requires { ⌜ stages.Planned g p (planIn (g .variables) p) ⌝ }
     requires { ⌜ (length (now keys) ≡ keys-length) × (length (now heads) ≡ heads-length) ⌝ }
-    ensures { λ r. ⌜ stages.Ready g (planOf (g .variables) p) r (now (keys .exit)) (now (heads .exit)) ⌝ }
+    ensures { λ r. ⌜ stages.RunReady g (planIn (g .variables) p) r (now (keys .exit)) (now (heads .exit)) ⌝ }
 {
     let fw = p.forward;
     let bw = p.backward;
     fill_originals(g, keys, heads);
-    let half = place_pass(g, fw, 0, 0, keys, heads);
-    let figure = place_pass(g, bw, BACKWARD, half, keys, heads);
-    Places { half, figure }
+    let forward_need = place_pass(g, fw, 0, 0, keys, heads);
+    let figure = place_pass(g, bw, BACKWARD, forward_need, keys, heads);
+    Places {
+        forward: forward_need,
+        figure,
+    }
 }
 
 // The lengths of the stores are tested before any arithmetic, the factor store's first.
@@ -127,16 +130,16 @@ fn check_stores(
 {
     let n = g.count;
     if factors < g.offset(n) {
-        return Stores::Short(Refusal::FactorStoreShort);
+        return Stores::Refused(Refusal::FactorStoreShort);
     }
     if messages < figure {
-        return Stores::Short(Refusal::StoreShort);
+        return Stores::Refused(Refusal::StoreShort);
     }
     if work < WORK {
-        return Stores::Short(Refusal::StoreShort);
+        return Stores::Refused(Refusal::StoreShort);
     }
     if marginals < marginal_numbers(g) {
-        return Stores::Short(Refusal::StoreShort);
+        return Stores::Refused(Refusal::StoreShort);
     }
     Stores::Enough
 }
@@ -159,8 +162,8 @@ fn third_stage<'a>(
 {
     let mut results = [0.0; RESULTS];
     match find_marginals(g, at, factors, messages, work, keys, heads, &mut results) {
-        Carried::Through => {}
-        Carried::Halted(k, why) => return refused(figure, why, 3, k),
+        Carried::Done => {}
+        Carried::Refused(k, why) => return refused(figure, why, 3, k),
     }
     let n = marginal_numbers(g);
     copy(&mut marginals[0..n], &results[0..n]);
@@ -182,24 +185,34 @@ fn carry_out(
     heads: &[usize],
     marginals: &mut [f64],
 ) -> Ran
-    requires { ⌜ stages.Planned g p (planOf (g .variables) p) × stages.Ready g (planOf (g .variables) p) places (now keys) (now heads) ⌝ }
+    requires { ⌜ stages.Planned g p (planIn (g .variables) p) × stages.RunReady g (planIn (g .variables) p) places (now keys) (now heads) ⌝ }
     requires { ⌜ stages.Enough g (places .figure) (length (now factors)) (length (now messages)) (length (now work)) (length (now marginals)) ⌝ }
-    ensures { λ r. ⌜ verdict r (now (messages .exit)) (now (marginals .exit)) ≡
-        spec.carried g (planOf (g .variables) p) (places .figure) (now (factors .entry)) (now (messages .entry)) (now (marginals .entry)) ⌝ }
+    ensures { λ r. ⌜ runVerdict r (now (messages .exit)) (now (marginals .exit)) ≡
+        spec.carried g (planIn (g .variables) p) (places .figure) (now (factors .entry)) (now (messages .entry)) (now (marginals .entry)) ⌝ }
 {
     let n = g.variables;
     let fw = p.forward;
     let bw = p.backward;
     let at = p.at;
-    let half = places.half;
+    let forward_need = places.forward;
     let figure = places.figure;
     match carry_pass(g, fw, 0, 0, factors, messages, work, keys, heads) {
-        Carried::Through => {}
-        Carried::Halted(j, why) => return refused(figure, why, 1, step_of(fw, j)),
+        Carried::Done => {}
+        Carried::Refused(j, why) => return refused(figure, why, 1, step_of(fw, j)),
     }
-    match carry_pass(g, bw, BACKWARD, half, factors, messages, work, keys, heads) {
-        Carried::Through => {}
-        Carried::Halted(j, why) => return refused(figure, why, 2, n - 1 - step_of(bw, j)),
+    match carry_pass(
+        g,
+        bw,
+        BACKWARD,
+        forward_need,
+        factors,
+        messages,
+        work,
+        keys,
+        heads,
+    ) {
+        Carried::Done => {}
+        Carried::Refused(j, why) => return refused(figure, why, 2, n - 1 - step_of(bw, j)),
     }
     third_stage(
         g,
@@ -223,7 +236,7 @@ pub fn run(
     work: &mut [f64],
     marginals: &mut [f64],
 ) -> Ran
-    ensures { λ r. ⌜ verdict r (now (messages .exit)) (now (marginals .exit)) ≡
+    ensures { λ r. ⌜ runVerdict r (now (messages .exit)) (now (marginals .exit)) ≡
         spec.run g (now (factors .entry)) (now (messages .entry)) (length (now (work .entry))) (now (marginals .entry)) ⌝ }
     ensures { λ r. ⌜ ranTold r ≡
         ranTold (spec.run g (now (factors .entry)) (now (messages .entry)) (length (now (work .entry))) (now (marginals .entry)) .answer) ⌝ }
@@ -232,7 +245,7 @@ pub fn run(
     let outcome = made.outcome;
     match outcome {
         Outcome::Refused(why) => return refused(0, why, 1, 0),
-        Outcome::Made => {}
+        Outcome::Done => {}
     }
     let p = made.plan;
     let mut keys = [0; LISTED];
@@ -248,7 +261,7 @@ pub fn run(
         marginals.len(),
     ) {
         Stores::Enough => {}
-        Stores::Short(why) => return refused(figure, why, 1, 0),
+        Stores::Refused(why) => return refused(figure, why, 1, 0),
     }
     carry_out(
         g,

@@ -1,4 +1,4 @@
--- What is known of a reading. No contract can say which bytes C's `read` puts into the room. Definitions only.
+-- Inner: what is known of a reading. No contract can say which bytes C's `read` puts into the room.
 use Prim.Native.Nat.{ℕ, zero, suc, _<_, _≤_, min}
 use lib.IntN.{ℤ, pos, negsuc}
 use Rattle.streams.specs.declared.Input.{Input}
@@ -7,10 +7,10 @@ use Rattle.streams.specs.declared.Chunk.{Chunk}
 use Rattle.streams.specs.declared.Chunk.the-variants as chunk
 
 -- an input that ended did so within the room: a full room is told as such
-abbrev pub Within : Input → ℕ → Type 0
-Within (input.Ended n) room = n < room
-Within input.Full room = Unit {0}
-Within input.Failed room = Unit {0}
+abbrev pub InputWithin : Input → ℕ → Type 0
+InputWithin (input.Ended n) room = n < room
+InputWithin input.Full room = Unit {0}
+InputWithin input.Failed room = Unit {0}
 
 -- one read moves some bytes, and no more than there is room for
 abbrev pub Moved : Chunk → ℕ → Type 0

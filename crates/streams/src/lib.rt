@@ -52,7 +52,7 @@ fn read_chunk(fd: i32, room: &mut [u8]) -> Chunk
 
 // Reads until the input ends, the room is full or a read fails.
 pub fn read_all(fd: i32, room: &mut [u8]) -> Input
-    ensures { λ r. ⌜ spec.Within r (length (now (room .exit))) ⌝ }
+    ensures { λ r. ⌜ spec.InputWithin r (length (now (room .exit))) ⌝ }
 {
     let mut done = 0;
     while done < room.len() {

@@ -15,15 +15,15 @@ use Rattle.graph.specs.Record.{factorAt, offset, valid}
 use Rattle.graph.specs.declared.Graph.{Graph}
 use Rattle.graph.proofs.Validity.{offset-more, valid-count, valid-touched}
 use Rattle.slots.specs.Limits.{head-numbers}
-use Rattle.slots.specs.Tables.{slotOf}
+use Rattle.slots.specs.Tables.{numberedSlot}
 use Rattle.slots.specs.declared.Slot.the-variants.{Original}
 use Rattle.tables.specs.Originals.{widthOf}
 use Rattle.factor.proofs.Laying.{lay-in, lay-before}
 use Rattle.tables.proofs.Heads.{head-put, head-else}
 use Rattle.tables.specs.Heads.{Entered, withHead}
 
-slot-is : (i : ℕ) → i < max-factors → slotOf i ≡ Original i
-unfolding slotOf
+slot-is : (i : ℕ) → i < max-factors → numberedSlot i ≡ Original i
+unfolding numberedSlot
 slot-is i l = rw (lt-ltb i max-factors l)
 
 module _ (g : Graph) (v : valid g ≡ true) (keys heads : List ℕ) (long-keys : max-keys * max-factors ≤ length keys)

@@ -8,7 +8,7 @@ use native.Mathlib.Decide.{decLt}
 use lib.Dec.{eqb}
 use lib.ListN.{length, getD}
 use Rattle.slots.specs.Limits.{head-numbers}
-use Rattle.slots.specs.Tables.{slotOf, headOf}
+use Rattle.slots.specs.Tables.{numberedSlot, headOf}
 use Rattle.factor.proofs.Laying.{lay-length, lay-in, lay-before, lay-after}
 use Rattle.tables.specs.Heads.{headNumbers, withHead}
 
@@ -17,7 +17,7 @@ head-as : (heads : List ℕ) (number : ℕ) (p : Bool) (a r w f c : ℕ) → eqb
     → getD heads (head-numbers * number + 1) 0 ≡ a
     → getD heads (head-numbers * number + 2) 0 ≡ r → getD heads (head-numbers * number + 3) 0 ≡ w → getD heads (head-numbers * number + 4) 0 ≡ f
     → getD heads (head-numbers * number + 5) 0 ≡ c
-    → headOf heads number ≡ record { slot = slotOf number; prior = p; at = a; rows = r; width = w; first = f; count = c }
+    → headOf heads number ≡ record { slot = numberedSlot number; prior = p; at = a; rows = r; width = w; first = f; count = c }
 unfolding headOf
 head-as heads number p a r w f c ep ea er ew ef ec = rw (ep, ea, er, ew, ef, ec)
 
@@ -51,7 +51,7 @@ module _ (heads : List ℕ) (number : ℕ) (p : Bool) (at rows width first count
   head-length = lay-length heads (headNumbers p at rows width first count) (head-numbers * number) long
 
   pub head-put : headOf (withHead heads number p at rows width first count) number
-      ≡ record { slot = slotOf number; prior = p; at = at; rows = rows; width = width; first = first; count = count }
+      ≡ record { slot = numberedSlot number; prior = p; at = at; rows = rows; width = width; first = first; count = count }
   unfolding withHead
   head-put =
       let e : head-numbers * number + 0 ≡ head-numbers * number = omega arith in

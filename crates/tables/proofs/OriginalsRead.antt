@@ -8,7 +8,7 @@ use native.Mathlib.Numerals.{add-one}
 use lib.Ieee.{Float}
 use lib.ListN.{length, getD, take, drop, length-drop}
 use lib.Seq.{length-take-le, getD-take, getD-drop, ext-getD}
-use Rattle.blocks.specs.Blocks.{column}
+use Rattle.blocks.specs.Blocks.{columnOf}
 use Rattle.factor.specs.Limits.{max-total, max-factors, max-keys}
 use Rattle.factor.specs.Factor.{keyAt, sizeOf, firstColumn, width, aNumbers, numbers, fits}
 use Rattle.factor.specs.declared.Factor.{Factor}
@@ -18,11 +18,11 @@ use Rattle.graph.specs.Record.{factorAt, offset, valid}
 use Rattle.graph.specs.declared.Graph.{Graph}
 use Rattle.graph.proofs.Validity.{size-most, valid-variables, valid-count, valid-size, valid-factor, valid-touched, rows-most, width-most, offset-within}
 use Rattle.slots.specs.Layouts.{member}
-use Rattle.slots.specs.Tables.{headOf, keysAt, readView}
+use Rattle.slots.specs.Tables.{headOf, headKeys, readView}
 use Rattle.slots.specs.declared.Head.{Head}
 use Rattle.gaussian.specs.Asked.{KeyFits, HeadFits}
 use Rattle.tables.specs.Originals.{widthOf, originalView}
-use Rattle.slots.specs.Views.{numbersOf}
+use Rattle.slots.specs.Views.{factorNumbers}
 use Rattle.tables.specs.Heads.{Entered, Originals, originalHead}
 
 -- what is written later, past the places of originals, does not matter
@@ -44,7 +44,7 @@ originals-stay g keys heads keys′ heads′ v o ek eh sk sh =
     }
 
 -- a factor's numbers by its rows and its width
-numbers-by : (sizes : List ℕ) (f : Factor) → numbersOf (f .rows) (widthOf sizes f) ≡ numbers sizes f
+numbers-by : (sizes : List ℕ) (f : Factor) → factorNumbers (f .rows) (widthOf sizes f) ≡ numbers sizes f
 unfolding numbers aNumbers
 numbers-by sizes f = go (f .prior) (f .rows) (width sizes f)
   where
@@ -53,11 +53,11 @@ numbers-by sizes f = go (f .prior) (f .rows) (width sizes f)
     go false y d = refl
 
 -- the columns up to a key are the same in the keys of a slot and in those of the factor
-column-is : (sizes keys all : List ℕ) (n : ℕ) → ((j : ℕ) → j < n → getD keys j 0 ≡ getD all j 0) → column sizes keys n ≡ firstColumn sizes all n
-unfolding column
+column-is : (sizes keys all : List ℕ) (n : ℕ) → ((j : ℕ) → j < n → getD keys j 0 ≡ getD all j 0) → columnOf sizes keys n ≡ firstColumn sizes all n
+unfolding columnOf
 column-is sizes keys all zero h = sym (first-none sizes all)
 column-is sizes keys all (suc n) h =
-    let a : column sizes keys n ≡ firstColumn sizes all n = column-is sizes keys all n (λ j l. h j (omega arith)) in
+    let a : columnOf sizes keys n ≡ firstColumn sizes all n = column-is sizes keys all n (λ j l. h j (omega arith)) in
     let e : getD keys n 0 ≡ getD all n 0 = h n (omega arith) in
     rw (a, e) (sym (first-more sizes all n (getD all n 0) (sizeOf sizes (getD all n 0)) refl refl) ∙ ap (firstColumn sizes all) (add-one n))
 
@@ -74,7 +74,7 @@ module _ (g : Graph) (v : valid g ≡ true) (keys heads : List ℕ) (o : Origina
   inside : max-keys * i + f .touched ≤ length keys
   inside = omega (arith, valid-count g v, valid-touched g v i l, o .long-keys)
 
-  pub keys-are : keysAt keys h ≡ take (f .touched) (f .keys)
+  pub keys-are : headKeys keys h ≡ take (f .touched) (f .keys)
   keys-are =
       let n : h .first + h .count - h .first ≡ f .touched = omega arith in
       let a : length (take (f .touched) (drop (max-keys * i) keys))
@@ -110,7 +110,7 @@ module _ (g : Graph) (v : valid g ≡ true) (keys heads : List ℕ) (o : Origina
         let k : getD keys (max-keys * i) 0 ≡ keyAt f 0 = rw e at (entry .key 0 (omega arith)) in
         (omega arith, rw k (sym (prior-rows (g .sizes) (g .variables) f fit p)))
 
-    of-likelihood : f .prior ≡ false → column (g .sizes) (keysAt keys h) (f .touched) ≡ widthOf (g .sizes) f
+    of-likelihood : f .prior ≡ false → columnOf (g .sizes) (headKeys keys h) (f .touched) ≡ widthOf (g .sizes) f
     of-likelihood p = rw (keys-are, p) (column-is (g .sizes) (take (f .touched) (f .keys)) (f .keys) (f .touched)
         (λ j k. getD-take (f .touched) (f .keys) j 0 k))
 

@@ -5,14 +5,14 @@ ghost use mathlib.Core.List.{[], _∷_};
 ghost use Prim.Native.Nat.{_≤_};
 ghost use lib.ListN.{length};
 ghost use Rattle.text.specs.Decimals.{decimal, fieldText};
-ghost use Rattle.text.specs.Putting.{Puts, next};
+ghost use Rattle.text.specs.Putting.{Puts, nextPlace};
 
 // Places are counted up to this one, the largest number of a machine word.
 const LAST_PLACE: usize = 18446744073709551615;
 
 // The place after one byte.
 fn after(at: usize) -> usize
-    ensures { λ r. ⌜ r ≡ next at ⌝ }
+    ensures { λ r. ⌜ r ≡ nextPlace at ⌝ }
 {
     if at < LAST_PLACE { at + 1 } else { at }
 }

@@ -120,7 +120,7 @@ fn factorisation(text: &[u8], at: usize, n: usize, l: &mut [f64], x: &mut [f64],
     numbers(text, at, l, n * n);
     numbers(text, at + n * n, b, n);
     match cholesky::cholesky(l, v, n) {
-        Factored::Stopped => {
+        Factored::Refused => {
             io::write_all(1, b"stopped\n");
         }
         Factored::Done => {

@@ -13,9 +13,9 @@ use Rattle.workspace.specs.declared.Part.{Part}
 use Rattle.workspace.specs.declared.Part.the-variants.{S, H, G, A, Xi, W}
 use Rattle.workspace.specs.declared.Frame.{Frame}
 use Rattle.workspace.proofs.Parts.{part-same, part-below, part-above, length-part}
-use Rattle.workspace.specs.Parts.{Laid, cut, from, to}
+use Rattle.workspace.specs.Parts.{FrameLaid, matricesIn, partFrom, partTo}
 
-pub bounds : {f : Frame} {len : ℕ} → Laid f len → (p : Part) → (from f p ≤ to f p) × (to f p ≤ len)
+pub bounds : {f : Frame} {len : ℕ} → FrameLaid f len → (p : Part) → (partFrom f p ≤ partTo f p) × (partTo f p ≤ len)
 bounds l S = (omega arith, omega arith)
 bounds l H = (omega arith, omega arith)
 bounds l G = (omega arith, omega arith)
@@ -23,7 +23,7 @@ bounds l A = (omega arith, omega arith)
 bounds l Xi = (omega arith, omega arith)
 bounds l W = (omega arith, omega arith)
 
-pub picked : (f : Frame) (t : List Float) (p : Part) → part t (from f p) (to f p) ≡ pick p (cut f t)
+pub picked : (f : Frame) (t : List Float) (p : Part) → part t (partFrom f p) (partTo f p) ≡ pick p (matricesIn f t)
 picked f t S = refl
 picked f t H = refl
 picked f t G = refl
@@ -31,9 +31,9 @@ picked f t A = refl
 picked f t Xi = refl
 picked f t W = refl
 
-module _ (f : Frame) (t x : List Float) (l : Laid f (length t)) where
-  pub cut-splice : (p : Part) (g : List Float → List Float) → length x ≡ to f p - from f p → x ≡ g (pick p (cut f t))
-      → cut f (splice t (from f p) (to f p) x) ≡ change p g (cut f t)
+module _ (f : Frame) (t x : List Float) (l : FrameLaid f (length t)) where
+  pub cut-splice : (p : Part) (g : List Float → List Float) → length x ≡ partTo f p - partFrom f p → x ≡ g (pick p (matricesIn f t))
+      → matricesIn f (splice t (partFrom f p) (partTo f p) x) ≡ change p g (matricesIn f t)
   unfolding change
   cut-splice S g n e =
       let above = part-above t 0 (f .h) x (omega arith) (omega arith) n in
@@ -111,23 +111,24 @@ module _ (f : Frame) (t x : List Float) (l : Laid f (length t)) where
 
 -- ---- as the calls meet them
 
-pub long : (f : Frame) (t : List Float) → Laid f (length t) → (which : Part) (p q : ℕ) → p ≡ from f which → q ≡ to f which → length (part t p q)
-    ≡ to f which - from f which
+pub long : (f : Frame) (t : List Float) → FrameLaid f (length t) → (which : Part) (p q : ℕ) → p ≡ partFrom f which → q ≡ partTo f which → length (part t p q)
+    ≡ partTo f which - partFrom f which
 long f t l which p q ep eq =
-    let e : q - p ≡ to f which - from f which = omega arith in
+    let e : q - p ≡ partTo f which - partFrom f which = omega arith in
     length-part t p q (omega (arith, bounds l which .1)) ∙ e
 
-pub at-part : (f : Frame) (t x : List Float) (which : Part) (g : List Float → List Float) (p q : ℕ) → Laid f (length t) → p ≡ from f which → q ≡ to f which
-    → length x ≡ length (part t p q) → x ≡ g (part t p q) → cut f (splice t p q x) ≡ change which g (cut f t)
+pub at-part : (f : Frame) (t x : List Float) (which : Part) (g : List Float → List Float) (p q : ℕ) → FrameLaid f (length t) → p ≡ partFrom f which
+    → q ≡ partTo f which
+    → length x ≡ length (part t p q) → x ≡ g (part t p q) → matricesIn f (splice t p q x) ≡ change which g (matricesIn f t)
 at-part f t x which g p q l ep eq lx ex =
     rw (ep, eq) (cut-splice f t x l which g (lx ∙ long f t l which p q ep eq) (ex ∙ ap g (rw (ep, eq) (picked f t which))))
 
 -- the same store after a call that kept its length
-pub relaid : (f : Frame) {m n : ℕ} → n ≡ m → Laid f m → Laid f n
-relaid f e l = subst (λ (k : ℕ). Laid f k) (sym e) l
+pub relaid : (f : Frame) {m n : ℕ} → n ≡ m → FrameLaid f m → FrameLaid f n
+relaid f e l = subst (λ (k : ℕ). FrameLaid f k) (sym e) l
 
 -- a work store is enough for any frame within the limits whose rows are at most its kept columns
-pub frame-laid : (u r d len : ℕ) → u + d ≤ 32 → r ≤ d → work-numbers ≤ len → Laid (frameOf u r d) len
+pub frame-laid : (u r d len : ℕ) → u + d ≤ 32 → r ≤ d → work-numbers ≤ len → FrameLaid (frameOf u r d) len
 unfolding frameOf
 frame-laid u r d len s rd h =
     record {

@@ -21,7 +21,7 @@ use Rattle.workspace.specs.declared.Part.{Part}
 use Rattle.workspace.specs.declared.Frame.{Frame}
 use Rattle.workspace.proofs.Parts.{length-part, getD-part, splice-below, splice-in, splice-part, steps-part, sweep-part}
 use Rattle.workspace.proofs.Cuts.{bounds, picked, cut-splice, long}
-use Rattle.workspace.specs.Parts.{Laid, cut, from, to}
+use Rattle.workspace.specs.Parts.{FrameLaid, matricesIn, partFrom, partTo}
 
 -- the view of n rows that begins at place p
 abbrev pub start : ℕ → ℕ → View
@@ -118,39 +118,41 @@ solvedColumns-length l u c n =
     sweep-length (λ j t. solveLower l (columns u) (columns u) j t u) c n
     (λ j t. steps-length (λ i. place (columns u) i j) (λ i t. solvedRow l (columns u) i t (columns u) j 0 i) t u)
 
-pub solve-at-is : (f : Frame) (t r : List Float) (which : Part) (m p : ℕ) → Laid f (length t) → f .h ≤ from f which
-    → f .cleared * m ≤ to f which - from f which → p ≡ from f which
+pub solve-at-is : (f : Frame) (t r : List Float) (which : Part) (m p : ℕ) → FrameLaid f (length t) → f .h ≤ partFrom f which
+    → f .cleared * m ≤ partTo f which - partFrom f which → p ≡ partFrom f which
     → r ≡ solvedIn (start 0 (f .cleared)) (f .cleared) (start p (f .cleared)) t m
-    → cut f r ≡ change which (λ c. solvedColumns (cut f t .s) (f .cleared) c m) (cut f t)
+    → matricesIn f r ≡ change which (λ c. solvedColumns (matricesIn f t .s) (f .cleared) c m) (matricesIn f t)
 solve-at-is f t r which m p l low fit ep er =
     let b = bounds l which in
-    rw (er, ep, solved-part t 0 (f .h) (from f which) (to f which) (f .cleared) m low (b .0) (b .1) (omega arith) fit)
-    (cut-splice f t (solvedColumns (part t 0 (f .h)) (f .cleared) (part t (from f which) (to f which)) m) l which
-    (λ c. solvedColumns (cut f t .s) (f .cleared) c m)
-    (solvedColumns-length (part t 0 (f .h)) (f .cleared) (part t (from f which) (to f which)) m ∙ long f t l which (from f which) (to f which) refl refl)
-    (ap (λ (c : List Float). solvedColumns (cut f t .s) (f .cleared) c m) (picked f t which)))
+    rw (er, ep, solved-part t 0 (f .h) (partFrom f which) (partTo f which) (f .cleared) m low (b .0) (b .1) (omega arith) fit)
+    (cut-splice f t (solvedColumns (part t 0 (f .h)) (f .cleared) (part t (partFrom f which) (partTo f which)) m) l which
+    (λ c. solvedColumns (matricesIn f t .s) (f .cleared) c m)
+    (solvedColumns-length (part t 0 (f .h)) (f .cleared) (part t (partFrom f which) (partTo f which)) m
+    ∙ long f t l which (partFrom f which) (partTo f which) refl refl)
+    (ap (λ (c : List Float). solvedColumns (matricesIn f t .s) (f .cleared) c m) (picked f t which)))
 
-pub subtract-at-is : (f : Frame) (t r : List Float) (which right : Part) (w p c : ℕ) → Laid f (length t) → f .a ≤ from f which
-    → f .rows * w ≤ to f which - from f which
-    → to f right ≤ f .a → f .cleared * w ≤ to f right - from f right → p ≡ from f which → c ≡ from f right
+pub subtract-at-is : (f : Frame) (t r : List Float) (which right : Part) (w p c : ℕ) → FrameLaid f (length t) → f .a ≤ partFrom f which
+    → f .rows * w ≤ partTo f which - partFrom f which
+    → partTo f right ≤ f .a → f .cleared * w ≤ partTo f right - partFrom f right → p ≡ partFrom f which → c ≡ partFrom f right
     → r ≡ subtractedIn (start p (f .rows)) (f .rows) (flip (start (f .g) (f .cleared))) (start c (f .cleared)) (f .cleared) t w
-    → cut f r ≡ change which (λ x. product Subtract (columns (f .rows)) (f .rows) (cut f t .g) (flip (columns (f .cleared))) (pick right (cut f t))
-    (columns (f .cleared)) (f .cleared) x w) (cut f t)
+    → matricesIn f r ≡ change which (λ x. product Subtract (columns (f .rows)) (f .rows) (matricesIn f t .g) (flip (columns (f .cleared)))
+    (pick right (matricesIn f t))
+    (columns (f .cleared)) (f .cleared) x w) (matricesIn f t)
 unfolding product
 subtract-at-is f t r which right w p c l low fit low′ fit′ ep ec er =
     let b = bounds l which in
-    let g : List Float → List Float = λ x. product Subtract (columns (f .rows)) (f .rows) (cut f t .g) (flip (columns (f .cleared)))
-    (pick right (cut f t)) (columns (f .cleared)) (f .cleared) x w in
+    let g : List Float → List Float = λ x. product Subtract (columns (f .rows)) (f .rows) (matricesIn f t .g) (flip (columns (f .cleared)))
+    (pick right (matricesIn f t)) (columns (f .cleared)) (f .cleared) x w in
     rw (
       er,
       ep,
       ec,
-      subtracted-part t (f .g) (f .a) (from f right) (to f right) (from f which) (to f which) (f .rows) (f .cleared) w low (omega arith)
+      subtracted-part t (f .g) (f .a) (partFrom f right) (partTo f right) (partFrom f which) (partTo f which) (f .rows) (f .cleared) w low (omega arith)
           (b .0) (b .1) (omega arith) fit′ fit,
       picked f t right,
     )
-    (cut-splice f t (g (part t (from f which) (to f which))) l which g
-    (block-length (columns (f .rows)) (f .rows) (productEntry Subtract (cut f t .g) (flip (columns (f .cleared))) (pick right (cut f t))
-    (columns (f .cleared)) (f .cleared)) (part t (from f which) (to f which)) w
-    ∙ long f t l which (from f which) (to f which) refl refl)
+    (cut-splice f t (g (part t (partFrom f which) (partTo f which))) l which g
+    (block-length (columns (f .rows)) (f .rows) (productEntry Subtract (matricesIn f t .g) (flip (columns (f .cleared))) (pick right (matricesIn f t))
+    (columns (f .cleared)) (f .cleared)) (part t (partFrom f which) (partTo f which)) w
+    ∙ long f t l which (partFrom f which) (partTo f which) refl refl)
     (ap g (picked f t which)))

@@ -10,25 +10,25 @@ use Rattle.workspace.specs.declared.Part.the-variants.{S, H, G, A, Xi, W
 use Rattle.workspace.specs.declared.Frame.{Frame}
 
 -- where a matrix begins, and where it ends
-abbrev pub from : Frame → Part → ℕ
-from f S = 0
-from f H = f .h
-from f G = f .g
-from f A = f .a
-from f Xi = f .xi
-from f W = f .w
+abbrev pub partFrom : Frame → Part → ℕ
+partFrom f S = 0
+partFrom f H = f .h
+partFrom f G = f .g
+partFrom f A = f .a
+partFrom f Xi = f .xi
+partFrom f W = f .w
 
-abbrev pub to : Frame → Part → ℕ
-to f S = f .h
-to f H = f .g
-to f G = f .a
-to f A = f .xi
-to f Xi = f .w
-to f W = f .end
+abbrev pub partTo : Frame → Part → ℕ
+partTo f S = f .h
+partTo f H = f .g
+partTo f G = f .a
+partTo f A = f .xi
+partTo f Xi = f .w
+partTo f W = f .end
 
 -- the matrices that a store holds
-abbrev pub cut : Frame → List Float → Sums
-cut f t =
+abbrev pub matricesIn : Frame → List Float → Sums
+matricesIn f t =
     record {
       s = part t 0 (f .h);
       h = part t (f .h) (f .g);
@@ -39,7 +39,7 @@ cut f t =
     }
 
 -- the frame fits a store of that length
-pub record Laid (f : Frame) (len : ℕ) : Type 0 where
+pub record FrameLaid (f : Frame) (len : ℕ) : Type 0 where
   pub of-s : f .h ≡ f .cleared * f .cleared
   pub of-h : f .g ≡ f .h + f .cleared
   pub of-g : f .a ≡ f .g + f .cleared * f .rows

@@ -14,8 +14,8 @@ ghost use Rattle.cholesky.specs.Factor.{factor};
 ghost use Rattle.workspace.specs.Blocks.{corner, stampEntry, stamp, solvedColumns, solvedIn, subtractedColumnIn, subtractedIn, zeroed};
 ghost use Rattle.workspace.specs.Sums.{pick, change};
 ghost use Rattle.workspace.specs.Frames.{frameOf};
-ghost use Rattle.cholesky.specs.Answers.{answerOf, listOf};
-ghost use Rattle.workspace.specs.Parts.{Laid, cut, from, to};
+ghost use Rattle.cholesky.specs.Answers.{factoredAs, listOf};
+ghost use Rattle.workspace.specs.Parts.{FrameLaid, matricesIn, partFrom, partTo};
 
 // How many numbers a work store has at least: enough for every frame within the limits.
 pub const WORK: usize = 2304;
@@ -69,7 +69,7 @@ pub fn frame_of(cleared: usize, rows: usize, kept: usize) -> Frame
 
 // Where a matrix begins.
 pub fn begin(f: Frame, which: Part) -> usize
-    ensures { λ r. ⌜ r ≡ from f which ⌝ }
+    ensures { λ r. ⌜ r ≡ partFrom f which ⌝ }
 {
     match which {
         Part::S => 0,
@@ -83,7 +83,7 @@ pub fn begin(f: Frame, which: Part) -> usize
 
 // Where it ends.
 pub fn end(f: Frame, which: Part) -> usize
-    ensures { λ r. ⌜ r ≡ to f which ⌝ }
+    ensures { λ r. ⌜ r ≡ partTo f which ⌝ }
 {
     match which {
         Part::S => f.h,
@@ -203,12 +203,12 @@ pub fn gemm_at(
     bv: View,
     n: usize,
 )
-    requires { ⌜ Laid f (length (now work)) ⌝ }
-    requires { ⌜ Inside cv m w (to f which - from f which) ⌝ }
+    requires { ⌜ FrameLaid f (length (now work)) ⌝ }
+    requires { ⌜ Inside cv m w (partTo f which - partFrom f which) ⌝ }
     requires { ⌜ Inside av m n (length (now a)) ⌝ }
     requires { ⌜ Inside bv n w (length (now b)) ⌝ }
-    ensures { λ _. ⌜ cut f (now (work .exit))
-        ≡ change which (λ c. product how cv m (now (a .entry)) av (now (b .entry)) bv n c w) (cut f (now (work .entry))) ⌝ }
+    ensures { λ _. ⌜ matricesIn f (now (work .exit))
+        ≡ change which (λ c. product how cv m (now (a .entry)) av (now (b .entry)) bv n c w) (matricesIn f (now (work .entry))) ⌝ }
 {
     let p = begin(f, which);
     let q = end(f, which);
@@ -227,10 +227,10 @@ pub fn stamp_at(
     a: &[f64],
     av: View,
 )
-    requires { ⌜ Laid f (length (now work)) ⌝ }
-    requires { ⌜ Inside cv m n (to f which - from f which) ⌝ }
+    requires { ⌜ FrameLaid f (length (now work)) ⌝ }
+    requires { ⌜ Inside cv m n (partTo f which - partFrom f which) ⌝ }
     requires { ⌜ Inside av m n (length (now a)) ⌝ }
-    ensures { λ _. ⌜ cut f (now (work .exit)) ≡ change which (λ c. stamp how cv m (now (a .entry)) av c n) (cut f (now (work .entry))) ⌝ }
+    ensures { λ _. ⌜ matricesIn f (now (work .exit)) ≡ change which (λ c. stamp how cv m (now (a .entry)) av c n) (matricesIn f (now (work .entry))) ⌝ }
 {
     let p = begin(f, which);
     let q = end(f, which);
@@ -239,9 +239,9 @@ pub fn stamp_at(
 
 // Ones go on the diagonal of a block of A.
 pub fn fill_diagonal_at(work: &mut [f64], f: Frame, v: View, n: usize)
-    requires { ⌜ Laid f (length (now work)) ⌝ }
+    requires { ⌜ FrameLaid f (length (now work)) ⌝ }
     requires { ⌜ Inside v n n (f .xi - f .a) ⌝ }
-    ensures { λ _. ⌜ cut f (now (work .exit)) ≡ change Part.A (λ c. filledDiagonal v one c n) (cut f (now (work .entry))) ⌝ }
+    ensures { λ _. ⌜ matricesIn f (now (work .exit)) ≡ change Part.A (λ c. filledDiagonal v one c n) (matricesIn f (now (work .entry))) ⌝ }
 {
     let p = f.a;
     let q = f.xi;
@@ -250,8 +250,8 @@ pub fn fill_diagonal_at(work: &mut [f64], f: Frame, v: View, n: usize)
 
 // The upper triangle of W is filled from the lower.
 pub fn fill_upper_at(work: &mut [f64], f: Frame)
-    requires { ⌜ Laid f (length (now work)) ⌝ }
-    ensures { λ _. ⌜ cut f (now (work .exit)) ≡ change Part.W (λ c. filledUpper (columns (f .rows)) c (f .rows)) (cut f (now (work .entry))) ⌝ }
+    requires { ⌜ FrameLaid f (length (now work)) ⌝ }
+    ensures { λ _. ⌜ matricesIn f (now (work .exit)) ≡ change Part.W (λ c. filledUpper (columns (f .rows)) c (f .rows)) (matricesIn f (now (work .entry))) ⌝ }
 {
     let p = f.w;
     let q = f.end;
@@ -265,10 +265,10 @@ pub fn fill_upper_at(work: &mut [f64], f: Frame)
 
 // S becomes its Cholesky factor L.
 pub fn cholesky_at(work: &mut [f64], f: Frame) -> Factored
-    requires { ⌜ Laid f (length (now work)) ⌝ }
-    ensures { λ r. ⌜ r ≡ answerOf (factor (columns (f .cleared)) (f .cleared) (cut f (now (work .entry)) .s) (f .cleared)) ⌝ }
-    ensures { λ _. ⌜ cut f (now (work .exit))
-        ≡ change Part.S (λ c. listOf (factor (columns (f .cleared)) (f .cleared) c (f .cleared))) (cut f (now (work .entry))) ⌝ }
+    requires { ⌜ FrameLaid f (length (now work)) ⌝ }
+    ensures { λ r. ⌜ r ≡ factoredAs (factor (columns (f .cleared)) (f .cleared) (matricesIn f (now (work .entry)) .s) (f .cleared)) ⌝ }
+    ensures { λ _. ⌜ matricesIn f (now (work .exit))
+        ≡ change Part.S (λ c. listOf (factor (columns (f .cleared)) (f .cleared) c (f .cleared))) (matricesIn f (now (work .entry))) ⌝ }
 {
     let p = 0;
     let q = f.h;
@@ -282,10 +282,10 @@ pub fn cholesky_at(work: &mut [f64], f: Frame) -> Factored
 
 // m columns of h or G are solved with the L that stands in S.
 pub fn solve_at(work: &mut [f64], f: Frame, which: Part, m: usize)
-    requires { ⌜ Laid f (length (now work)) ⌝ }
-    requires { ⌜ (f .h ≤ from f which) × (f .cleared * m ≤ to f which - from f which) ⌝ }
-    ensures { λ _. ⌜ cut f (now (work .exit))
-        ≡ change which (λ c. solvedColumns (cut f (now (work .entry)) .s) (f .cleared) c m) (cut f (now (work .entry))) ⌝ }
+    requires { ⌜ FrameLaid f (length (now work)) ⌝ }
+    requires { ⌜ (f .h ≤ partFrom f which) × (f .cleared * m ≤ partTo f which - partFrom f which) ⌝ }
+    ensures { λ _. ⌜ matricesIn f (now (work .exit))
+        ≡ change which (λ c. solvedColumns (matricesIn f (now (work .entry)) .s) (f .cleared) c m) (matricesIn f (now (work .entry))) ⌝ }
 {
     let p = begin(f, which);
     let l = View {
@@ -303,14 +303,14 @@ pub fn solve_at(work: &mut [f64], f: Frame, which: Part, m: usize)
 
 // w columns of xi or W lose G transposed times h or G.
 pub fn subtract_at(work: &mut [f64], f: Frame, which: Part, right: Part, w: usize)
-    requires { ⌜ Laid f (length (now work)) ⌝ }
-    requires { ⌜ (f .a ≤ from f which) × (f .rows * w ≤ to f which - from f which) ⌝ }
-    requires { ⌜ (to f right ≤ f .a) × (f .cleared * w ≤ to f right - from f right) ⌝ }
-    ensures { λ _. ⌜ cut f (now (work .exit))
+    requires { ⌜ FrameLaid f (length (now work)) ⌝ }
+    requires { ⌜ (f .a ≤ partFrom f which) × (f .rows * w ≤ partTo f which - partFrom f which) ⌝ }
+    requires { ⌜ (partTo f right ≤ f .a) × (f .cleared * w ≤ partTo f right - partFrom f right) ⌝ }
+    ensures { λ _. ⌜ matricesIn f (now (work .exit))
         ≡ change which
-        (λ c. product Update.Subtract (columns (f .rows)) (f .rows) (cut f (now (work .entry)) .g) (flip (columns (f .cleared)))
-        (pick right (cut f (now (work .entry)))) (columns (f .cleared)) (f .cleared) c w)
-        (cut f (now (work .entry))) ⌝ }
+        (λ c. product Update.Subtract (columns (f .rows)) (f .rows) (matricesIn f (now (work .entry)) .g) (flip (columns (f .cleared)))
+        (pick right (matricesIn f (now (work .entry)))) (columns (f .cleared)) (f .cleared) c w)
+        (matricesIn f (now (work .entry))) ⌝ }
 {
     let c = View {
         at: begin(f, which),

@@ -43,22 +43,26 @@ use denote.Triple.Walked.{says, needs, Stays, stay-none, stay-none-slice, walkOf
 use denote.Exit.{yes}
 use denote.Triple.Clauses.{ensured, lasts}
 use Rattle.blocks.specs.Blocks.{blockColumnOf}
+use Rattle.blocks.specs.Reader.{started, passed}
 use Rattle.blocks.specs.declared.Blocks.{Blocks}
 use Rattle.blocks.proofs.Blocks as T
 use Rattle.blocks.proofs.Blocks.Laws as T′
 use Rattle.blocks.proofs.blocks_of as blocks-of
 use Rattle.blocks.proofs.blocks_of.Symbol as blocks-of-def
+use Rattle.blocks.proofs.blocks_of.Symbol.{name as #blocks·blocks-of}
 use Rattle.blocks.proofs.blocks_of.Met as blocks-of-thm
 use Rattle.blocks.proofs.next as next
 use Rattle.blocks.proofs.next.Symbol as next-def
+use Rattle.blocks.proofs.next.Symbol.{name as #blocks·next}
 use Rattle.blocks.proofs.next.Met as next-thm
 use Rattle.blocks.proofs.block as block
 use Rattle.blocks.proofs.block.Symbol as block-def
+use Rattle.blocks.proofs.block.Symbol.{name as #blocks·block}
 use Rattle.blocks.proofs.block.Met as block-thm
+use Rattle.blocks.proofs.block_at.Key.{name as #blocks·block-at}
 use Rattle.blocks.proofs.block_at as block-at
 use Rattle.blocks.proofs.block_at.Statement as stated
 use Rattle.blocks.proofs.block_at.Code as code
-use Rattle.blocks.specs.Reader.{passed, started}
 
 -- ---- the reader past c columns, over plain values
 

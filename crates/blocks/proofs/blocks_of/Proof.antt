@@ -35,12 +35,13 @@ use denote.Triple.Spec.{Meets, tripleOf}
 use denote.Triple.Table.{entered}
 use denote.Triple.Walked.{says, Stays, stay-none-slice, walkOf, goes-none-slice, Walks, ends-at, walked, walk-meets}
 use denote.Exit.{yes}
+use Rattle.blocks.specs.Reader.{started}
 use Rattle.blocks.proofs.Blocks as T
 use Rattle.blocks.proofs.Blocks.Laws as T′
+use Rattle.blocks.proofs.blocks_of.Key.{name as #blocks·blocks-of}
 use Rattle.blocks.proofs.blocks_of as blocks-of
 use Rattle.blocks.proofs.blocks_of.Statement as stated
 use Rattle.blocks.proofs.blocks_of.Code as code
-use Rattle.blocks.specs.Reader.{started}
 
 abbrev stayed : Stays (blocks-of.ended .signature .params) (blocks-of.ended .kept)
 stayed = (stay-none-slice (0 ∷ []) tt (plain (λ _. f64)) yes, tt)

@@ -8,7 +8,7 @@ use borrow.Author.Needs.{needs}
 use mathlib.Core.Logic.{⊎-elim}
 use lib.ListN.{length}
 use Rattle.matrix.specs.Views.{place}
-use Rattle.cholesky.specs.Factor.{whole, column, factor}
+use Rattle.cholesky.specs.Factor.{whole, factorColumn, factor}
 use Rattle.cholesky.specs.declared.Factored.the-variants.{Done}
 use Rattle.cholesky.proofs.Turns.{first-turn, next-turn, no-turn, column-done, all-done}
 use Rattle.cholesky.proofs.cholesky.Statement.{statement}
@@ -16,7 +16,7 @@ use Rattle.cholesky.proofs.cholesky.Tie as tie
 
 abbrev Inv-loop : tie.InvT-loop
 Inv-loop s₀ v n answer₀ j i₀ s answer i =
-    (j ≤ i) × (i ≤ n) × (length s ≡ length s₀) × (answer ≡ answer₀) × (i ≡ j → s ≡ s₀) × (j < i → column v j (i - suc j) (whole s₀) ≡ whole s)
+    (j ≤ i) × (i ≤ n) × (length s ≡ length s₀) × (answer ≡ answer₀) × (i ≡ j → s ≡ s₀) × (j < i → factorColumn v j (i - suc j) (whole s₀) ≡ whole s)
 
 abbrev μ-loop : tie.MeasureT-loop
 μ-loop s₀ v n answer₀ j i₀ s answer i = n - i
@@ -51,7 +51,7 @@ turned : (c : tie.Joined1 Inv-loop μ-loop Inv-columns μ-columns) →
     (let l = c .before .before .before .before .before .before in
     let col = l .before .before in
     (length (c .if1 .s) ≡ length (col .columns .s))
-    × (column (col .before .before .args .v) (col .columns .j) (l .loop .i + 1 - suc (col .columns .j)) (whole (col .columns .s)) ≡ whole (c .if1 .s)))
+    × (factorColumn (col .before .before .args .v) (col .columns .j) (l .loop .i + 1 - suc (col .columns .j)) (whole (col .columns .s)) ≡ whole (c .if1 .s)))
 turned c =
     let l = c .before .before .before .before .before .before .loop in
     let reduced = c .before .before .before .reduced .ensures in

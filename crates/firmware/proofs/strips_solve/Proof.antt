@@ -1,6 +1,6 @@
 -- `firmware::strips_solve` meets its contract: each answer has its number. Assumes nothing.
 use mathlib.Core.Path.{sym, ap, _∙_}
-use Rattle.firmware.specs.Firmware.{answerOf}
+use Rattle.firmware.specs.Firmware.{lengthOf}
 use borrow.Author.Needs.{needs}
 use Rattle.firmware.proofs.strips_solve.Statement.{statement}
 use Rattle.firmware.proofs.strips_solve.Tie as tie
@@ -8,14 +8,14 @@ use Rattle.firmware.proofs.strips_solve.Tie as tie
 returns : tie.Need-returns
 returns c =
     let solve = c .before .before .before .before .before .solve in (
-      sym (ap answerOf (c .before .answer .given .1)) ∙ ap answerOf (solve .ensures .0),
+      sym (ap lengthOf (c .before .answer .given .1)) ∙ ap lengthOf (solve .ensures .0),
       solve .ensures .1,
     )
 
 returns-2 : tie.Need-returns-2
 returns-2 c =
     let solve = c .before .before .before .before .solve in (
-      sym (ap answerOf (c .enum-told .given .1)) ∙ ap answerOf (solve .ensures .0),
+      sym (ap lengthOf (c .enum-told .given .1)) ∙ ap lengthOf (solve .ensures .0),
       solve .ensures .1,
     )
 

@@ -7,7 +7,7 @@ use Rattle.graph.proofs.Validity.{valid-variables}
 use Rattle.graph.specs.declared.Graph.{Graph}
 use lib.ListN.{length}
 use Rattle.text.specs.Decimals.{decimal}
-use Rattle.lines.specs.Lines.{numbersOf, linesLength}
+use Rattle.lines.specs.Lines.{lineNumbers, linesLength}
 use Rattle.lines.proofs.Texts.{length-more}
 use borrow.Author.Needs.{needs}
 use Rattle.lines.proofs.lines_length.Statement.{statement}
@@ -19,7 +19,7 @@ Inv-loop g sum₀ key₀ key-end sum key = (key-end ≡ g .variables) × (key �
 abbrev μ-loop : tie.MeasureT-loop
 μ-loop g sum₀ key₀ key-end sum key = key-end - key
 
-grown : (g : Graph) (key s d n : ℕ) → s ≡ linesLength g key → d ≡ length (decimal key) → n ≡ numbersOf g key → s + (d + 17 * n + 1) ≡ linesLength g (key + 1)
+grown : (g : Graph) (key s d n : ℕ) → s ≡ linesLength g key → d ≡ length (decimal key) → n ≡ lineNumbers g key → s + (d + 17 * n + 1) ≡ linesLength g (key + 1)
 grown g key s d n es ed en = rw (es, ed, en) (sym (length-more g key))
 
 done : (g : Graph) (key s n : ℕ) → key ≡ n → s ≡ linesLength g key → s ≡ linesLength g n

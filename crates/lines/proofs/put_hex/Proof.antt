@@ -4,7 +4,7 @@ use mathlib.Core.Path.{_≡_, refl, sym, ap, _∙_}
 use mathlib.Core.List.{List, _∷_, [], _++_}
 use native.Mathlib.Omega.{arith}
 use lib.ListN.{length, length-set}
-use Rattle.lines.specs.Lines.{Puts, hexBy}
+use Rattle.lines.specs.Lines.{PutsWithin, hexBy}
 use Rattle.lines.proofs.Laying.{puts-begun, puts-next}
 use Rattle.lines.proofs.Texts.{hex-more}
 use borrow.Author.Needs.{needs}
@@ -12,12 +12,12 @@ use Rattle.lines.proofs.put_hex.Statement.{statement}
 use Rattle.lines.proofs.put_hex.Tie as tie
 
 abbrev Inv-loop : tie.InvT-loop
-Inv-loop out₀ at bits i₀ out i = (i ≤ 16) × (length out ≡ length out₀) × Puts out₀ out at (at + i) (hexBy i bits)
+Inv-loop out₀ at bits i₀ out i = (i ≤ 16) × (length out ≡ length out₀) × PutsWithin out₀ out at (at + i) (hexBy i bits)
 
 abbrev μ-loop : tie.MeasureT-loop
 μ-loop out₀ at bits i₀ out i = 16 - i
 
-done : (out₀ out : List ℕ) (at i bits : ℕ) → i ≡ 16 → Puts out₀ out at (at + i) (hexBy i bits) → Puts out₀ out at (at + 16) (hexBy 16 bits)
+done : (out₀ out : List ℕ) (at i bits : ℕ) → i ≡ 16 → PutsWithin out₀ out at (at + i) (hexBy i bits) → PutsWithin out₀ out at (at + 16) (hexBy 16 bits)
 done out₀ out at i bits e p = rw e at p
 
 loop-holds : tie.Need-loop-holds Inv-loop μ-loop

@@ -11,7 +11,7 @@ use Rattle.factor.proofs.Counting.{sum-le}
 use Rattle.graph.specs.declared.Graph.{Graph}
 use Rattle.text.specs.Decimals.{decimal}
 use Rattle.graph.specs.Moments.{startOf}
-use Rattle.lines.specs.Lines.{Puts, numbersOf, linesText, linesLength, lineText}
+use Rattle.lines.specs.Lines.{PutsWithin, lineNumbers, linesText, linesLength, lineText}
 use Rattle.lines.proofs.Laying.{puts-none, puts-both, puts-same}
 use Rattle.graph.proofs.Moments.{start-more}
 use Rattle.lines.proofs.Texts.{length-more, lines-more, lines-long}
@@ -21,7 +21,7 @@ use Rattle.lines.proofs.put_lines.Tie as tie
 
 abbrev Inv-loop : tie.InvT-loop
 Inv-loop out₀ g values next₀ from₀ key₀ key-end out next from key = (key-end ≡ g .variables) × (key ≤ key-end) × (length out ≡ length out₀) ×
-    (from ≡ startOf (g .sizes) key) × Puts out₀ out 0 next (linesText g values key)
+    (from ≡ startOf (g .sizes) key) × PutsWithin out₀ out 0 next (linesText g values key)
 
 abbrev μ-loop : tie.MeasureT-loop
 μ-loop out₀ g values next₀ from₀ key₀ key-end out next from key = key-end - key
@@ -29,16 +29,19 @@ abbrev μ-loop : tie.MeasureT-loop
 -- a key's numbers and line end within those of all keys
 within : (g : Graph) (key n : ℕ) → key < n → (startOf (g .sizes) (key + 1) ≤ startOf (g .sizes) n) × (linesLength g (key + 1) ≤ linesLength g n)
 unfolding startOf linesLength
-within g key n l = (sum-le (λ i. numbersOf g i) (key + 1) n (omega arith), sum-le (λ i. length (decimal i) + 17 * numbersOf g i + 1) (key + 1) n (omega arith))
+within g key n l = (
+  sum-le (λ i. lineNumbers g i) (key + 1) n (omega arith),
+  sum-le (λ i. length (decimal i) + 17 * lineNumbers g i + 1) (key + 1) n (omega arith),
+)
 
-begins : (g : Graph) (key from n : ℕ) → from ≡ startOf (g .sizes) key → n ≡ numbersOf g key → from + n ≡ startOf (g .sizes) (key + 1)
+begins : (g : Graph) (key from n : ℕ) → from ≡ startOf (g .sizes) key → n ≡ lineNumbers g key → from + n ≡ startOf (g .sizes) (key + 1)
 begins g key from n ef en = rw (ef, en) (sym (start-more (g .sizes) key))
 
-grown : (g : Graph) (values : List Float) (key from n : ℕ) → from ≡ startOf (g .sizes) key → n ≡ numbersOf g key
+grown : (g : Graph) (values : List Float) (key from n : ℕ) → from ≡ startOf (g .sizes) key → n ≡ lineNumbers g key
     → linesText g values key ++ lineText key values from n ≡ linesText g values (key + 1)
 grown g values key from n ef en = rw (ef, en) (sym (lines-more g values key))
 
-done : (g : Graph) (values : List Float) (out₀ out : List ℕ) (next key n : ℕ) → key ≡ n → Puts out₀ out 0 next (linesText g values key) → out
+done : (g : Graph) (values : List Float) (out₀ out : List ℕ) (next key n : ℕ) → key ≡ n → PutsWithin out₀ out 0 next (linesText g values key) → out
     ≡ lay out₀ 0 (linesText g values n)
 done g values out₀ out next key n e p = rw e at (p .0)
 

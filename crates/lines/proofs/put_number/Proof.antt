@@ -5,15 +5,15 @@ use mathlib.Core.List.{List, _∷_, []}
 use native.Mathlib.Omega.{arith}
 use lib.Ieee.{Float, binary64, toBits}
 use Rattle.text.specs.Decimals.{space}
-use Rattle.lines.specs.Lines.{hexBy, numberText, Puts}
+use Rattle.lines.specs.Lines.{hexBy, numberText, PutsWithin}
 use Rattle.lines.proofs.Laying.{puts-both}
 use Rattle.lines.proofs.Fitting.{fits}
 use borrow.Author.Needs.{needs}
 use Rattle.lines.proofs.put_number.Statement.{statement}
 use Rattle.lines.proofs.put_number.Tie as tie
 
-of-bits : (out after : List ℕ) (at next : ℕ) (x : Float) (bits : ℕ) → bits ≡ toBits binary64 x → Puts out after at next (space ∷ hexBy 16 bits)
-    → Puts out after at next (numberText x)
+of-bits : (out after : List ℕ) (at next : ℕ) (x : Float) (bits : ℕ) → bits ≡ toBits binary64 x → PutsWithin out after at next (space ∷ hexBy 16 bits)
+    → PutsWithin out after at next (numberText x)
 unfolding numberText
 of-bits out after at next x bits e p = rw e at p
 

@@ -5,7 +5,7 @@ use mathlib.Core.List.{List}
 use native.Mathlib.Omega.{arith}
 use lib.Ieee.{Float, nan}
 use lib.ListN.{length, getD}
-use Rattle.lines.specs.Lines.{Puts, numbersText}
+use Rattle.lines.specs.Lines.{PutsWithin, numbersText}
 use Rattle.lines.proofs.Laying.{puts-none, puts-both, puts-same}
 use Rattle.lines.proofs.Texts.{numbers-more, number-length}
 use borrow.Author.Needs.{needs}
@@ -13,14 +13,14 @@ use Rattle.lines.proofs.put_numbers.Statement.{statement}
 use Rattle.lines.proofs.put_numbers.Tie as tie
 
 abbrev Inv-loop : tie.InvT-loop
-Inv-loop out₀ at values from n next₀ i₀ out next i = (i ≤ n) × (length out ≡ length out₀) × (next ≡ at + 17 * i) × Puts out₀ out at next
+Inv-loop out₀ at values from n next₀ i₀ out next i = (i ≤ n) × (length out ≡ length out₀) × (next ≡ at + 17 * i) × PutsWithin out₀ out at next
     (numbersText values from i)
 
 abbrev μ-loop : tie.MeasureT-loop
 μ-loop out₀ at values from n next₀ i₀ out next i = n - i
 
-done : (out₀ out : List ℕ) (at next : ℕ) (values : List Float) (from i n : ℕ) → i ≡ n → Puts out₀ out at next (numbersText values from i)
-    → Puts out₀ out at next (numbersText values from n)
+done : (out₀ out : List ℕ) (at next : ℕ) (values : List Float) (from i n : ℕ) → i ≡ n → PutsWithin out₀ out at next (numbersText values from i)
+    → PutsWithin out₀ out at next (numbersText values from n)
 done out₀ out at next values from i n e p = rw e at p
 
 loop-holds : tie.Need-loop-holds Inv-loop μ-loop

@@ -35,7 +35,7 @@ unfolding spec.messageTable
 returns c =
     let args = c .before .before .args in
     let loop = c .before .loop in
-    loop .inv .1 ∙ map-done messageOf (messagesOf (args .p)) spec.noMessage max-variables (loop .j) (omega (arith, messages-length (args .p)))
+    loop .inv .1 ∙ map-done messageOf (messagesOf (args .p)) spec.blankMessage max-variables (loop .j) (omega (arith, messages-length (args .p)))
 
 pub message-table-spec : {M : Type 1} → statement M
 message-table-spec =

@@ -5,7 +5,7 @@ use mathlib.Core.List.{List}
 use native.Mathlib.Omega.{arith}
 use lib.ListN.{take, drop}
 use Rattle.schedule.specs.Count.{joined}
-use Rattle.plan.specs.Pass.{slotOf}
+use Rattle.plan.specs.Pass.{passSlot}
 use Rattle.text.specs.Putting.{Puts}
 use Rattle.plan_text.specs.Text.{slotText, contentText}
 use Rattle.text.proofs.Putting.{none, both, same, long}
@@ -15,7 +15,7 @@ use Rattle.plan_text.proofs.put_content.Statement.{statement}
 use Rattle.plan_text.proofs.put_content.Tie as tie
 
 abbrev text : ℕ → List ℕ
-text s = slotText (slotOf s)
+text s = slotText (passSlot s)
 
 abbrev Inv-loop : tie.InvT-loop
 Inv-loop out₀ at from end content to₀ i₀ out to i = (from ≤ i) × (i ≤ end) × Puts out₀ out to₀ to (joined text (drop from (take i content)))
@@ -50,7 +50,7 @@ returns c =
     let e : loop .i ≡ args .end = omega arith in
     both (c .before .before .before .before .put-word .ensures) (same
     (ap (λ (i : ℕ). joined text (drop (args .from) (take i (args .t3)))) e
-    ∙ joined-map slotText slotOf (drop (args .from) (take (args .end) (args .t3)))) (loop .inv .2))
+    ∙ joined-map slotText passSlot (drop (args .from) (take (args .end) (args .t3)))) (loop .inv .2))
 
 pub put-content-spec : {M : Type 1} → statement M
 put-content-spec =

@@ -8,7 +8,7 @@ use lib.Seq.{getD-drop}
 use Rattle.factor.specs.Limits.{max-factors}
 use Rattle.text.specs.Decimals.{feed}
 use Rattle.plan.specs.Mask.{keysIn}
-use Rattle.plan.specs.Pass.{slotOf, msgAt}
+use Rattle.plan.specs.Pass.{passSlot, msgAt}
 use Rattle.plan.specs.declared.pass.Pass.{Pass}
 use Rattle.plan_text.specs.Text.{stepWord, keptWord, clearedWord, namedText, listText, contentText, messageText}
 use Rattle.text.proofs.Putting.{both, same}
@@ -18,7 +18,7 @@ use Rattle.plan_text.proofs.put_message.Tie as tie
 
 -- the parts of the line are those of the definition
 line : (name : List ℕ) (p : Pass) (j : ℕ) → namedText name j ++ namedText stepWord (getD (p .steps) j 0)
-    ++ contentText (map slotOf (drop (getD (p .starts) j 0) (take (getD (p .ends) j 0) (p .board .content))))
+    ++ contentText (map passSlot (drop (getD (p .starts) j 0) (take (getD (p .ends) j 0) (p .board .content))))
     ++ listText keptWord (keysIn (getD (p .masks) (max-factors + j) 0)) ++ listText clearedWord (keysIn (getD (p .cleared) j 0)) ++ (feed ∷ [])
     ≡ messageText name j (msgAt p j)
 unfolding messageText msgAt

@@ -1,6 +1,6 @@
 -- `plan_text::put_plan` meets its contract: the forward lines, the backward lines, and the lines of the keys. Assumes nothing.
 use Rattle.factor.specs.Limits.{max-variables}
-use Rattle.plan.specs.Plan.{planOf}
+use Rattle.plan.specs.Plan.{planIn}
 use Rattle.plan.proofs.Stepping.{ready-later}
 use Rattle.plan_text.specs.Text.{planText}
 use Rattle.text.proofs.Putting.{both}
@@ -23,7 +23,7 @@ put-pass-requires-2 c κs =
     ready-later (args .n) max-variables (args .plan .backward) (args .plan .backward .active) (pre .0) (pre .1 .backward)
 
 returns : tie.Need-returns
-unfolding planText planOf
+unfolding planText planIn
 returns c =
     let forward = c .before .before .before .before .before .before .before .before .before .before .before .put-pass .ensures in
     let backward = c .before .before .before .before .before .before .put-pass2 .ensures in

@@ -3,7 +3,7 @@ use Prim.Native.Nat.{ℕ, _-_, _≤_}
 use mathlib.Core.Path.{_≡_, sym, ap}
 use native.Mathlib.Omega.{arith}
 use Rattle.factor.specs.Limits.{max-variables}
-use Rattle.schedule.specs.Count.{joined, rising}
+use Rattle.schedule.specs.Count.{joined, risingWhere}
 use Rattle.plan.specs.Mask.{has, keysIn}
 use Rattle.plan.proofs.Unions.{joined-zero}
 use Rattle.text.specs.Decimals.{fieldText}
@@ -16,7 +16,7 @@ use Rattle.plan_text.proofs.put_set.Statement.{statement}
 use Rattle.plan_text.proofs.put_set.Tie as tie
 
 abbrev Inv-loop : tie.InvT-loop
-Inv-loop out₀ at name set to₀ k₀ out to k = (k ≤ max-variables) × Puts out₀ out to₀ to (joined fieldText (rising k (λ i. has i set)))
+Inv-loop out₀ at name set to₀ k₀ out to k = (k ≤ max-variables) × Puts out₀ out to₀ to (joined fieldText (risingWhere k (λ i. has i set)))
 
 abbrev μ-loop : tie.MeasureT-loop
 μ-loop out₀ at name set to₀ k₀ out to k = max-variables - k
@@ -39,7 +39,8 @@ returns c =
     let args = c .before .before .before .before .before .before .before .before .args in
     let loop = c .before .loop in
     let e : loop .k ≡ max-variables = omega arith in
-    both (c .before .before .before .before .put-word .ensures) (same (ap (λ (k : ℕ). joined fieldText (rising k (λ i. has i (args .set)))) e) (loop .inv .1))
+    both (c .before .before .before .before .put-word .ensures) (same (ap (λ (k : ℕ). joined fieldText (risingWhere k (λ i. has i (args .set)))) e)
+    (loop .inv .1))
 
 pub put-set-spec : {M : Type 1} → statement M
 put-set-spec =

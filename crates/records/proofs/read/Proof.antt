@@ -12,9 +12,9 @@ use Rattle.graph.specs.Record.{fresh, valid}
 use Rattle.graph.specs.Reached.{Reached}
 use Rattle.graph.specs.declared.Graph.{Graph}
 use Rattle.records.specs.Records.{Request, recordAt, stepOf, Reading, reading, readFrom, readAll}
-use Rattle.records.specs.Told.{endedTold}
+use Rattle.records.specs.Told.{readTold}
 use Rattle.records.specs.declared.answer.Ended.{Ended}
-use Rattle.records.specs.declared.answer.Ended.the-variants.{Whole}
+use Rattle.records.specs.declared.answer.Ended.the-variants.{Done}
 use Rattle.records.specs.declared.answer.Read.{Read}
 use Rattle.records.specs.declared.answer.Step.{Step}
 use Rattle.graph.proofs.Calls.{fresh-reached}
@@ -48,13 +48,13 @@ valid-step g q step e r = good-of (step .graph) (reached-step g q step e r) .1
 -- the two ways out
 turned-back : (all : Reading) (g : Graph) (ended : Ended) (s : List Float) → all ≡ reading g ended s → valid g ≡ true
     → (_≡_ {A = Read} (record { graph = g; ended = ended }) (all .answer) × (valid g ≡ true)) ×
-    ((s ≡ all .store) × (endedTold ended ≡ endedTold (all .answer .ended)))
+    ((s ≡ all .store) × (readTold ended ≡ readTold (all .answer .ended)))
 turned-back all g ended s e v = rw e ((refl, v), (refl, refl))
 
-taken-whole : (all : Reading) (g : Graph) (s : List Float) → all ≡ reading g Whole s → valid g ≡ true
-    → (_≡_ {A = Read} (record { graph = g; ended = Whole }) (all .answer) × (valid g ≡ true)) ×
-    ((s ≡ all .store) × (endedTold Whole ≡ endedTold (all .answer .ended)))
-taken-whole all g s e v = turned-back all g Whole s e v
+taken-whole : (all : Reading) (g : Graph) (s : List Float) → all ≡ reading g Done s → valid g ≡ true
+    → (_≡_ {A = Read} (record { graph = g; ended = Done }) (all .answer) × (valid g ≡ true)) ×
+    ((s ≡ all .store) × (readTold Done ≡ readTold (all .answer .ended)))
+taken-whole all g s e v = turned-back all g Done s e v
 
 loop-holds : tie.Need-loop-holds Inv-loop μ-loop
 loop-holds c =

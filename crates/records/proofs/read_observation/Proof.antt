@@ -11,7 +11,7 @@ use Rattle.factor.proofs.Counting.{tells}
 use Rattle.graph.specs.Registration.{countsFit}
 use Rattle.graph.specs.declared.Graph.{Graph}
 use Rattle.graph.specs.declared.refusal.Refusal.the-variants.{BadRecord, CountOutside}
-use Rattle.records.specs.Bytes.{byteAt, cut, keysAt}
+use Rattle.records.specs.Bytes.{byteAt, cut, keysRead}
 use Rattle.records.specs.Records.{refuse, meaning, flagKnown, observed, observationAt}
 use Rattle.records.specs.declared.kinds.Flag.{Flag}
 use Rattle.graph.proofs.Checking.{few-keys}
@@ -21,7 +21,7 @@ use borrow.Author.Needs.{needs}
 use Rattle.records.proofs.read_observation.Statement.{statement}
 use Rattle.records.proofs.read_observation.Tie as tie
 
-counted : (bytes : List ℕ) (at count rows : ℕ) (keys : List ℕ) → keys ≡ keysAt bytes at count → countsFit count rows ≡ true
+counted : (bytes : List ℕ) (at count rows : ℕ) (keys : List ℕ) → keys ≡ keysRead bytes at count → countsFit count rows ≡ true
     → countsFit (length keys) rows ≡ true
 counted bytes at count rows keys e h = rw (e, listed-length (λ i. byteAt bytes (at + i)) count) h
 
@@ -49,7 +49,7 @@ module _ (g : Graph) (store : List Float) (bytes : List ℕ) (at : ℕ) where
         unfolding observationAt
         keys-cut h8 = rw (h, ← ef, hf, ← ec, ← er, h4, h8)
 
-        from-keys : cut bytes (at + 3) count ≡ false → (keys : List ℕ) → keys ≡ keysAt bytes (at + 3) count → observationAt g store bytes at
+        from-keys : cut bytes (at + 3) count ≡ false → (keys : List ℕ) → keys ≡ keysRead bytes (at + 3) count → observationAt g store bytes at
             ≡ observed g store bytes keys rows flag (at + 3 + count)
         unfolding observationAt
         from-keys h8 keys ek = rw (h, ← ef, hf, ← ec, ← er, h4, h8, ← ek)

@@ -16,7 +16,7 @@ use Rattle.graph.specs.declared.Added.{Added}
 use Rattle.graph.specs.declared.refusal.Refusal.the-variants.{BadRecord}
 use Rattle.cholesky.proofs.Identity.{identity-length}
 use Rattle.records.specs.Bytes.{cut, numberAt, numbersAt}
-use Rattle.records.specs.Records.{refuse, flagKnown, given, varianceAt, observedNumbers, wentTo}
+use Rattle.records.specs.Records.{refuse, flagKnown, givenNumbers, varianceRead, observedNumbers, wentTo}
 use Rattle.records.specs.declared.answer.Step.{Step}
 use Rattle.records.specs.declared.kinds.Flag.{Flag}
 use Rattle.records.specs.declared.kinds.Flag.the-variants.{Identity, Given, Unknown}
@@ -26,28 +26,28 @@ use borrow.Author.Needs.{needs}
 use Rattle.records.proofs.read_observed_numbers.Statement.{statement}
 use Rattle.records.proofs.read_observed_numbers.Tie as tie
 
-variance-long : (flag : Flag) (bytes : List ℕ) (at rows : ℕ) → flagKnown flag ≡ true → length (varianceAt flag bytes at rows) ≡ rows * rows
+variance-long : (flag : Flag) (bytes : List ℕ) (at rows : ℕ) → flagKnown flag ≡ true → length (varianceRead flag bytes at rows) ≡ rows * rows
 variance-long Identity bytes at rows h = identity-length rows
 variance-long Given bytes at rows h = listed-length (λ i. numberAt bytes (at + 8 * i)) (rows * rows)
 variance-long Unknown bytes at rows h = cc
 
 variance-front : (flag : Flag) (bytes : List ℕ) (at rows : ℕ) (out rest : List Float) → flagKnown flag ≡ true → out
-    ≡ varianceAt flag bytes at rows ++ rest → take (rows * rows - 0) (drop 0 out) ≡ varianceAt flag bytes at rows
+    ≡ varianceRead flag bytes at rows ++ rest → take (rows * rows - 0) (drop 0 out) ≡ varianceRead flag bytes at rows
 variance-front flag bytes at rows out rest h e =
     let z : rows * rows - 0 ≡ rows * rows = omega arith in
-    rw (z, e) (take-at (varianceAt flag bytes at rows) rest (rows * rows) (variance-long flag bytes at rows h))
+    rw (z, e) (take-at (varianceRead flag bytes at rows) rest (rows * rows) (variance-long flag bytes at rows h))
 
 -- all numbers are there
 of-all : (bytes : List ℕ) (at m v w : ℕ) (b : Bool) → v ≡ w → b ≡ cut bytes at (8 * (m + v)) → b ≡ false → at + 8 * (m + w) ≤ length bytes
 of-all bytes at m v w b ev eb h = let l : at + 8 * (m + v) ≤ length bytes = ltb-false _ _ (tells eb h) in rw ev at l
 
-module _ (g : Graph) (store : List Float) (bytes keys : List ℕ) (rows : ℕ) (flag : Flag) (n at v : ℕ) (ev : v ≡ given flag rows) where
+module _ (g : Graph) (store : List Float) (bytes keys : List ℕ) (rows : ℕ) (flag : Flag) (n at v : ℕ) (ev : v ≡ givenNumbers flag rows) where
   cut-short : cut bytes at (8 * (n + rows + v)) ≡ true → observedNumbers store bytes keys rows flag n at ≡ refuse BadRecord
   unfolding observedNumbers
   cut-short h = rw (← ev, h)
 
   taken : cut bytes at (8 * (n + rows + v)) ≡ false → (a mean variance : List Float) (added : Added) (r : Step) (t : List Float) → a
-      ≡ numbersAt bytes at n → mean ≡ numbersAt bytes (at + 8 * n) rows → variance ≡ varianceAt flag bytes (at + 8 * (n + rows)) rows
+      ≡ numbersAt bytes at n → mean ≡ numbersAt bytes (at + 8 * n) rows → variance ≡ varianceRead flag bytes (at + 8 * (n + rows)) rows
       → added ≡ addObservation g keys rows a mean variance store → r ≡ wentTo added (at + 8 * (n + rows + v)) → t
       ≡ observationStore g keys rows a mean variance store → Meets g store (observedNumbers store bytes keys rows flag n at) r t
   unfolding observedNumbers
@@ -86,7 +86,7 @@ add-end c =
       mul-le-mul (pre .1 .1) (pre .1 .1),
       the-given .ensures .0,
       the-given .ensures .1,
-      of-all (args .bytes .now) (args .at) (args .n + args .rows) (the-given .result) (given (args .flag) (args .rows)) (c .before .cut .result)
+      of-all (args .bytes .now) (args .at) (args .n + args .rows) (the-given .result) (givenNumbers (args .flag) (args .rows)) (c .before .cut .result)
           (the-given .ensures .0) (c .before .cut .ensures) (c .if1 .left),
     )
 
@@ -102,7 +102,7 @@ numbers-requires c κs =
       mul-le-mul (pre .1 .1) (pre .1 .1),
       the-given .ensures .0,
       the-given .ensures .1,
-      of-all (args .bytes .now) (args .at) (args .n + args .rows) (the-given .result) (given (args .flag) (args .rows)) (the-cut .result)
+      of-all (args .bytes .now) (args .at) (args .n + args .rows) (the-given .result) (givenNumbers (args .flag) (args .rows)) (the-cut .result)
           (the-given .ensures .0) (the-cut .ensures) (c .before .if1 .left),
     )
 
@@ -118,7 +118,7 @@ mul-numbers c =
       mul-le-mul (pre .1 .1) (pre .1 .1),
       the-given .ensures .0,
       the-given .ensures .1,
-      of-all (args .bytes .now) (args .at) (args .n + args .rows) (the-given .result) (given (args .flag) (args .rows)) (the-cut .result)
+      of-all (args .bytes .now) (args .at) (args .n + args .rows) (the-given .result) (givenNumbers (args .flag) (args .rows)) (the-cut .result)
           (the-given .ensures .0) (the-cut .ensures) (c .before .before .before .if1 .left),
     )
 
@@ -134,7 +134,7 @@ add-numbers c =
       mul-le-mul (pre .1 .1) (pre .1 .1),
       the-given .ensures .0,
       the-given .ensures .1,
-      of-all (args .bytes .now) (args .at) (args .n + args .rows) (the-given .result) (given (args .flag) (args .rows)) (the-cut .result)
+      of-all (args .bytes .now) (args .at) (args .n + args .rows) (the-given .result) (givenNumbers (args .flag) (args .rows)) (the-cut .result)
           (the-given .ensures .0) (the-cut .ensures) (c .before .before .before .if1 .left),
     )
 
@@ -150,7 +150,7 @@ numbers-requires-2 c κs =
       mul-le-mul (pre .1 .1) (pre .1 .1),
       the-given .ensures .0,
       the-given .ensures .1,
-      of-all (args .bytes .now) (args .at) (args .n + args .rows) (the-given .result) (given (args .flag) (args .rows)) (the-cut .result)
+      of-all (args .bytes .now) (args .at) (args .n + args .rows) (the-given .result) (givenNumbers (args .flag) (args .rows)) (the-cut .result)
           (the-given .ensures .0) (the-cut .ensures) (c .before .before .before .before .if1 .left),
     )
 
@@ -166,7 +166,7 @@ add-read-variance c =
       mul-le-mul (pre .1 .1) (pre .1 .1),
       the-given .ensures .0,
       the-given .ensures .1,
-      of-all (args .bytes .now) (args .at) (args .n + args .rows) (the-given .result) (given (args .flag) (args .rows)) (the-cut .result)
+      of-all (args .bytes .now) (args .at) (args .n + args .rows) (the-given .result) (givenNumbers (args .flag) (args .rows)) (the-cut .result)
           (the-given .ensures .0) (the-cut .ensures) (c .before .before .before .before .before .before .if1 .left),
     )
 
@@ -182,7 +182,7 @@ mul-read-variance c =
       mul-le-mul (pre .1 .1) (pre .1 .1),
       the-given .ensures .0,
       the-given .ensures .1,
-      of-all (args .bytes .now) (args .at) (args .n + args .rows) (the-given .result) (given (args .flag) (args .rows)) (the-cut .result)
+      of-all (args .bytes .now) (args .at) (args .n + args .rows) (the-given .result) (givenNumbers (args .flag) (args .rows)) (the-cut .result)
           (the-given .ensures .0) (the-cut .ensures) (c .before .before .before .before .before .before .if1 .left),
     )
 
@@ -198,7 +198,7 @@ add-read-variance-2 c =
       mul-le-mul (pre .1 .1) (pre .1 .1),
       the-given .ensures .0,
       the-given .ensures .1,
-      of-all (args .bytes .now) (args .at) (args .n + args .rows) (the-given .result) (given (args .flag) (args .rows)) (the-cut .result)
+      of-all (args .bytes .now) (args .at) (args .n + args .rows) (the-given .result) (givenNumbers (args .flag) (args .rows)) (the-cut .result)
           (the-given .ensures .0) (the-cut .ensures) (c .before .before .before .before .before .before .if1 .left),
     )
 
@@ -212,7 +212,7 @@ read-variance-requires c κs =
       (
         omega (
           arith,
-          of-all (args .bytes .now) (args .at) (args .n + args .rows) (the-given .result) (given (args .flag) (args .rows))
+          of-all (args .bytes .now) (args .at) (args .n + args .rows) (the-given .result) (givenNumbers (args .flag) (args .rows))
               (the-cut .result) (the-given .ensures .0) (the-cut .ensures) (c .before .before .before .before .before .before .before .if1 .left),
         ),
         pre .0 .1,

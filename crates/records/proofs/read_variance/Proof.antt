@@ -9,25 +9,25 @@ use lib.Ieee.{Float}
 use lib.ListN.{drop}
 use Rattle.matrix.specs.Triangles.{identityOf}
 use Rattle.records.specs.Bytes.{numbersAt}
-use Rattle.records.specs.Records.{flagKnown, given, varianceAt}
+use Rattle.records.specs.Records.{flagKnown, givenNumbers, varianceRead}
 use Rattle.records.specs.declared.kinds.Flag.{Flag}
 use Rattle.records.specs.declared.kinds.Flag.the-variants.{Identity, Given, Unknown}
 use borrow.Author.Needs.{needs}
 use Rattle.records.proofs.read_variance.Statement.{statement}
 use Rattle.records.proofs.read_variance.Tie as tie
 
-has-room : (flag : Flag) (rows at len : ℕ) → flag ≡ Given → at + 8 * given flag rows ≤ len → at + 8 * (rows * rows) ≤ len
+has-room : (flag : Flag) (rows at len : ℕ) → flag ≡ Given → at + 8 * givenNumbers flag rows ≤ len → at + 8 * (rows * rows) ≤ len
 has-room flag rows at len e h = rw e at h
 
 module _ (flag : Flag) (bytes : List ℕ) (at rows : ℕ) (out t : List Float) where
-  of-identity : flag ≡ Identity → t ≡ identityOf rows ++ drop (rows * rows) out → t ≡ varianceAt flag bytes at rows ++ drop (rows * rows) out
+  of-identity : flag ≡ Identity → t ≡ identityOf rows ++ drop (rows * rows) out → t ≡ varianceRead flag bytes at rows ++ drop (rows * rows) out
   of-identity e h = rw e h
 
-  of-given : flag ≡ Given → t ≡ numbersAt bytes at (rows * rows) ++ drop (rows * rows) out → t ≡ varianceAt flag bytes at rows ++ drop (rows * rows) out
+  of-given : flag ≡ Given → t ≡ numbersAt bytes at (rows * rows) ++ drop (rows * rows) out → t ≡ varianceRead flag bytes at rows ++ drop (rows * rows) out
   of-given e h = rw e h
 
   -- no record comes so far with an unknown flag
-  of-none : flag ≡ Unknown → flagKnown flag ≡ true → t ≡ varianceAt flag bytes at rows ++ drop (rows * rows) out
+  of-none : flag ≡ Unknown → flagKnown flag ≡ true → t ≡ varianceRead flag bytes at rows ++ drop (rows * rows) out
   of-none e h = let k : false ≡ true = rw e at h in cc
 
 mul-numbers : tie.Need-mul-numbers

@@ -3,7 +3,7 @@ use Prim.Native.Nat.{ℕ, _+_}
 use mathlib.Core.Path.{ap, _∙_}
 use native.Mathlib.Omega.{arith}
 use borrow.Author.Needs.{needs}
-use Rattle.slots.specs.Tables.{storeOf, keysAt}
+use Rattle.slots.specs.Tables.{slotStore, headKeys}
 use Rattle.slots.proofs.OneFactor.{offsets}
 use Rattle.slots.proofs.Reading.{refit, rows-is, prior-key, view-read, rows-bound}
 use Rattle.slots.proofs.add_slot.Statement.{statement}
@@ -42,7 +42,7 @@ add-view-requires c κs =
     let args = entry .args in
     let pre = entry .pre in (
       pre .0,
-      refit (storeOf (args .h .slot) (args .factors .now) (args .messages .now)) _ (args .h .at) (c .before .before .numbers .ensures)
+      refit (slotStore (args .h .slot) (args .factors .now) (args .messages .now)) _ (args .h .at) (c .before .before .numbers .ensures)
           (pre .1 .stored) (pre .1 .fitted),
     )
 
@@ -64,7 +64,7 @@ returns c =
     .before .before .before in
     let args = entry .args in (
       ap (λ (k : ℕ). args .row + k) (c .rows-of .ensures ∙ rows-is (entry .pre .1)),
-      view-read (args .branch) (args .f) (args .layout) (args .row) (args .h .prior) (keysAt (args .keys .now) (args .h)) (args .h .rows)
+      view-read (args .branch) (args .f) (args .layout) (args .row) (args .h .prior) (headKeys (args .keys .now) (args .h)) (args .h .rows)
           (args .h .width) _ _ _ _ (c .before .before .before .before .before .before .before .before .numbers .ensures)
           (c .before .before .before .before .before .add-view .ensures),
     )

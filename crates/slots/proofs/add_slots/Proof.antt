@@ -11,13 +11,13 @@ use Rattle.slots.specs.Tables.{viewAt}
 use Rattle.slots.proofs.Reading.{re-ready, rows-more, views-more}
 use Rattle.slots.proofs.add_slots.Statement.{statement}
 use Rattle.slots.proofs.add_slots.Tie as tie
-use Rattle.workspace.specs.Parts.{cut}
+use Rattle.workspace.specs.Parts.{matricesIn}
 
 abbrev Inv-loop : tie.InvT-loop
 Inv-loop work₀ t₀ f branch layout factors messages keys heads slots row₀ i₀ i-end work t row i =
     (i ≤ i-end) × (i-end ≡ length slots) × (length work ≡ length work₀) × (length t ≡ length t₀) ×
     (row ≡ rowsOfAll layout (viewAt factors messages keys heads slots) i)
-    × (cut f work ≡ withViews branch f layout (viewAt factors messages keys heads slots) (cut f work₀) i)
+    × (matricesIn f work ≡ withViews branch f layout (viewAt factors messages keys heads slots) (matricesIn f work₀) i)
 
 abbrev μ-loop : tie.MeasureT-loop
 μ-loop work₀ t₀ f branch layout factors messages keys heads slots row₀ i₀ i-end work t row i = i-end - i

@@ -1,4 +1,5 @@
--- `solver::arrange` meets its contract: the factors of a valid graph are what a plan asks for (`proofs/Tables.antt`), and rising lists are an order. Assumes nothing.
+-- `solver::arrange` meets its contract: the factors of a valid graph are what a plan asks for (`proofs/Tables.antt`), and rising lists are an order.
+-- Assumes nothing.
 use mathlib.Core.Path.{_∙_}
 use native.Mathlib.Omega.{arith}
 use borrow.Author.Needs.{needs}
@@ -35,7 +36,8 @@ plan-of-requires-2 c κs =
 returns-2 : tie.Need-returns-2
 returns-2 c =
     let v = tells (c .before .before .valid .ensures .0) (not-false _ (c .before .if1 .left)) in (
-      made _ _ v (c .plan-of2 .ensures .0 ∙ graph-plan _ _ _ v (c .before .before .before .before .before .before .before .rise .ensures) (c .before .before .before .before .rise2 .ensures)),
+      made _ _ v (c .plan-of2 .ensures .0 ∙ graph-plan _ _ _ v (c .before .before .before .before .before .before .before .rise .ensures)
+          (c .before .before .before .before .rise2 .ensures)),
       (valid-variables _ v, c .plan-of2 .ensures .1),
     )
 

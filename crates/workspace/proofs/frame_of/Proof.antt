@@ -1,4 +1,5 @@
 -- `workspace::frame_of` meets its contract: each sum of products is small, and the offsets are the definition's. Assumes nothing.
+use Prim.Native.Nat.{_*_, _≤_}
 use mathlib.Core.Path.{refl}
 use native.Mathlib.Omega.{arith}
 use native.Mathlib.Nat.{mul-le-mul}
@@ -6,86 +7,10 @@ use Rattle.workspace.specs.Frames.{frameOf}
 use Rattle.workspace.proofs.frame_of.Statement.{statement}
 use Rattle.workspace.proofs.frame_of.Tie as tie
 
-mul-h : tie.Need-mul-h
-mul-h c = omega (
-  arith,
-  mul-le-mul (c .pre .0) (c .pre .0),
-  mul-le-mul (c .pre .0) (c .pre .1),
-  mul-le-mul (c .pre .1) (c .pre .2),
-  mul-le-mul (c .pre .1) (c .pre .1),
-)
-
-add-g : tie.Need-add-g
-add-g c = omega (
-  arith,
-  mul-le-mul (c .pre .0) (c .pre .0),
-  mul-le-mul (c .pre .0) (c .pre .1),
-  mul-le-mul (c .pre .1) (c .pre .2),
-  mul-le-mul (c .pre .1) (c .pre .1),
-)
-
-mul-a : tie.Need-mul-a
-mul-a c = omega (
-  arith,
-  mul-le-mul (c .pre .0) (c .pre .0),
-  mul-le-mul (c .pre .0) (c .pre .1),
-  mul-le-mul (c .pre .1) (c .pre .2),
-  mul-le-mul (c .pre .1) (c .pre .1),
-)
-
-add-a : tie.Need-add-a
-add-a c = omega (
-  arith,
-  mul-le-mul (c .pre .0) (c .pre .0),
-  mul-le-mul (c .pre .0) (c .pre .1),
-  mul-le-mul (c .pre .1) (c .pre .2),
-  mul-le-mul (c .pre .1) (c .pre .1),
-)
-
-mul-xi : tie.Need-mul-xi
-mul-xi c = omega (
-  arith,
-  mul-le-mul (c .pre .0) (c .pre .0),
-  mul-le-mul (c .pre .0) (c .pre .1),
-  mul-le-mul (c .pre .1) (c .pre .2),
-  mul-le-mul (c .pre .1) (c .pre .1),
-)
-
-add-xi : tie.Need-add-xi
-add-xi c = omega (
-  arith,
-  mul-le-mul (c .pre .0) (c .pre .0),
-  mul-le-mul (c .pre .0) (c .pre .1),
-  mul-le-mul (c .pre .1) (c .pre .2),
-  mul-le-mul (c .pre .1) (c .pre .1),
-)
-
-add-w : tie.Need-add-w
-add-w c = omega (
-  arith,
-  mul-le-mul (c .pre .0) (c .pre .0),
-  mul-le-mul (c .pre .0) (c .pre .1),
-  mul-le-mul (c .pre .1) (c .pre .2),
-  mul-le-mul (c .pre .1) (c .pre .1),
-)
-
-mul-t9 : tie.Need-mul-t9
-mul-t9 c = omega (
-  arith,
-  mul-le-mul (c .pre .0) (c .pre .0),
-  mul-le-mul (c .pre .0) (c .pre .1),
-  mul-le-mul (c .pre .1) (c .pre .2),
-  mul-le-mul (c .pre .1) (c .pre .1),
-)
-
-add-t10 : tie.Need-add-t10
-add-t10 c = omega (
-  arith,
-  mul-le-mul (c .pre .0) (c .pre .0),
-  mul-le-mul (c .pre .0) (c .pre .1),
-  mul-le-mul (c .pre .1) (c .pre .2),
-  mul-le-mul (c .pre .1) (c .pre .1),
-)
+-- the products that the offsets are made of
+small : (c : tie.Start) → (c .args .cleared * c .args .cleared ≤ 1024) × (c .args .cleared * c .args .rows ≤ 1024)
+    × (c .args .rows * c .args .kept ≤ 1024) × (c .args .rows * c .args .rows ≤ 1024)
+small c = (mul-le-mul (c .pre .0) (c .pre .0), mul-le-mul (c .pre .0) (c .pre .1), mul-le-mul (c .pre .1) (c .pre .2), mul-le-mul (c .pre .1) (c .pre .1))
 
 returns : tie.Need-returns
 unfolding frameOf
@@ -93,4 +18,14 @@ returns c = refl
 
 pub frame-of-spec : {M : Type 1} → statement M
 frame-of-spec =
-    tie.close (tie.spec mul-h add-g mul-a add-a mul-xi add-xi add-w mul-t9 add-t10 returns)
+    tie.close (tie.spec
+    (λ c. omega (arith, small c))  -- mul-h
+    (λ c. omega (arith, small c))  -- add-g
+    (λ c. omega (arith, small c))  -- mul-a
+    (λ c. omega (arith, small c))  -- add-a
+    (λ c. omega (arith, small c))  -- mul-xi
+    (λ c. omega (arith, small c))  -- add-xi
+    (λ c. omega (arith, small c))  -- add-w
+    (λ c. omega (arith, small c))  -- mul-t9
+    (λ c. omega (arith, small c))  -- add-t10
+    returns)

@@ -8,7 +8,7 @@ use borrow.Author.Needs.{needs}
 use lib.Ieee.{Float}
 use lib.ListN.{length}
 use Rattle.factor.proofs.Blocks.{found-ends}
-use Rattle.factor.specs.Factor.{columnsAt, find, width}
+use Rattle.factor.specs.Factor.{columnsAt, findKey, width}
 use Rattle.factor.specs.declared.Factor.{Factor}
 use Rattle.factor.specs.declared.Found.{Found}
 use Rattle.factor.specs.declared.Found.the-variants.{Absent, Block}
@@ -25,7 +25,7 @@ module _ (found r : Found) (a : List Float) (e : r ≡ found) where
   present first size y rows b h = rw (h, sym e ∙ b)
 
 -- a block that is found ends within A
-end-fits : (sizes : List ℕ) (f : Factor) (key first size y len : ℕ) (r : Found) → r ≡ find sizes f key → r ≡ Block first size → y ≡ f .rows
+end-fits : (sizes : List ℕ) (f : Factor) (key first size y len : ℕ) (r : Found) → r ≡ findKey sizes f key → r ≡ Block first size → y ≡ f .rows
     → width sizes f * f .rows ≤ len → first * y + size * y ≤ len
 end-fits sizes f key first size y len r e b ey fit =
     let w : first + size ≤ width sizes f = found-ends sizes (f .keys) key (f .touched) first size (sym e ∙ b) in

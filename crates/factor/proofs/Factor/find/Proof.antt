@@ -4,13 +4,13 @@ use mathlib.Core.Path.{_∙_, _≡_, ap, sym}
 use native.Mathlib.Omega.{arith}
 use borrow.Author.Needs.{needs}
 use Rattle.factor.proofs.Blocks.{find-begun, find-here, find-none, find-past, first-more, first-none}
-use Rattle.factor.specs.Factor.{find, findFrom, firstColumn}
+use Rattle.factor.specs.Factor.{findKey, findFrom, firstColumn}
 use Rattle.factor.proofs.Factor.find.Statement.{statement}
 use Rattle.factor.proofs.Factor.find.Tie as tie
 
 abbrev Inv-loop : tie.InvT-loop
 Inv-loop sizes key self first₀ place₀ place-end first place = (place ≤ place-end) × (place-end ≡ self .touched) × (first ≤ 255 * place) ×
-    (first ≡ firstColumn sizes (self .keys) place) × (find sizes self key ≡ findFrom sizes (self .keys) key place (self .touched - place))
+    (first ≡ firstColumn sizes (self .keys) place) × (findKey sizes self key ≡ findFrom sizes (self .keys) key place (self .touched - place))
 
 abbrev μ-loop : tie.MeasureT-loop
 μ-loop sizes key self first₀ place₀ place-end first place = place-end - place

@@ -13,13 +13,13 @@ use Rattle.factor.specs.Limits.{max-rows}
 use Rattle.matrix.specs.Sums.{plus-zero}
 use Rattle.factor.proofs.weighing.store_factor.Statement.{statement}
 use Rattle.factor.proofs.weighing.store_factor.Tie as tie
-use Rattle.cholesky.specs.Answers.{Lent}
+use Rattle.cholesky.specs.Answers.{FormLent}
 
 -- a square of the most rows has room
 room : (n : ℕ) → n ≤ max-rows → n * n ≤ max-rows * max-rows
 room n l = mul-le-mul l l
 
-lent : (n : ℕ) (l xi w : List Float) → l ≡ replicate (n * n) plus-zero → xi ≡ replicate n plus-zero → w ≡ replicate (n * n) plus-zero → Lent n l xi w
+lent : (n : ℕ) (l xi w : List Float) → l ≡ replicate (n * n) plus-zero → xi ≡ replicate n plus-zero → w ≡ replicate (n * n) plus-zero → FormLent n l xi w
 lent n l xi w el ex ew = record { of-l = rw el (length-replicate (n * n) plus-zero); of-x = rw ex (length-replicate n plus-zero); of-y = ew }
 
 part-l-end : tie.Need-part-l-end

@@ -12,7 +12,7 @@ use Rattle.gaussian.proofs.Branches.{spans}
 use Rattle.gaussian.proofs.Outcomes.{few-rows, marginal-pivot, marginal-unbounded, marginal-message}
 use Rattle.gaussian.proofs.marginal.marginalize.Statement.{statement}
 use Rattle.gaussian.proofs.marginal.marginalize.Tie as tie
-use Rattle.slots.specs.Views.{numbersOf}
+use Rattle.slots.specs.Views.{factorNumbers}
 
 eliminate-in-requires : tie.Need-eliminate-in-requires
 eliminate-in-requires c κs = c .before .before .before .before .before .before .before .before .before .before .before .pre .0
@@ -120,7 +120,7 @@ from-requires c κs =
     (omega (arith, pre .0 .total, dim-of .ensures, dim-of2 .ensures)) (omega (arith, h, dim-of .ensures)) in (
       omega (arith, pre .1, dim-of .ensures),
       omega (arith, h, pre .0 .total),
-      fits-part (eliminate-in .last .1 .1 .0) (frame-of .result .a) (frame-of .result .end) (numbersOf (rows .given .0 .0) (dim-of .result))
+      fits-part (eliminate-in .last .1 .1 .0) (frame-of .result .a) (frame-of .result .end) (factorNumbers (rows .given .0 .0) (dim-of .result))
           (omega (arith, s .ends, s .within, pre .0 .enough, eliminate-in .kept .1 .1 .0)) (omega (arith, s .ends)),
     )
 

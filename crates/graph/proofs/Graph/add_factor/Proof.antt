@@ -5,7 +5,7 @@ use borrow.Author.Needs.{needs}
 use borrow.Author.Tests.{not-false, not-true}
 use Rattle.factor.proofs.Counting.{tells}
 use Rattle.factor.proofs.Fitting.{fits-touched}
-use Rattle.cholesky.specs.declared.exchange.Exchanged.the-variants.{Done, Pivot, Unbounded}
+use Rattle.cholesky.specs.declared.exchange.Exchanged.the-variants.{Done, Pivot, NotFinite}
 use Rattle.graph.proofs.Validity.{rows-most}
 use Rattle.graph.proofs.Checking.{full, not-given, short, unlike}
 use Rattle.graph.proofs.CheckOrder.{ended, room-for, turned-back}
@@ -104,7 +104,7 @@ returns-6 c =
     (c .before .before .before .before .before .before .before .before .before .before .before .before .if2 .left) (offset .result)
     (numbers .result) (offset .ensures .0) (numbers .ensures .0) (c .before .before .before .before .before .before .before .before .before .if3
     .left) (tells (c .before .before .before .before .before .before .before .before .given-finite .ensures)
-    (not-false _ (c .before .before .before .before .before .before .before .if4 .left))) (store-factor .last .0) Unbounded
+    (not-false _ (c .before .before .before .before .before .before .before .if4 .left))) (store-factor .last .0) NotFinite
     (sym (c .before .enum-told3 .given .1) ∙ store-factor .ensures .0) (store-factor .ensures .1 .0) in
     turned-back (args .t1) (args .f) (args .store .now) _ _ _ _ (p .0) (c .refused6 .ensures) (p .1)
 

@@ -11,12 +11,12 @@ use Rattle.factor.proofs.Counting.{all-fail, all-more, all-none, tells}
 use Rattle.factor.specs.Counting.{all}
 use Rattle.factor.specs.Limits.{max-variables}
 use Rattle.graph.proofs.Places.{Names, names-more, variable-placed}
-use Rattle.graph.specs.Record.{place, variablesFit}
+use Rattle.graph.specs.Record.{variablePlace, variablesFit}
 use Rattle.graph.proofs.Graph.variables_fit.Statement.{statement}
 use Rattle.graph.proofs.Graph.variables_fit.Tie as tie
 
 abbrev Inv-loop : tie.InvT-loop
-Inv-loop self letters₀ indices₀ key₀ letters indices key = (key ≤ max-variables) × (all (λ i. place self i) key ≡ true) ×
+Inv-loop self letters₀ indices₀ key₀ letters indices key = (key ≤ max-variables) × (all (λ i. variablePlace self i) key ≡ true) ×
     (length letters ≡ max-variables) × (length indices ≡ max-variables) × Names self letters indices key
 
 abbrev μ-loop : tie.MeasureT-loop
@@ -27,7 +27,7 @@ unfolding variablesFit
 returns c =
     let args = c .before .before .before .before .before .before .before .before .args in
     let loop = c .before .before .before .before .before .before .before .loop in
-    sym (all-fail (λ i. place (args .t1) i) max-variables (loop .key) (search needs)
+    sym (all-fail (λ i. variablePlace (args .t1) i) max-variables (loop .key) (search needs)
     (tells (variable-placed (args .t1) (loop .letters) (loop .indices) (loop .key) _ _ (loop .inv .4) refl (c .before .variable-place .ensures))
     (not-true _ (c .if1 .taken))))
 

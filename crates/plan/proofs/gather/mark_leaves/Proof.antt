@@ -8,13 +8,13 @@ use Prim.Native.Nat.{_-_}
 use lib.ListN.{getD}
 use native.Mathlib.Omega.{arith}
 use Rattle.schedule.specs.Messages.{heavy}
-use Rattle.plan.specs.Pass.{messagesOf, Ready}
+use Rattle.plan.specs.Pass.{messagesOf, PassReady}
 use Rattle.plan.specs.Gather.{Forest, stackOf}
 use Rattle.plan.proofs.gather.mark_leaves.Statement.{statement}
 use Rattle.plan.proofs.gather.mark_leaves.Tie as tie
 
 abbrev Inv-loop : tie.InvT-loop
-Inv-loop j self content l₀ l = (r : Ready max-variables self) (f : Forest self) → Opening self r f l₀ l
+Inv-loop j self content l₀ l = (r : PassReady max-variables self) (f : Forest self) → Opening self r f l₀ l
 
 abbrev μ-loop : tie.MeasureT-loop
 μ-loop j self content l₀ l = heavy (messagesOf self) (stackOf l)

@@ -8,13 +8,13 @@ use native.Mathlib.Omega.{arith}
 use denote.Ref.{now}
 use Rattle.schedule.specs.Gather.{messagesIn}
 use Rattle.plan.specs.Mask.{Set}
-use Rattle.plan.specs.Gather.{part}
+use Rattle.plan.specs.Gather.{contentPart}
 use Rattle.plan.proofs.Unions.{inner-msg, inner-orig, inner-none}
 use Rattle.plan.proofs.gather.messages_in.Statement.{statement}
 use Rattle.plan.proofs.gather.messages_in.Tie as tie
 
 abbrev Inv-loop : tie.InvT-loop
-Inv-loop content from to r₀ i₀ r i = (from ≤ i) × (i ≤ to) × Set (messagesIn (part from i content)) r
+Inv-loop content from to r₀ i₀ r i = (from ≤ i) × (i ≤ to) × Set (messagesIn (contentPart from i content)) r
 
 abbrev μ-loop : tie.MeasureT-loop
 μ-loop content from to r₀ i₀ r i = to - i
@@ -36,10 +36,10 @@ loop-again c =
     let pre = entry .pre in (
       omega arith,
       omega arith,
-      ⊎-elim (λ w. subst (λ (x : ℕ). Set (messagesIn (part (args .from) (loop .i + 1) (now (args .content)))) x) (sym (w .2))
+      ⊎-elim (λ w. subst (λ (x : ℕ). Set (messagesIn (contentPart (args .from) (loop .i + 1) (now (args .content)))) x) (sym (w .2))
           (inner-msg (now (args .content)) (args .from) (loop .i) (loop .r) (loop .inv .0) (omega (arith, pre .0 .few, pre .0 .long)) (loop .inv .2)
           (w .1 .result) (w .0 .taken) (w .1 .ensures)))
-          (λ w. subst (λ (x : ℕ). Set (messagesIn (part (args .from) (loop .i + 1) (now (args .content)))) x) (sym (w .1))
+          (λ w. subst (λ (x : ℕ). Set (messagesIn (contentPart (args .from) (loop .i + 1) (now (args .content)))) x) (sym (w .1))
           (inner-orig (now (args .content)) (args .from) (loop .i) (loop .r) (loop .inv .0) (omega (arith, pre .0 .few, pre .0 .long)) (loop .inv .2)
           (w .0 .left))) (c .if1 .came),
     )
@@ -49,7 +49,7 @@ returns c =
     let loop = c .before .loop in
     let args = c .before .before .args in
     let e : loop .i ≡ args .to = omega arith in
-    subst (λ (n : ℕ). Set (messagesIn (part (args .from) n (now (args .content)))) (loop .r)) e (loop .inv .2)
+    subst (λ (n : ℕ). Set (messagesIn (contentPart (args .from) n (now (args .content)))) (loop .r)) e (loop .inv .2)
 
 pub messages-in-spec : {M : Type 1} → statement M
 messages-in-spec =

@@ -7,13 +7,13 @@ use Prim.Native.Nat.{ℕ, _≤_, _-_}
 use lib.ListN.{length}
 use native.Mathlib.Omega.{arith}
 use Rattle.factor.specs.Limits.{max-variables}
-use Rattle.plan.specs.Pass.{Ready}
+use Rattle.plan.specs.Pass.{PassReady}
 use Rattle.plan.proofs.Begins.{Along, along-more, along-done}
 use Rattle.plan.proofs.pass.full_pass.Statement.{statement}
 use Rattle.plan.proofs.pass.full_pass.Tie as tie
 
 abbrev Inv-loop : tie.InvT-loop
-Inv-loop count n order p₀ t₀ p t = (t ≤ n) × Ready t p × Along order n p₀ t p × (length order ≡ max-variables)
+Inv-loop count n order p₀ t₀ p t = (t ≤ n) × PassReady t p × Along order n p₀ t p × (length order ≡ max-variables)
 
 abbrev μ-loop : tie.MeasureT-loop
 μ-loop count n order p₀ t₀ p t = n - t
@@ -46,7 +46,7 @@ returns c =
     let begin = c .before .before .begin in
     let pre = c .before .before .before .pre in
     let e : loop .t ≡ args .n = omega arith in (
-      subst (λ (k : ℕ). Ready k (loop .p)) e (loop .inv .1),
+      subst (λ (k : ℕ). PassReady k (loop .p)) e (loop .inv .1),
       along-done (args .keys) (args .live) (args .t4) (args .count) (args .n) (begin .result)
           (loop .p) (pre .1 .few) (begin .ensures .1) (subst (λ (k : ℕ). Along (args .t4) (args .n) (begin .result) k (loop .p)) e (loop .inv .2)),
     )

@@ -10,7 +10,7 @@ use native.Mathlib.Numerals.{add-one}
 use native.Mathlib.Omega.{arith}
 use Rattle.factor.specs.Limits.{max-variables, max-factors}
 use Rattle.plan.specs.Limits.{pass-slots}
-use Rattle.plan.specs.Pass.{laid}
+use Rattle.plan.specs.Pass.{originalMasks}
 use Rattle.plan.proofs.pass.laid_masks.Statement.{statement}
 use Rattle.plan.proofs.pass.laid_masks.Tie as tie
 
@@ -43,7 +43,7 @@ loop-again c =
     )
 
 returns : tie.Need-returns Inv-loop μ-loop
-unfolding laid
+unfolding originalMasks
 returns c =
     let loop = c .before .loop in
     let args = c .before .before .args in

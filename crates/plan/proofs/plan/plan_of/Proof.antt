@@ -1,6 +1,6 @@
 -- The masks agree with the factors' keys, so registered factors are all that the plan asks beside an order (`Rising`).
 -- Assumes nothing.
-use Rattle.plan.specs.Factors.{keysAt}
+use Rattle.plan.specs.Factors.{keysAmong}
 use Rattle.plan.proofs.Rising.{sound}
 use Rattle.plan.proofs.plan.plan_of.Statement.{statement}
 use Rattle.plan.proofs.plan.plan_of.Tie as tie
@@ -14,7 +14,7 @@ make-plan-requires c κs =
 returns : tie.Need-returns
 returns c =
     let args = c .before .before .args in
-    (c .make-plan .ensures .0 (keysAt (args .factors) (args .count)) (c .before .masks-of .ensures), c .make-plan .ensures .1)
+    (c .make-plan .ensures .0 (keysAmong (args .factors) (args .count)) (c .before .masks-of .ensures), c .make-plan .ensures .1)
 
 pub plan-of-spec : {M : Type 1} → statement M
 plan-of-spec = tie.close (tie.spec

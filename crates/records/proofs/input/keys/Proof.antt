@@ -4,14 +4,14 @@ use mathlib.Core.Path.{_≡_, refl}
 use mathlib.Core.List.{_++_}
 use native.Mathlib.Omega.{arith}
 use lib.ListN.{length, drop, length-set}
-use Rattle.records.specs.Bytes.{byteAt, keysAt}
+use Rattle.records.specs.Bytes.{byteAt, keysRead}
 use Rattle.records.proofs.Listing.{fill-none, fill-more, fill-done}
 use borrow.Author.Needs.{needs}
 use Rattle.records.proofs.input.keys.Statement.{statement}
 use Rattle.records.proofs.input.keys.Tie as tie
 
 abbrev Inv-loop : tie.InvT-loop
-Inv-loop bytes at out₀ n i₀ out i = (i ≤ n) × (length out ≡ length out₀) × (out ≡ keysAt bytes at i ++ drop i out₀)
+Inv-loop bytes at out₀ n i₀ out i = (i ≤ n) × (length out ≡ length out₀) × (out ≡ keysRead bytes at i ++ drop i out₀)
 
 abbrev μ-loop : tie.MeasureT-loop
 μ-loop bytes at out₀ n i₀ out i = n - i

@@ -2,7 +2,7 @@
 use mathlib.Core.Path.{ap, sym}
 use native.Mathlib.Omega.{arith}
 use native.Mathlib.Nat.{mul-le-mul}
-use Rattle.records.specs.Records.{given}
+use Rattle.records.specs.Records.{givenNumbers}
 use Rattle.records.specs.declared.kinds.Flag.{Flag}
 use borrow.Author.Needs.{needs}
 use Rattle.records.proofs.kinds.given.Statement.{statement}
@@ -16,7 +16,7 @@ mul-result c =
 returns-2 : tie.Need-returns-2
 returns-2 c =
     let pre = c .before .before .pre in (
-      ap (λ (f : Flag). given f (c .before .before .args .rows)) (sym (c .enum-told2 .given .1)),
+      ap (λ (f : Flag). givenNumbers f (c .before .before .args .rows)) (sym (c .enum-told2 .given .1)),
       mul-le-mul (pre) (pre),
     )
 

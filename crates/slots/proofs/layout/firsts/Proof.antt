@@ -7,7 +7,7 @@ use native.Mathlib.Omega.{arith}
 use borrow.Author.Needs.{needs}
 use lib.ListN.{length, getD, drop, length-set}
 use lib.Seq.{drop-length}
-use Rattle.slots.specs.Layouts.{dimOf, firstOf}
+use Rattle.slots.specs.Layouts.{dimOf, columnIn}
 use Rattle.slots.proofs.LayoutTables.{firsts-back, firsts-none, dim-back, dim-rest}
 use Rattle.slots.proofs.layout.firsts.Statement.{statement}
 use Rattle.slots.proofs.layout.firsts.Tie as tie
@@ -15,7 +15,7 @@ use Rattle.slots.proofs.layout.firsts.Tie as tie
 abbrev Inv-loop : tie.InvT-loop
 Inv-loop list sizes column₀ r₀ i₀ column r i =
     (i ≤ length list) × (length r ≡ 32) × (column + dimOf sizes (drop i list) ≡ dimOf sizes list)
-    × ((key : ℕ) → key < 32 → getD r key 0 ≡ column + firstOf sizes (drop i list) key)
+    × ((key : ℕ) → key < 32 → getD r key 0 ≡ column + columnIn sizes (drop i list) key)
 
 abbrev μ-loop : tie.MeasureT-loop
 μ-loop list sizes column₀ r₀ i₀ column r i = i
@@ -88,7 +88,7 @@ returns c =
     let l = args .list .now in
     let e : loop .i ≡ 0 = omega (arith, c .loop-test .left) in
     let z : loop .column ≡ 0 = omega (arith, loop .inv .2, ap (λ (n : ℕ). dimOf (args .t2) (drop n l)) e) in
-    (loop .inv .1, λ key h. omega (arith, z, loop .inv .3 key h, ap (λ (n : ℕ). firstOf (args .t2) (drop n l) key) e))
+    (loop .inv .1, λ key h. omega (arith, z, loop .inv .3 key h, ap (λ (n : ℕ). columnIn (args .t2) (drop n l) key) e))
 
 pub firsts-spec : {M : Type 1} → statement M
 firsts-spec =

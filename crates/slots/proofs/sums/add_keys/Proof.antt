@@ -4,7 +4,7 @@ use mathlib.Core.Path.{_≡_, refl, ap, _∙_}
 use native.Mathlib.Omega.{arith}
 use borrow.Author.Needs.{needs}
 use lib.ListN.{length}
-use Rattle.blocks.specs.Blocks.{column}
+use Rattle.blocks.specs.Blocks.{columnOf}
 use Rattle.workspace.specs.Sums.{turns}
 use Rattle.workspace.proofs.Cuts.{relaid}
 use Rattle.slots.specs.Views.{withKeys}
@@ -12,18 +12,18 @@ use Rattle.slots.specs.declared.layout.Spot.{Spot}
 use Rattle.slots.proofs.Adding.{column-fits, fits-block, keys-more, scratch}
 use Rattle.slots.proofs.sums.add_keys.Statement.{statement}
 use Rattle.slots.proofs.sums.add_keys.Tie as tie
-use Rattle.workspace.specs.Parts.{cut}
+use Rattle.workspace.specs.Parts.{matricesIn}
 
 abbrev Inv-loop : tie.InvT-loop
 Inv-loop work₀ t₀ f branch row layout keys y a xi w column₀ i₀ i-end work t col i =
-    (i ≤ i-end) × (i-end ≡ length keys) × (length work ≡ length work₀) × (col ≡ column (layout .size) keys i) ×
-    (cut f work ≡ withKeys branch f layout row keys y a xi w (cut f work₀) i) × (length t ≡ length t₀)
+    (i ≤ i-end) × (i-end ≡ length keys) × (length work ≡ length work₀) × (col ≡ columnOf (layout .size) keys i) ×
+    (matricesIn f work ≡ withKeys branch f layout row keys y a xi w (matricesIn f work₀) i) × (length t ≡ length t₀)
 
 abbrev μ-loop : tie.MeasureT-loop
 μ-loop work₀ t₀ f branch row layout keys y a xi w column₀ i₀ i-end work t col i = i-end - i
 
 loop-holds : tie.Need-loop-holds Inv-loop μ-loop
-unfolding withKeys turns column
+unfolding withKeys turns columnOf
 loop-holds c = (omega arith, refl, refl, refl, refl, refl)
 
 find-requires : tie.Need-find-requires Inv-loop μ-loop

@@ -4,7 +4,7 @@ use mathlib.Core.Path.{_≡_, refl, ap, _∙_}
 use native.Mathlib.Omega.{arith}
 use borrow.Author.Needs.{needs}
 use lib.ListN.{length}
-use Rattle.blocks.specs.Blocks.{column}
+use Rattle.blocks.specs.Blocks.{columnOf}
 use Rattle.workspace.specs.Sums.{turns}
 use Rattle.workspace.proofs.Cuts.{relaid}
 use Rattle.slots.specs.Views.{withProducts}
@@ -12,18 +12,18 @@ use Rattle.slots.specs.declared.layout.Spot.{Spot}
 use Rattle.slots.proofs.Adding.{column-fits, fits-block, products-more}
 use Rattle.slots.proofs.sums.add_products.Statement.{statement}
 use Rattle.slots.proofs.sums.add_products.Tie as tie
-use Rattle.workspace.specs.Parts.{cut}
+use Rattle.workspace.specs.Parts.{matricesIn}
 
 abbrev Inv-loop : tie.InvT-loop
 Inv-loop work₀ f branch layout keys y a k t column₀ j₀ j-end work col j =
-    (j ≤ j-end) × (j-end ≡ length keys) × (length work ≡ length work₀) × (col ≡ column (layout .size) keys j) ×
-    (cut f work ≡ withProducts branch f layout keys y a k t (cut f work₀) j)
+    (j ≤ j-end) × (j-end ≡ length keys) × (length work ≡ length work₀) × (col ≡ columnOf (layout .size) keys j) ×
+    (matricesIn f work ≡ withProducts branch f layout keys y a k t (matricesIn f work₀) j)
 
 abbrev μ-loop : tie.MeasureT-loop
 μ-loop work₀ f branch layout keys y a k t column₀ j₀ j-end work col j = j-end - j
 
 loop-holds : tie.Need-loop-holds Inv-loop μ-loop
-unfolding withProducts turns column
+unfolding withProducts turns columnOf
 loop-holds c = (omega arith, refl, refl, refl, refl)
 
 find-requires : tie.Need-find-requires Inv-loop μ-loop

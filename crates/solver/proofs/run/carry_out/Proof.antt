@@ -1,6 +1,6 @@
 -- `solver::run::carry_out` meets its contract: a refused message ends it, else it goes on to the next pass and then to stage 3. Assumes nothing.
 use lib.ListN.{length}
-use Rattle.plan.specs.Plan.{planOf}
+use Rattle.plan.specs.Plan.{planIn}
 use Rattle.solver.proofs.Stages.{forwards, backwards, stop-low, step-fits, first-asks, second-asks, forward-ends, forward-stays, gatherable}
 use Rattle.solver.proofs.Stages.{third-asks, first-refused, second-refused, third-told, enough-later}
 use native.Mathlib.Omega.{arith}
@@ -27,13 +27,13 @@ step-of-requires c κs =
     )
 
 returns : tie.Need-returns
-unfolding planOf
+unfolding planIn
 returns c =
     let args = c .before .before .before .before .before .before .before .before .before .before .before .before .before .before .before .before
     .before .before .before .before .before .args in
     let carried = c .before .before .before .before .before .before .before .before .before .carry-pass in
     rw (c .refused .ensures)
-    (first-refused (args .g) (planOf (args .g .variables) (args .p)) (args .places .figure) (args .factors .now) (args .messages .now)
+    (first-refused (args .g) (planIn (args .g .variables) (args .p)) (args .places .figure) (args .factors .now) (args .messages .now)
     (args .marginals .now) _ _ _ _ _ (carried .ensures .0) (c .before .before .before .j .given .1) (carried .ensures .1 .0) (c .before .step-of .ensures))
 
 carry-pass-requires-2 : tie.Need-carry-pass-requires-2
@@ -80,7 +80,7 @@ sub-refused-2 c =
     )
 
 returns-2 : tie.Need-returns-2
-unfolding planOf
+unfolding planIn
 returns-2 c =
     let entry = c .before .before .before .before .before .before .before .before .before .before .before .before .before .before .before .before
     .before .before .before .before .before .before .before .before .before .before .before .before .before .before in
@@ -93,8 +93,8 @@ returns-2 c =
     let ends = forward-ends (args .g) (args .p) (pre .0 .0) (args .places) (args .keys .now) (args .heads .now) (pre .0 .1) (args .factors .now)
     (args .messages .now) _ _ (pre .1) _ (carried .ensures .1 .1 .0 through) in
     rw (c .refused2 .ensures)
-    (second-refused (args .g) (planOf (args .g .variables) (args .p)) (args .places .figure) (args .factors .now) (args .messages .now)
-    (args .marginals .now) (args .places .half) _ _ _ _ (carried .ensures .0) (carried2 .ensures .0) through
+    (second-refused (args .g) (planIn (args .g .variables) (args .p)) (args .places .figure) (args .factors .now) (args .messages .now)
+    (args .marginals .now) (args .places .forward) _ _ _ _ (carried .ensures .0) (carried2 .ensures .0) through
     (carried .ensures .1 .0) (carried2 .ensures .1 .0) ends _ _ _ (c .before .before .before .j2 .given .1) (c .before .step-of2 .ensures))
 
 third-stage-requires : tie.Need-third-stage-requires
@@ -118,7 +118,7 @@ third-stage-requires c κs =
     (length (args .marginals .now)) enough _ (carried2 .ensures .1 .0) fw bw) bw
 
 returns-3 : tie.Need-returns-3
-unfolding planOf
+unfolding planIn
 returns-3 c =
     let entry = c .before .before .before .before .before .before .before .before .before .before .before .before .before .before .before .before
     .before .before .before .before .before .before .before .before .before .before .before .before .before .before .before .before .before .before .before in
@@ -137,8 +137,8 @@ returns-3 c =
     let bw = carried2 .ensures .1 .1 .0 through2 in
     let ends = forward-ends (args .g) (args .p) (pre .0 .0) (args .places) (args .keys .now) (args .heads .now) (pre .0 .1) (args .factors .now)
     (args .messages .now) _ _ (pre .1) _ fw in
-    third-told (args .g) (planOf (args .g .variables) (args .p)) (args .places .figure) (args .factors .now) (args .messages .now)
-    (args .marginals .now) (args .places .half) _ _ _ _ (carried .ensures .0) (carried2 .ensures .0) through
+    third-told (args .g) (planIn (args .g .variables) (args .p)) (args .places .figure) (args .factors .now) (args .messages .now)
+    (args .marginals .now) (args .places .forward) _ _ _ _ (carried .ensures .0) (carried2 .ensures .0) through
     (carried .ensures .1 .0) (carried2 .ensures .1 .0) ends _ _ through2
     (c .before .before .before .before .third-stage .ensures _
     (gatherable (args .g) (args .p) (pre .0 .0) (args .places) (args .keys .now) (args .heads .now) (pre .0 .1) (args .factors .now) _ _

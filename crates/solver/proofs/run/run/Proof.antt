@@ -1,7 +1,7 @@
 -- `solver::run::run` meets its contract: the plan may be refused, a store may be short, else the plan is carried out. Assumes nothing.
 use mathlib.Core.Path.{_∙_, sym}
 use lib.ListN.{length}
-use Rattle.plan.specs.Plan.{planOf}
+use Rattle.plan.specs.Plan.{planIn}
 use Rattle.solver.proofs.Answers.{refused-why}
 use Rattle.solver.proofs.Stages.{made-planned, as-held, enough-told, short-checked, enough-checked, run-refused, run-made}
 use Rattle.solver.proofs.Telling.{run-tells}
@@ -41,7 +41,7 @@ returns-2 c =
     (rw (c .refused2 .ensures)
     (run-made (args .g) (made .result .plan) _ _ _ (args .factors .now) (args .messages .now) (args .marginals .now) (length (args .work .now)) pl
     (c .before .before .before .before .before .before .before .place-plan .ensures) _
-    (short-checked (args .g) (planOf (args .g .variables) (made .result .plan)) _ (args .factors .now) (args .messages .now) (args .marginals .now)
+    (short-checked (args .g) (planIn (args .g .variables) (made .result .plan)) _ (args .factors .now) (args .messages .now) (args .marginals .now)
     (length (args .work .now)) _ (sym (c .before .before .before .before .check-stores .ensures) ∙ c .before .before .why .given .1))))
 
 carry-out-requires : tie.Need-carry-out-requires
@@ -72,7 +72,7 @@ returns-3 c =
     (c .before .before .before .before .before .before .before .before .before .before .before .before .before .before .before .before .before
     .place-plan .ensures) _
     (c .before .before .before .before .before .before .carry-out .ensures
-    ∙ enough-checked (args .g) (planOf (args .g .variables) (made .result .plan)) _ (args .factors .now) (args .messages .now) (args .marginals .now)
+    ∙ enough-checked (args .g) (planIn (args .g .variables) (made .result .plan)) _ (args .factors .now) (args .messages .now) (args .marginals .now)
     (length (args .work .now))
     (enough-told (args .g) _ _ _ _ _ (sym (c .before .before .before .before .before .before .before .before .before .before .before .before .before
     .before .check-stores .ensures) ∙ c .before .before .before .before .before .before .before .before .before .before .before .before .enum-told2

@@ -1,226 +1,26 @@
 -- `gaussian::marginal::Marginal::from` meets its contract: the parts of the message are A, xi and W, and the moments stand at the start of their
 -- arrays. Assumes nothing.
-use Prim.Native.Nat.{_+_, _*_}
+use Prim.Native.Nat.{_+_, _*_, _≤_}
 use mathlib.Core.Path.{_∙_}
 use native.Mathlib.Omega.{arith}
 use native.Mathlib.Nat.{mul-le-mul}
 use borrow.Author.Needs.{needs}
 use lib.Ieee.{ofBits}
+use lib.ListN.{length}
+use Rattle.factor.specs.Limits.{max-size, max-total}
 use Rattle.matrix.specs.Sums.{plus-zero}
 use Rattle.factor.proofs.Laying.{front-replicate}
+use Rattle.slots.specs.Views.{factorNumbers}
 use Rattle.slots.proofs.Adding.{fits-part}
 use Rattle.gaussian.proofs.Moments.{zeros-long, from-done, from-pivot, from-unbounded}
 use Rattle.gaussian.proofs.Telling.{from-tells}
 use Rattle.gaussian.proofs.marginal.Marginal.from.Statement.{statement}
 use Rattle.gaussian.proofs.marginal.Marginal.from.Tie as tie
 
-mul-p : tie.Need-mul-p
-mul-p c =
-    let pre = c .before .pre in
-    let a = mul-le-mul (pre .1) (pre .0) in
-    let b = mul-le-mul (pre .1) (pre .1) in
-    let d = mul-le-mul (pre .0) (pre .0) in
-    omega (arith, pre .2)
-
-add-q : tie.Need-add-q
-add-q c =
-    let pre = c .before .pre in
-    let a = mul-le-mul (pre .1) (pre .0) in
-    let b = mul-le-mul (pre .1) (pre .1) in
-    let d = mul-le-mul (pre .0) (pre .0) in
-    omega (arith, pre .2)
-
-mul-e : tie.Need-mul-e
-mul-e c =
-    let pre = c .before .pre in
-    let a = mul-le-mul (pre .1) (pre .0) in
-    let b = mul-le-mul (pre .1) (pre .1) in
-    let d = mul-le-mul (pre .0) (pre .0) in
-    omega (arith, pre .2)
-
-add-e : tie.Need-add-e
-add-e c =
-    let pre = c .before .pre in
-    let a = mul-le-mul (pre .1) (pre .0) in
-    let b = mul-le-mul (pre .1) (pre .1) in
-    let d = mul-le-mul (pre .0) (pre .0) in
-    omega (arith, pre .2)
-
-mul-square : tie.Need-mul-square
-mul-square c =
-    let pre = c .before .pre in
-    let a = mul-le-mul (pre .1) (pre .0) in
-    let b = mul-le-mul (pre .1) (pre .1) in
-    let d = mul-le-mul (pre .0) (pre .0) in
-    omega (arith, pre .2)
-
-mul-moments : tie.Need-mul-moments
-mul-moments c =
-    let pre = c .before .pre in
-    let a = mul-le-mul (pre .1) (pre .0) in
-    let b = mul-le-mul (pre .1) (pre .1) in
-    let d = mul-le-mul (pre .0) (pre .0) in
-    omega (arith, pre .2)
-
-sub-moments : tie.Need-sub-moments
-sub-moments c =
-    let pre = c .before .pre in
-    let a = mul-le-mul (pre .1) (pre .0) in
-    let b = mul-le-mul (pre .1) (pre .1) in
-    let d = mul-le-mul (pre .0) (pre .0) in
-    omega (arith, pre .2)
-
-part-moments-start : tie.Need-part-moments-start
-part-moments-start c =
-    let pre = c .before .pre in
-    let a = mul-le-mul (pre .1) (pre .0) in
-    let b = mul-le-mul (pre .1) (pre .1) in
-    let d = mul-le-mul (pre .0) (pre .0) in
-    omega (arith, pre .2)
-
-part-moments-end : tie.Need-part-moments-end
-part-moments-end c =
-    let pre = c .before .pre in
-    let a = mul-le-mul (pre .1) (pre .0) in
-    let b = mul-le-mul (pre .1) (pre .1) in
-    let d = mul-le-mul (pre .0) (pre .0) in
-    omega (arith, pre .2)
-
-mul-moments-2 : tie.Need-mul-moments-2
-mul-moments-2 c =
-    let pre = c .before .before .pre in
-    let a = mul-le-mul (pre .1) (pre .0) in
-    let b = mul-le-mul (pre .1) (pre .1) in
-    let d = mul-le-mul (pre .0) (pre .0) in
-    omega (arith, pre .2)
-
-sub-moments-2 : tie.Need-sub-moments-2
-sub-moments-2 c =
-    let pre = c .before .before .pre in
-    let a = mul-le-mul (pre .1) (pre .0) in
-    let b = mul-le-mul (pre .1) (pre .1) in
-    let d = mul-le-mul (pre .0) (pre .0) in
-    omega (arith, pre .2)
-
-part-moments-start-2 : tie.Need-part-moments-start-2
-part-moments-start-2 c =
-    let pre = c .before .before .pre in
-    let a = mul-le-mul (pre .1) (pre .0) in
-    let b = mul-le-mul (pre .1) (pre .1) in
-    let d = mul-le-mul (pre .0) (pre .0) in
-    omega (arith, pre .2)
-
-part-moments-end-2 : tie.Need-part-moments-end-2
-part-moments-end-2 c =
-    let pre = c .before .before .pre in
-    let a = mul-le-mul (pre .1) (pre .0) in
-    let b = mul-le-mul (pre .1) (pre .1) in
-    let d = mul-le-mul (pre .0) (pre .0) in
-    omega (arith, pre .2)
-
-mul-moments-3 : tie.Need-mul-moments-3
-mul-moments-3 c =
-    let pre = c .before .before .before .pre in
-    let a = mul-le-mul (pre .1) (pre .0) in
-    let b = mul-le-mul (pre .1) (pre .1) in
-    let d = mul-le-mul (pre .0) (pre .0) in
-    omega (arith, pre .2)
-
-sub-moments-3 : tie.Need-sub-moments-3
-sub-moments-3 c =
-    let pre = c .before .before .before .pre in
-    let a = mul-le-mul (pre .1) (pre .0) in
-    let b = mul-le-mul (pre .1) (pre .1) in
-    let d = mul-le-mul (pre .0) (pre .0) in
-    omega (arith, pre .2)
-
-part-moments-start-3 : tie.Need-part-moments-start-3
-part-moments-start-3 c =
-    let pre = c .before .before .before .pre in
-    let a = mul-le-mul (pre .1) (pre .0) in
-    let b = mul-le-mul (pre .1) (pre .1) in
-    let d = mul-le-mul (pre .0) (pre .0) in
-    omega (arith, pre .2)
-
-part-moments-end-3 : tie.Need-part-moments-end-3
-part-moments-end-3 c =
-    let pre = c .before .before .before .pre in
-    let a = mul-le-mul (pre .1) (pre .0) in
-    let b = mul-le-mul (pre .1) (pre .1) in
-    let d = mul-le-mul (pre .0) (pre .0) in
-    omega (arith, pre .2)
-
-sub-moments-4 : tie.Need-sub-moments-4
-sub-moments-4 c =
-    let pre = c .before .before .before .before .pre in
-    let a = mul-le-mul (pre .1) (pre .0) in
-    let b = mul-le-mul (pre .1) (pre .1) in
-    let d = mul-le-mul (pre .0) (pre .0) in
-    omega (arith, pre .2)
-
-part-mean-start : tie.Need-part-mean-start
-part-mean-start c =
-    let pre = c .before .before .before .before .pre in
-    let a = mul-le-mul (pre .1) (pre .0) in
-    let b = mul-le-mul (pre .1) (pre .1) in
-    let d = mul-le-mul (pre .0) (pre .0) in
-    omega (arith, pre .2)
-
-part-mean-end : tie.Need-part-mean-end
-part-mean-end c =
-    let pre = c .before .before .before .before .pre in
-    let a = mul-le-mul (pre .1) (pre .0) in
-    let b = mul-le-mul (pre .1) (pre .1) in
-    let d = mul-le-mul (pre .0) (pre .0) in
-    omega (arith, pre .2)
-
-sub-moments-5 : tie.Need-sub-moments-5
-sub-moments-5 c =
-    let pre = c .before .before .before .before .before .pre in
-    let a = mul-le-mul (pre .1) (pre .0) in
-    let b = mul-le-mul (pre .1) (pre .1) in
-    let d = mul-le-mul (pre .0) (pre .0) in
-    omega (arith, pre .2)
-
-part-l-start : tie.Need-part-l-start
-part-l-start c =
-    let pre = c .before .before .before .before .before .pre in
-    let a = mul-le-mul (pre .1) (pre .0) in
-    let b = mul-le-mul (pre .1) (pre .1) in
-    let d = mul-le-mul (pre .0) (pre .0) in
-    omega (arith, pre .2)
-
-part-l-end : tie.Need-part-l-end
-part-l-end c =
-    let pre = c .before .before .before .before .before .pre in
-    let a = mul-le-mul (pre .1) (pre .0) in
-    let b = mul-le-mul (pre .1) (pre .1) in
-    let d = mul-le-mul (pre .0) (pre .0) in
-    omega (arith, pre .2)
-
-sub-moments-6 : tie.Need-sub-moments-6
-sub-moments-6 c =
-    let pre = c .before .before .before .before .before .before .pre in
-    let a = mul-le-mul (pre .1) (pre .0) in
-    let b = mul-le-mul (pre .1) (pre .1) in
-    let d = mul-le-mul (pre .0) (pre .0) in
-    omega (arith, pre .2)
-
-part-covariance-start : tie.Need-part-covariance-start
-part-covariance-start c =
-    let pre = c .before .before .before .before .before .before .pre in
-    let a = mul-le-mul (pre .1) (pre .0) in
-    let b = mul-le-mul (pre .1) (pre .1) in
-    let d = mul-le-mul (pre .0) (pre .0) in
-    omega (arith, pre .2)
-
-part-covariance-end : tie.Need-part-covariance-end
-part-covariance-end c =
-    let pre = c .before .before .before .before .before .before .pre in
-    let a = mul-le-mul (pre .1) (pre .0) in
-    let b = mul-le-mul (pre .1) (pre .1) in
-    let d = mul-le-mul (pre .0) (pre .0) in
-    omega (arith, pre .2)
+-- what the places of A, xi and W are made of is small
+small : (c : tie.Start) → (c .args .rows * c .args .size ≤ max-total * max-size) × (c .args .rows * c .args .rows ≤ max-total * max-total)
+    × (c .args .size * c .args .size ≤ max-size * max-size) × (factorNumbers (c .args .rows) (c .args .size) ≤ length (c .args .message .now))
+small c = (mul-le-mul (c .pre .1) (c .pre .0), mul-le-mul (c .pre .1) (c .pre .1), mul-le-mul (c .pre .0) (c .pre .0), c .pre .2)
 
 moments-requires : tie.Need-moments-requires
 unfolding ofBits
@@ -278,10 +78,33 @@ returns-3 c =
 
 pub from-spec : {M : Type 1} → statement M
 from-spec =
-    tie.close (tie.spec mul-p add-q mul-e add-e mul-square mul-moments sub-moments part-moments-start part-moments-end mul-moments-2
-    sub-moments-2 part-moments-start-2 part-moments-end-2 mul-moments-3 sub-moments-3 part-moments-start-3
-    part-moments-end-3 sub-moments-4 part-mean-start part-mean-end sub-moments-5 part-l-start part-l-end
-    sub-moments-6 part-covariance-start part-covariance-end
+    tie.close (tie.spec
+    (λ c. omega (arith, small (c .before)))  -- mul-p
+    (λ c. omega (arith, small (c .before)))  -- add-q
+    (λ c. omega (arith, small (c .before)))  -- mul-e
+    (λ c. omega (arith, small (c .before)))  -- add-e
+    (λ c. omega (arith, small (c .before)))  -- mul-square
+    (λ c. omega (arith, small (c .before)))  -- mul-moments
+    (λ c. omega (arith, small (c .before)))  -- sub-moments
+    (λ c. omega (arith, small (c .before)))  -- part-moments-start
+    (λ c. omega (arith, small (c .before)))  -- part-moments-end
+    (λ c. omega (arith, small (c .before .before)))  -- mul-moments-2
+    (λ c. omega (arith, small (c .before .before)))  -- sub-moments-2
+    (λ c. omega (arith, small (c .before .before)))  -- part-moments-start-2
+    (λ c. omega (arith, small (c .before .before)))  -- part-moments-end-2
+    (λ c. omega (arith, small (c .before .before .before)))  -- mul-moments-3
+    (λ c. omega (arith, small (c .before .before .before)))  -- sub-moments-3
+    (λ c. omega (arith, small (c .before .before .before)))  -- part-moments-start-3
+    (λ c. omega (arith, small (c .before .before .before)))  -- part-moments-end-3
+    (λ c. omega (arith, small (c .before .before .before .before)))  -- sub-moments-4
+    (λ c. omega (arith, small (c .before .before .before .before)))  -- part-mean-start
+    (λ c. omega (arith, small (c .before .before .before .before)))  -- part-mean-end
+    (λ c. omega (arith, small (c .before .before .before .before .before)))  -- sub-moments-5
+    (λ c. omega (arith, small (c .before .before .before .before .before)))  -- part-l-start
+    (λ c. omega (arith, small (c .before .before .before .before .before)))  -- part-l-end
+    (λ c. omega (arith, small (c .before .before .before .before .before .before)))  -- sub-moments-6
+    (λ c. omega (arith, small (c .before .before .before .before .before .before)))  -- part-covariance-start
+    (λ c. omega (arith, small (c .before .before .before .before .before .before)))  -- part-covariance-end
     (λ c. search needs)  -- slice-aggregate-moments
     moments-requires
     (λ c. search needs)  -- enum-told
