@@ -35,7 +35,7 @@ record Read (g h : Graph) (ks : List ℕ) (fs : List Accepted) : Type 0 where
   count : h .count ≡ g .count + more-factors
   -- what was registered before keeps its keys
   older : (i : ℕ) → i < g .count → factorKeys h i ≡ factorKeys g i
-  keysGiven : (f : Accepted) → List·Memᴰ f fs → f .keys ≡ factorKeys h (f .number)
+  given : (f : Accepted) → List·Memᴰ f fs → f .keys ≡ factorKeys h (f .number)
 
 -- the keys of a factor that is there
 keys-of : (g : Graph) (i : ℕ) → i < g .count → factorKeys g i ≡ take (factorAt g i .touched) (factorAt g i .keys)

@@ -208,5 +208,5 @@ unfolding run
 run-carries g run factors messages work marginals =
     let p : schedule.Plan = graphPlan g in
     let once : Single p = single g p run in
-    either g p factors messages marginals once (valid g) _ _ (refused g p factors messages marginals once 0 NoSuchGraph 1 0 messages (λ e. omega arith))
+    either g p factors messages marginals once (valid g) _ _ (refused-run g p factors messages marginals once 0 NoSuchGraph 1 0 messages (λ e. omega arith))
     (checked-carries g p factors messages marginals once (figureOf g p) work)

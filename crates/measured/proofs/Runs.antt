@@ -18,7 +18,7 @@ use Rattle.job.proofs.Refusals.{number-most}
 use Rattle.job.specs.Job.{factor-room, zeros}
 use Rattle.records.specs.Records.{readAll}
 use Rattle.records.specs.declared.answer.Read.{Read}
-use Rattle.direct.specs.Direct.{runVerdict, directAnswer, directStore}
+use Rattle.direct.specs.Direct.{directVerdict, directAnswer, directStore}
 use Rattle.direct.specs.Told.{directTold}
 use Rattle.direct.specs.declared.Direct.{Direct}
 use Rattle.direct.specs.declared.Direct.the-variants.{Rows, Refused}
@@ -66,8 +66,8 @@ all-runs g factors s times n t en es = es ∙ ap (again g factors s) en
 
 pub eliminated-is : (bytes slots kept cleared : List ℕ) (messages : List Float) (read : Read) (factors messages′ : List Float) (d : Direct) (r : ℕ)
     → read ≡ readAll bytes (zeros factor-room) .answer
-    → factors ≡ readAll bytes (zeros factor-room) .store → d ≡ directAnswer (runVerdict (read .graph) slots kept cleared factors (length messages) work-numbers)
-    → messages′ ≡ directStore messages (runVerdict (read .graph) slots kept cleared factors (length messages) work-numbers) → r ≡ numberIn d
+    → factors ≡ readAll bytes (zeros factor-room) .store → d ≡ directAnswer (directVerdict (read .graph) slots kept cleared factors (length messages) work-numbers)
+    → messages′ ≡ directStore messages (directVerdict (read .graph) slots kept cleared factors (length messages) work-numbers) → r ≡ numberIn d
     → (r ≡ numberIn (directAnswer (eliminated (readJob bytes) slots kept cleared (length messages)))) ×
     (messages′ ≡ directStore messages (eliminated (readJob bytes) slots kept cleared (length messages)))
 unfolding eliminated
