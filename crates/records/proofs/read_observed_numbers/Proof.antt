@@ -4,6 +4,7 @@ use mathlib.Core.Path.{_≡_, refl}
 use mathlib.Core.Bool.{Bool, true, false}
 use mathlib.Core.List.{List, _++_}
 use native.Mathlib.Nat.{mul-le-mul}
+use Rattle.factor.specs.Limits.{max-rows}
 use native.Mathlib.Omega.{arith}
 use borrow.Author.Tests.{ltb-false}
 use lib.Ieee.{Float}
@@ -53,20 +54,16 @@ module _ (g : Graph) (store : List Float) (bytes keys : List ℕ) (rows : ℕ) (
   unfolding observedNumbers
   taken h a mean variance added r t ex em ew ea er et = rw (← ev, h, ← ex, ← em, ← ew, ← ea) (er, et)
 
-mul-square : tie.Need-mul-square
-mul-square c =
-    let pre = c .before .before .before .pre in
-    omega (arith, mul-le-mul (pre .1 .1) (pre .1 .1))
+small : (c : tie.Start) → c .args .rows * c .args .rows ≤ max-rows * max-rows
+small c = mul-le-mul (c .pre .1 .1) (c .pre .1 .1)
 
-add-all-2 : tie.Need-add-all-2
-add-all-2 c =
-    let pre = c .before .before .before .before .pre in
-    omega (arith, mul-le-mul (pre .1 .1) (pre .1 .1), c .given .ensures .1)
-
-mul-all : tie.Need-mul-all
-mul-all c =
-    let pre = c .before .before .before .before .pre in
-    omega (arith, mul-le-mul (pre .1 .1) (pre .1 .1), c .given .ensures .1)
+-- where nothing is cut all numbers are there
+whole : (c : tie.Start) (v : ℕ) (b : Bool) → (v ≡ givenNumbers (c .args .flag) (c .args .rows)) × (v ≤ max-rows * max-rows)
+    → b ≡ cut (c .args .bytes .now) (c .args .at) (8 * (c .args .n + c .args .rows + v)) → b ≡ false
+    → (c .args .rows * c .args .rows ≤ max-rows * max-rows) × (v ≡ givenNumbers (c .args .flag) (c .args .rows)) × (v ≤ max-rows * max-rows)
+    × (c .args .at + 8 * (c .args .n + c .args .rows + givenNumbers (c .args .flag) (c .args .rows)) ≤ length (c .args .bytes .now))
+whole c v b e t h =
+    (small c, e .0, e .1, of-all (c .args .bytes .now) (c .args .at) (c .args .n + c .args .rows) v (givenNumbers (c .args .flag) (c .args .rows)) b (e .0) t h)
 
 returns : tie.Need-returns
 returns c =
@@ -74,133 +71,6 @@ returns c =
     turned (args .g) (args .store .now) _ _ BadRecord _ (cut-short (args .g) (args .store .now) (args .bytes .now) (args .keys .now) (args .rows)
     (args .flag) (args .n) (args .at) _ (c .before .before .before .given .ensures .0)
     (tells (c .before .before .cut .ensures) (c .before .if1 .taken))) (c .stop .ensures) refl
-
-add-end : tie.Need-add-end
-add-end c =
-    let entry = c .before .before .before .before .before .before in
-    let pre = entry .pre in
-    let args = entry .args in
-    let the-given = c .before .before .given in
-    omega (
-      arith,
-      mul-le-mul (pre .1 .1) (pre .1 .1),
-      the-given .ensures .0,
-      the-given .ensures .1,
-      of-all (args .bytes .now) (args .at) (args .n + args .rows) (the-given .result) (givenNumbers (args .flag) (args .rows)) (c .before .cut .result)
-          (the-given .ensures .0) (c .before .cut .ensures) (c .if1 .left),
-    )
-
-numbers-requires : tie.Need-numbers-requires
-numbers-requires c κs =
-    let entry = c .before .before .before .before .before .before .before in
-    let the-cut = c .before .before .cut in
-    let args = entry .args in
-    let pre = entry .pre in
-    let the-given = c .before .before .before .given in
-    omega (
-      arith,
-      mul-le-mul (pre .1 .1) (pre .1 .1),
-      the-given .ensures .0,
-      the-given .ensures .1,
-      of-all (args .bytes .now) (args .at) (args .n + args .rows) (the-given .result) (givenNumbers (args .flag) (args .rows)) (the-cut .result)
-          (the-given .ensures .0) (the-cut .ensures) (c .before .if1 .left),
-    )
-
-mul-numbers : tie.Need-mul-numbers
-mul-numbers c =
-    let entry = c .before .before .before .before .before .before .before .before .before in
-    let the-cut = c .before .before .before .before .cut in
-    let args = entry .args in
-    let pre = entry .pre in
-    let the-given = c .before .before .before .before .before .given in
-    omega (
-      arith,
-      mul-le-mul (pre .1 .1) (pre .1 .1),
-      the-given .ensures .0,
-      the-given .ensures .1,
-      of-all (args .bytes .now) (args .at) (args .n + args .rows) (the-given .result) (givenNumbers (args .flag) (args .rows)) (the-cut .result)
-          (the-given .ensures .0) (the-cut .ensures) (c .before .before .before .if1 .left),
-    )
-
-add-numbers : tie.Need-add-numbers
-add-numbers c =
-    let entry = c .before .before .before .before .before .before .before .before .before in
-    let the-cut = c .before .before .before .before .cut in
-    let args = entry .args in
-    let pre = entry .pre in
-    let the-given = c .before .before .before .before .before .given in
-    omega (
-      arith,
-      mul-le-mul (pre .1 .1) (pre .1 .1),
-      the-given .ensures .0,
-      the-given .ensures .1,
-      of-all (args .bytes .now) (args .at) (args .n + args .rows) (the-given .result) (givenNumbers (args .flag) (args .rows)) (the-cut .result)
-          (the-given .ensures .0) (the-cut .ensures) (c .before .before .before .if1 .left),
-    )
-
-numbers-requires-2 : tie.Need-numbers-requires-2
-numbers-requires-2 c κs =
-    let entry = c .before .before .before .before .before .before .before .before .before .before in
-    let the-cut = c .before .before .before .before .before .cut in
-    let args = entry .args in
-    let pre = entry .pre in
-    let the-given = c .before .before .before .before .before .before .given in
-    omega (
-      arith,
-      mul-le-mul (pre .1 .1) (pre .1 .1),
-      the-given .ensures .0,
-      the-given .ensures .1,
-      of-all (args .bytes .now) (args .at) (args .n + args .rows) (the-given .result) (givenNumbers (args .flag) (args .rows)) (the-cut .result)
-          (the-given .ensures .0) (the-cut .ensures) (c .before .before .before .before .if1 .left),
-    )
-
-add-read-variance : tie.Need-add-read-variance
-add-read-variance c =
-    let entry = c .before .before .before .before .before .before .before .before .before .before .before .before in
-    let args = entry .args in
-    let pre = entry .pre in
-    let the-given = c .before .before .before .before .before .before .before .before .given in
-    let the-cut = c .before .before .before .before .before .before .before .cut in
-    omega (
-      arith,
-      mul-le-mul (pre .1 .1) (pre .1 .1),
-      the-given .ensures .0,
-      the-given .ensures .1,
-      of-all (args .bytes .now) (args .at) (args .n + args .rows) (the-given .result) (givenNumbers (args .flag) (args .rows)) (the-cut .result)
-          (the-given .ensures .0) (the-cut .ensures) (c .before .before .before .before .before .before .if1 .left),
-    )
-
-mul-read-variance : tie.Need-mul-read-variance
-mul-read-variance c =
-    let entry = c .before .before .before .before .before .before .before .before .before .before .before .before in
-    let args = entry .args in
-    let pre = entry .pre in
-    let the-given = c .before .before .before .before .before .before .before .before .given in
-    let the-cut = c .before .before .before .before .before .before .before .cut in
-    omega (
-      arith,
-      mul-le-mul (pre .1 .1) (pre .1 .1),
-      the-given .ensures .0,
-      the-given .ensures .1,
-      of-all (args .bytes .now) (args .at) (args .n + args .rows) (the-given .result) (givenNumbers (args .flag) (args .rows)) (the-cut .result)
-          (the-given .ensures .0) (the-cut .ensures) (c .before .before .before .before .before .before .if1 .left),
-    )
-
-add-read-variance-2 : tie.Need-add-read-variance-2
-add-read-variance-2 c =
-    let entry = c .before .before .before .before .before .before .before .before .before .before .before .before in
-    let args = entry .args in
-    let pre = entry .pre in
-    let the-given = c .before .before .before .before .before .before .before .before .given in
-    let the-cut = c .before .before .before .before .before .before .before .cut in
-    omega (
-      arith,
-      mul-le-mul (pre .1 .1) (pre .1 .1),
-      the-given .ensures .0,
-      the-given .ensures .1,
-      of-all (args .bytes .now) (args .at) (args .n + args .rows) (the-given .result) (givenNumbers (args .flag) (args .rows)) (the-cut .result)
-          (the-given .ensures .0) (the-cut .ensures) (c .before .before .before .before .before .before .if1 .left),
-    )
 
 read-variance-requires : tie.Need-read-variance-requires
 read-variance-requires c κs =
@@ -219,12 +89,6 @@ read-variance-requires c κs =
       ),
       (pre .1 .0, pre .1 .1, mul-le-mul (pre .1 .1) (pre .1 .1)),
     )
-
-part-enter-observation-end-3 : tie.Need-part-enter-observation-end-3
-part-enter-observation-end-3 c =
-    let pre = c .before .before .before .before .before .before .before .before .before .before .before .before .before .before .before .before
-    .before .before .before .before .pre in
-    omega (arith, mul-le-mul (pre .1 .1) (pre .1 .1))
 
 returns-2 : tie.Need-returns-2
 returns-2 c =
@@ -248,17 +112,25 @@ returns-2 c =
 
 pub read-observed-numbers-spec : {M : Type 1} → statement M
 read-observed-numbers-spec =
-    tie.close (tie.spec mul-square
+    tie.close (tie.spec
+    (λ c. omega (arith, small (c .before .before .before)))  -- mul-square
     (λ c. search needs)  -- add-all
     (λ c κs. search needs)  -- given-requires
-    add-all-2 mul-all
+    (λ c. omega (arith, small (c .before .before .before .before), c .given .ensures .1))  -- add-all-2
+    (λ c. omega (arith, small (c .before .before .before .before), c .given .ensures .1))  -- mul-all
     (λ c κs. search needs)  -- cut-requires
     (λ c κs. search needs)  -- stop-requires
-    returns add-end
+    returns
+    (λ c. omega (arith, whole (c .before .before .before .before .before .before) _ _ (c .before .before .given .ensures) (c .before .cut .ensures) (c .if1 .left)))  -- add-end
     (λ c. search needs)  -- slice-aggregate-numbers
-    numbers-requires mul-numbers add-numbers
+    (λ c κs. omega (arith, whole (c .before .before .before .before .before .before .before) _ _ (c .before .before .before .given .ensures) (c .before .before .cut .ensures) (c .before .if1 .left)))  -- numbers-requires
+    (λ c. omega (arith, whole (c .before .before .before .before .before .before .before .before .before) _ _ (c .before .before .before .before .before .given .ensures) (c .before .before .before .before .cut .ensures) (c .before .before .before .if1 .left)))  -- mul-numbers
+    (λ c. omega (arith, whole (c .before .before .before .before .before .before .before .before .before) _ _ (c .before .before .before .before .before .given .ensures) (c .before .before .before .before .cut .ensures) (c .before .before .before .if1 .left)))  -- add-numbers
     (λ c. search needs)  -- slice-aggregate-numbers-2
-    numbers-requires-2 add-read-variance mul-read-variance add-read-variance-2
+    (λ c κs. omega (arith, whole (c .before .before .before .before .before .before .before .before .before .before) _ _ (c .before .before .before .before .before .before .given .ensures) (c .before .before .before .before .before .cut .ensures) (c .before .before .before .before .if1 .left)))  -- numbers-requires-2
+    (λ c. omega (arith, whole (c .before .before .before .before .before .before .before .before .before .before .before .before) _ _ (c .before .before .before .before .before .before .before .before .given .ensures) (c .before .before .before .before .before .before .before .cut .ensures) (c .before .before .before .before .before .before .if1 .left)))  -- add-read-variance
+    (λ c. omega (arith, whole (c .before .before .before .before .before .before .before .before .before .before .before .before) _ _ (c .before .before .before .before .before .before .before .before .given .ensures) (c .before .before .before .before .before .before .before .cut .ensures) (c .before .before .before .before .before .before .if1 .left)))  -- mul-read-variance
+    (λ c. omega (arith, whole (c .before .before .before .before .before .before .before .before .before .before .before .before) _ _ (c .before .before .before .before .before .before .before .before .given .ensures) (c .before .before .before .before .before .before .before .cut .ensures) (c .before .before .before .before .before .before .if1 .left)))  -- add-read-variance-2
     (λ c. search needs)  -- slice-aggregate-read-variance
     read-variance-requires
     (λ c. search needs)  -- sub-enter-observation
@@ -269,7 +141,7 @@ read-observed-numbers-spec =
     (λ c. search needs)  -- part-enter-observation-end-2
     (λ c. search needs)  -- sub-enter-observation-3
     (λ c. search needs)  -- part-enter-observation-start-3
-    part-enter-observation-end-3
+    (λ c. omega (arith, small (c .before .before .before .before .before .before .before .before .before .before .before .before .before .before .before .before .before .before .before .before)))  -- part-enter-observation-end-3
     (λ c κs. search needs)  -- enter-observation-requires
     (λ c κs. search needs)  -- went-requires
     (λ c. search needs)  -- same-length

@@ -1,9 +1,11 @@
 -- `records::read_prior_numbers` meets its contract: the arrays have room for a key of the largest size. Assumes nothing.
-use Prim.Native.Nat.{ℕ, _+_, _*_}
+use Prim.Native.Nat.{ℕ, _+_, _*_, _≤_}
 use mathlib.Core.Path.{_≡_, refl}
-use mathlib.Core.Bool.{true, false}
+use mathlib.Core.Bool.{Bool, true, false}
 use mathlib.Core.List.{List}
 use native.Mathlib.Nat.{mul-le-mul}
+use lib.ListN.{length}
+use Rattle.factor.specs.Limits.{max-size}
 use native.Mathlib.Omega.{arith}
 use lib.Ieee.{Float}
 use Rattle.factor.proofs.Counting.{tells}
@@ -32,120 +34,19 @@ module _ (g : Graph) (store : List Float) (bytes : List ℕ) (key s at : ℕ) wh
   unfolding priorNumbers
   taken h mean variance added r t em ev ea er et = rw (h, ← em, ← ev, ← ea) (er, et)
 
-mul-square : tie.Need-mul-square
-mul-square c =
-    let pre = c .before .before .pre in
-    omega (arith, mul-le-mul (pre .1) (pre .1))
+small : (c : tie.Start) → c .args .s * c .args .s ≤ max-size * max-size
+small c = mul-le-mul (c .pre .1) (c .pre .1)
 
-add-cut : tie.Need-add-cut
-add-cut c =
-    let pre = c .before .before .pre in
-    omega (arith, mul-le-mul (pre .1) (pre .1))
-
-mul-cut : tie.Need-mul-cut
-mul-cut c =
-    let pre = c .before .before .pre in
-    omega (arith, mul-le-mul (pre .1) (pre .1))
+-- where nothing is cut all numbers are there
+whole : (c : tie.Start) (b : Bool) → b ≡ cut (c .args .bytes .now) (c .args .at) (8 * (c .args .s + c .args .s * c .args .s)) → b ≡ false
+    → (c .args .s * c .args .s ≤ max-size * max-size) × (c .args .at + 8 * (c .args .s + c .args .s * c .args .s) ≤ length (c .args .bytes .now))
+whole c b e h = (small c, there (c .args .bytes .now) (c .args .at) (8 * (c .args .s + c .args .s * c .args .s)) (tells e h))
 
 returns : tie.Need-returns
 returns c =
     let args = c .before .before .before .before .before .args in
     turned (args .g) (args .store .now) _ _ BadRecord _ (cut-short (args .g) (args .store .now) (args .bytes .now) (args .key) (args .s) (args .at)
     (tells (c .before .before .cut .ensures) (c .before .if1 .taken))) (c .stop .ensures) refl
-
-add-end : tie.Need-add-end
-add-end c =
-    let entry = c .before .before .before .before in
-    let pre = entry .pre in
-    let args = entry .args in
-    omega (
-      arith,
-      mul-le-mul (pre .1) (pre .1),
-      there (args .bytes .now) (args .at) (8 * (args .s + args .s * args .s))
-          (tells (c .before .cut .ensures) (c .if1 .left)),
-    )
-
-mul-end : tie.Need-mul-end
-mul-end c =
-    let entry = c .before .before .before .before in
-    let pre = entry .pre in
-    let args = entry .args in
-    omega (
-      arith,
-      mul-le-mul (pre .1) (pre .1),
-      there (args .bytes .now) (args .at) (8 * (args .s + args .s * args .s))
-          (tells (c .before .cut .ensures) (c .if1 .left)),
-    )
-
-add-end-2 : tie.Need-add-end-2
-add-end-2 c =
-    let entry = c .before .before .before .before in
-    let pre = entry .pre in
-    let args = entry .args in
-    omega (
-      arith,
-      mul-le-mul (pre .1) (pre .1),
-      there (args .bytes .now) (args .at) (8 * (args .s + args .s * args .s))
-          (tells (c .before .cut .ensures) (c .if1 .left)),
-    )
-
-numbers-requires : tie.Need-numbers-requires
-numbers-requires c κs =
-    let entry = c .before .before .before .before .before in
-    let pre = entry .pre in
-    let args = entry .args in
-    omega (
-      arith,
-      mul-le-mul (pre .1) (pre .1),
-      there (args .bytes .now) (args .at) (8 * (args .s + args .s * args .s))
-          (tells (c .before .before .cut .ensures) (c .before .if1 .left)),
-    )
-
-mul-numbers : tie.Need-mul-numbers
-mul-numbers c =
-    let entry = c .before .before .before .before .before .before .before in
-    let args = entry .args in
-    let pre = entry .pre in
-    omega (
-      arith,
-      mul-le-mul (pre .1) (pre .1),
-      there (args .bytes .now) (args .at) (8 * (args .s + args .s * args .s))
-          (tells (c .before .before .before .before .cut .ensures) (c .before .before .before .if1 .left)),
-    )
-
-add-numbers : tie.Need-add-numbers
-add-numbers c =
-    let entry = c .before .before .before .before .before .before .before in
-    let args = entry .args in
-    let pre = entry .pre in
-    omega (
-      arith,
-      mul-le-mul (pre .1) (pre .1),
-      there (args .bytes .now) (args .at) (8 * (args .s + args .s * args .s))
-          (tells (c .before .before .before .before .cut .ensures) (c .before .before .before .if1 .left)),
-    )
-
-numbers-requires-2 : tie.Need-numbers-requires-2
-numbers-requires-2 c κs =
-    let entry = c .before .before .before .before .before .before .before .before in
-    let args = entry .args in
-    let pre = entry .pre in
-    omega (
-      arith,
-      mul-le-mul (pre .1) (pre .1),
-      there (args .bytes .now) (args .at) (8 * (args .s + args .s * args .s))
-          (tells (c .before .before .before .before .before .cut .ensures) (c .before .before .before .before .if1 .left)),
-    )
-
-part-enter-prior-end : tie.Need-part-enter-prior-end
-part-enter-prior-end c =
-    let pre = c .before .before .before .before .before .before .before .before .before .before .before .pre in
-    omega (arith, mul-le-mul (pre .1) (pre .1))
-
-part-enter-prior-end-2 : tie.Need-part-enter-prior-end-2
-part-enter-prior-end-2 c =
-    let pre = c .before .before .before .before .before .before .before .before .before .before .before .before .before .pre in
-    omega (arith, mul-le-mul (pre .1) (pre .1))
 
 returns-2 : tie.Need-returns-2
 returns-2 c =
@@ -163,20 +64,28 @@ returns-2 c =
 
 pub read-prior-numbers-spec : {M : Type 1} → statement M
 read-prior-numbers-spec =
-    tie.close (tie.spec mul-square add-cut mul-cut
+    tie.close (tie.spec
+    (λ c. omega (arith, small (c .before .before)))  -- mul-square
+    (λ c. omega (arith, small (c .before .before)))  -- add-cut
+    (λ c. omega (arith, small (c .before .before)))  -- mul-cut
     (λ c κs. search needs)  -- cut-requires
     (λ c κs. search needs)  -- stop-requires
-    returns add-end mul-end add-end-2
+    returns
+    (λ c. omega (arith, whole (c .before .before .before .before) _ (c .before .cut .ensures) (c .if1 .left)))  -- add-end
+    (λ c. omega (arith, whole (c .before .before .before .before) _ (c .before .cut .ensures) (c .if1 .left)))  -- mul-end
+    (λ c. omega (arith, whole (c .before .before .before .before) _ (c .before .cut .ensures) (c .if1 .left)))  -- add-end-2
     (λ c. search needs)  -- slice-aggregate-numbers
-    numbers-requires mul-numbers add-numbers
+    (λ c κs. omega (arith, whole (c .before .before .before .before .before) _ (c .before .before .cut .ensures) (c .before .if1 .left)))  -- numbers-requires
+    (λ c. omega (arith, whole (c .before .before .before .before .before .before .before) _ (c .before .before .before .before .cut .ensures) (c .before .before .before .if1 .left)))  -- mul-numbers
+    (λ c. omega (arith, whole (c .before .before .before .before .before .before .before) _ (c .before .before .before .before .cut .ensures) (c .before .before .before .if1 .left)))  -- add-numbers
     (λ c. search needs)  -- slice-aggregate-numbers-2
-    numbers-requires-2
+    (λ c κs. omega (arith, whole (c .before .before .before .before .before .before .before .before) _ (c .before .before .before .before .before .cut .ensures) (c .before .before .before .before .if1 .left)))  -- numbers-requires-2
     (λ c. search needs)  -- sub-enter-prior
     (λ c. search needs)  -- part-enter-prior-start
-    part-enter-prior-end
+    (λ c. omega (arith, small (c .before .before .before .before .before .before .before .before .before .before .before)))  -- part-enter-prior-end
     (λ c. search needs)  -- sub-enter-prior-2
     (λ c. search needs)  -- part-enter-prior-start-2
-    part-enter-prior-end-2
+    (λ c. omega (arith, small (c .before .before .before .before .before .before .before .before .before .before .before .before .before)))  -- part-enter-prior-end-2
     (λ c κs. search needs)  -- enter-prior-requires
     (λ c κs. search needs)  -- went-requires
     (λ c. search needs)  -- same-length
