@@ -66,7 +66,8 @@ all-runs g factors s times n t en es = es ∙ ap (again g factors s) en
 
 pub eliminated-is : (bytes slots kept cleared : List ℕ) (messages : List Float) (read : Read) (factors messages′ : List Float) (d : Direct) (r : ℕ)
     → read ≡ readAll bytes (zeros factor-room) .answer
-    → factors ≡ readAll bytes (zeros factor-room) .store → d ≡ directAnswer (directVerdict (read .graph) slots kept cleared factors (length messages) work-numbers)
+    → factors ≡ readAll bytes (zeros factor-room) .store → d ≡ directAnswer
+    (directVerdict (read .graph) slots kept cleared factors (length messages) work-numbers)
     → messages′ ≡ directStore messages (directVerdict (read .graph) slots kept cleared factors (length messages) work-numbers) → r ≡ numberIn d
     → (r ≡ numberIn (directAnswer (eliminated (readJob bytes) slots kept cleared (length messages)))) ×
     (messages′ ≡ directStore messages (eliminated (readJob bytes) slots kept cleared (length messages)))

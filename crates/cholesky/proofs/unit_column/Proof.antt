@@ -33,18 +33,15 @@ loop-again : tie.Need-loop-again Inv-loop μ-loop
 unfolding unitColumn ofBits
 loop-again c =
     let l = c .before .before .loop in
-    ⊎-elim
-    (λ w. (
+    ⊎-elim (λ w. (
       omega arith,
       omega (arith, ap length (w .5), w .2 .kept .0),
       steps-more _ _ _ _ _ _ _ (l .inv .2) (rw (eq-eqb _ _ (w .0 .taken))) (w .5 ∙ w .2 .ensures),
-    ))
-    (λ w. (
+    )) (λ w. (
       omega arith,
       omega (arith, ap length (w .5), w .2 .kept .0),
       steps-more _ _ _ _ _ _ _ (l .inv .2) (rw (ne-eqb _ _ (w .0 .left))) (w .5 ∙ w .2 .ensures),
-    ))
-    (c .if1 .came)
+    )) (c .if1 .came)
 
 pub unit-column-spec : {M : Type 1} → statement M
 unit-column-spec =

@@ -68,12 +68,12 @@ offset-requires c κs = (
 
 returns-6 : tie.Need-returns-6
 returns-6 c =
-    let args = c .before .before .before .before .before .before .before .before .before .before .before .before .before .before .before .before .args in
+    let back8 = c .before .before .before .before .before .before .before .before in
+    let back16 = back8 .before .before .before .before .before .before .before .before in
+    let args = back16 .args in
     store-short (args .g) (args .slots .now) (args .kept .now) (args .cleared .now) (args .factors .now)
-    (tells (c .before .before .before .before .before .before .before .before .before .before .before .valid .ensures .0)
-    (not-false _ (c .before .before .before .before .before .before .before .before .before .before .if1 .left)))
-    (tells (c .before .before .before .before .before .before .before .before .before .counts-fit .ensures)
-    (not-false _ (c .before .before .before .before .before .before .before .before .if2 .left)))
+    (tells (back8 .before .before .before .valid .ensures .0) (not-false _ (back8 .before .before .if1 .left)))
+    (tells (back8 .before .counts-fit .ensures) (not-false _ (back8 .if2 .left)))
     (tells (c .before .before .before .before .before .before .before .lists-fit .ensures)
     (not-false _ (c .before .before .before .before .before .before .if3 .left)))
     (tells (c .before .before .before .before .before .all-known .ensures) (not-false _ (c .before .before .before .before .if4 .left)))
@@ -81,12 +81,12 @@ returns-6 c =
 
 returns-7 : tie.Need-returns-7
 returns-7 c =
-    let args = c .before .before .before .before .before .before .before .before .before .before .before .before .before .before .before .before .args in
+    let back8 = c .before .before .before .before .before .before .before .before in
+    let back16 = back8 .before .before .before .before .before .before .before .before in
+    let args = back16 .args in
     all-passed (args .g) (args .slots .now) (args .kept .now) (args .cleared .now) (args .factors .now)
-    (tells (c .before .before .before .before .before .before .before .before .before .before .before .valid .ensures .0)
-    (not-false _ (c .before .before .before .before .before .before .before .before .before .before .if1 .left)))
-    (tells (c .before .before .before .before .before .before .before .before .before .counts-fit .ensures)
-    (not-false _ (c .before .before .before .before .before .before .before .before .if2 .left)))
+    (tells (back8 .before .before .before .valid .ensures .0) (not-false _ (back8 .before .before .if1 .left)))
+    (tells (back8 .before .counts-fit .ensures) (not-false _ (back8 .if2 .left)))
     (tells (c .before .before .before .before .before .before .before .lists-fit .ensures)
     (not-false _ (c .before .before .before .before .before .before .if3 .left)))
     (tells (c .before .before .before .before .before .all-known .ensures) (not-false _ (c .before .before .before .before .if4 .left)))

@@ -12,9 +12,9 @@ use Rattle.direct.proofs.eliminate.Tie as tie
 returns : tie.Need-returns
 returns c =
     let args = c .before .before .before .before .before .before .before .before .before .before .args in
-    verdict-tells _ _ _ _
-    (turned-back _ _ (args .messages .now) (stopped (args .g) (args .slots .now) (args .kept .now) (args .cleared .now) (args .factors .now)
-    (length (args .messages .now)) (length (args .work .now)) _ (tells (c .before .why .given .1) (c .before .before .before .check .ensures))))
+    verdict-tells _ _ _ _ (turned-back _ _ (args .messages .now) (stopped (args .g) (args .slots .now) (args .kept .now) (args .cleared .now)
+    (args .factors .now) (length (args .messages .now)) (length (args .work .now)) _
+    (tells (c .before .why .given .1) (c .before .before .before .check .ensures))))
 
 fill-originals-requires : tie.Need-fill-originals-requires
 fill-originals-requires c κs =

@@ -45,42 +45,40 @@ eliminate-slots-requires c κs =
 
 returns-3 : tie.Need-returns-3
 returns-3 c =
-    let entry = c .before .before .before .before .before .before .before .before .before .before .before .before .before .before .before .before
-    .before .before .before .before .before .before in
+    let back8 = c .before .before .before .before .before .before .before .before in
+    let back16 = back8 .before .before .before .before .before .before .before .before in
+    let entry = back16 .before .before .before .before .before .before in
     let args = entry .args in
     let pre = entry .pre in
     let eliminate-slots = c .before .before .before .before .before .before .before .eliminate-slots in
     of-rows (args .g) (args .slots .now) (args .kept .now) (args .cleared .now) (args .factors .now) (pre .0) (args .keys .now) (args .heads .now)
-    (pre .1) (args .messages .now) (length (args .work .now)) _ (c .before .before .before .before .before .before .before .before .before .before
-    .before .before .message-numbers .ensures) (c .before .before .before .before .before .before .before .before .before .before .before .if1
-    .left) (c .before .before .before .before .before .before .before .before .before .before .if2 .left) _ _ (eliminate-slots .ensures .0)
-    (eliminate-slots .ensures .1 .0) _ (c .before .rows .given .1)
+    (pre .1) (args .messages .now) (length (args .work .now)) _ (back8 .before .before .before .before .message-numbers .ensures)
+    (back8 .before .before .before .if1 .left) (back8 .before .before .if2 .left) _ _ (eliminate-slots .ensures .0) (eliminate-slots .ensures .1 .0)
+    _ (c .before .rows .given .1)
 
 returns-4 : tie.Need-returns-4
 returns-4 c =
-    let entry = c .before .before .before .before .before .before .before .before .before .before .before .before .before .before .before .before
-    .before .before .before .before .before in
+    let back8 = c .before .before .before .before .before .before .before .before in
+    let back16 = back8 .before .before .before .before .before .before .before .before in
+    let entry = back16 .before .before .before .before .before in
     let args = entry .args in
     let pre = entry .pre in
     let eliminate-slots = c .before .before .before .before .before .before .eliminate-slots in
     of-pivot (args .g) (args .slots .now) (args .kept .now) (args .cleared .now) (args .factors .now) (pre .0) (args .keys .now) (args .heads .now)
-    (pre .1) (args .messages .now) (length (args .work .now)) _ (c .before .before .before .before .before .before .before .before .before .before
-    .before .message-numbers .ensures) (c .before .before .before .before .before .before .before .before .before .before .if1 .left)
-    (c .before .before .before .before .before .before .before .before .before .if2 .left) _ _ (eliminate-slots .ensures .0)
-    (eliminate-slots .ensures .1 .0) (c .enum-told .given .1)
+    (pre .1) (args .messages .now) (length (args .work .now)) _ (back8 .before .before .before .message-numbers .ensures)
+    (back8 .before .before .if1 .left) (back8 .before .if2 .left) _ _ (eliminate-slots .ensures .0) (eliminate-slots .ensures .1 .0) (c .enum-told .given .1)
 
 returns-5 : tie.Need-returns-5
 returns-5 c =
-    let entry = c .before .before .before .before .before .before .before .before .before .before .before .before .before .before .before .before
-    .before .before .before .before .before in
+    let back8 = c .before .before .before .before .before .before .before .before in
+    let back16 = back8 .before .before .before .before .before .before .before .before in
+    let entry = back16 .before .before .before .before .before in
     let args = entry .args in
     let pre = entry .pre in
     let eliminate-slots = c .before .before .before .before .before .before .eliminate-slots in
     of-overflow (args .g) (args .slots .now) (args .kept .now) (args .cleared .now) (args .factors .now) (pre .0) (args .keys .now) (args .heads .now)
-    (pre .1) (args .messages .now) (length (args .work .now)) _ (c .before .before .before .before .before .before .before .before .before .before
-    .before .message-numbers .ensures) (c .before .before .before .before .before .before .before .before .before .before .if1 .left)
-    (c .before .before .before .before .before .before .before .before .before .if2 .left) _ _ (eliminate-slots .ensures .0)
-    (eliminate-slots .ensures .1 .0) (c .enum-told2 .given .1)
+    (pre .1) (args .messages .now) (length (args .work .now)) _ (back8 .before .before .before .message-numbers .ensures)
+    (back8 .before .before .if1 .left) (back8 .before .if2 .left) _ _ (eliminate-slots .ensures .0) (eliminate-slots .ensures .1 .0) (c .enum-told2 .given .1)
 
 pub eliminate-from-spec : {M : Type 1} → statement M
 eliminate-from-spec =

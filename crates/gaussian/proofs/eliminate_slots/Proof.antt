@@ -45,9 +45,8 @@ returns c =
     let g = c .before .before .before .before .before .before .before .before .before .before .before .before .before .before .before .before .before
     .before .before .before .before .before .before .good in
     let n : length (args .sizes) ≡ 32 = omega arith in
-    stored-tells _ _ _ _ _
-    (message-sent n (c .before .before .before .before .before .before .before .before .before .before .before .before .before .before .before .before
-    .before .before .before .before .before .before .before .pre .0) _ (eliminate-in .ensures .0) _
+    stored-tells _ _ _ _ _ (message-sent n (c .before .before .before .before .before .before .before .before .before .before .before .before .before
+    .before .before .before .before .before .before .before .before .before .before .pre .0) _ (eliminate-in .ensures .0) _
     (c .before .before .before .before .before .before .before .before .rows .given .1) _ (eliminate-in .ensures .1) _ _ (args .to)
     (rw (← c .before .before .before .before .before .before .dim-of .ensures, ← c .before .before .before .before .before .dim-of2 .ensures)
     (c .before .before .send .ensures)))
@@ -55,18 +54,16 @@ returns c =
 returns-2 : tie.Need-returns-2
 returns-2 c =
     let args = c .before .before .before .before .before .before .before .before .before .before .before .before .before .before .before .args in
-    stored-tells _ _ _ _ _
-    (pivot-stored (eliminate (viewsOf (args .factors .now) (args .messages .now) (args .keys .now) (args .heads .now) (args .slots .now))
-    (args .kept .now) (args .cleared .now) (args .sizes)) _ (c .before .before .before .before .eliminate-in .ensures .0) _ (args .to)
-    (c .enum-told .given .1))
+    stored-tells _ _ _ _ _ (pivot-stored (eliminate (viewsOf (args .factors .now) (args .messages .now) (args .keys .now) (args .heads .now)
+    (args .slots .now)) (args .kept .now) (args .cleared .now) (args .sizes)) _ (c .before .before .before .before .eliminate-in .ensures .0) _
+    (args .to) (c .enum-told .given .1))
 
 returns-3 : tie.Need-returns-3
 returns-3 c =
     let args = c .before .before .before .before .before .before .before .before .before .before .before .before .before .before .before .args in
-    stored-tells _ _ _ _ _
-    (unbounded-stored (eliminate (viewsOf (args .factors .now) (args .messages .now) (args .keys .now) (args .heads .now) (args .slots .now))
-    (args .kept .now) (args .cleared .now) (args .sizes)) _ (c .before .before .before .before .eliminate-in .ensures .0) _ (args .to)
-    (c .enum-told2 .given .1))
+    stored-tells _ _ _ _ _ (unbounded-stored (eliminate (viewsOf (args .factors .now) (args .messages .now) (args .keys .now) (args .heads .now)
+    (args .slots .now)) (args .kept .now) (args .cleared .now) (args .sizes)) _ (c .before .before .before .before .eliminate-in .ensures .0) _
+    (args .to) (c .enum-told2 .given .1))
 
 pub eliminate-slots-spec : {M : Type 1} → statement M
 eliminate-slots-spec =

@@ -5,10 +5,12 @@ use Rattle.gaussian.proofs.lose.Statement.{statement}
 use Rattle.gaussian.proofs.lose.Tie as tie
 
 returns : tie.Need-returns
-returns c = lose-is _ _ _ _ _ _ _ _ (c .before .before .before .before .before .before .before .before .before .before .before .before .before .before
-    .before .before .before .before .solve-at .ensures) (c .before .before .before .before .before .before .before .before .before .before .before
-    .before .before .before .solve-at2 .ensures) (c .before .before .before .before .before .before .before .before .before .before .fill-upper-in-x
-    .ensures) (c .before .before .before .before .before .before .subtract-at .ensures) (c .before .before .subtract-at2 .ensures)
+returns c =
+    let back8 = c .before .before .before .before .before .before .before .before in
+    let back16 = back8 .before .before .before .before .before .before .before .before in
+    lose-is _ _ _ _ _ _ _ _ (back16 .before .before .solve-at .ensures) (back8 .before .before .before .before .before .before .solve-at2 .ensures)
+    (back8 .before .before .fill-upper-in-x .ensures) (c .before .before .before .before .before .before .subtract-at .ensures)
+    (c .before .before .subtract-at2 .ensures)
 
 pub lose-spec : {M : Type 1} → statement M
 lose-spec =

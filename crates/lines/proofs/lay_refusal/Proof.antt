@@ -30,8 +30,8 @@ returns-2 c =
     let first = c .before .before .before .before .before .before .put-refusal in
     let second = c .before .before .put-refusal2 in
     whole (args .out .now) _ _ (first .result) (of-number _ _ (first .result) (code .result) _ (args .stage) (args .place) (code .ensures)
-    (first .ensures) .place) (omega arith) (omega arith)
-    (of-number (args .out .now) _ (second .result) (code .result) _ (args .stage) (args .place) (code .ensures) (second .ensures) .buffer)
+    (first .ensures) .place) (omega arith) (omega arith) (of-number (args .out .now) _ (second .result) (code .result) _ (args .stage) (args .place)
+    (code .ensures) (second .ensures) .buffer)
 
 pub lay-refusal-spec : {M : Type 1} → statement M
 lay-refusal-spec =

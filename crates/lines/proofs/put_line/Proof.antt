@@ -25,14 +25,12 @@ returns c =
     let entry = c .before .before .before .before .before .before .before .before .before .before .before .before .before .before in
     let args = entry .args in
     let pre = entry .pre in
-    fits-after (args .out .now) _ _ (args .at) _ _ (decimal (args .key) ++ numbersText (args .values .now) (args .from) (args .n)) (feed ∷ [])
-    (omega (
+    fits-after (args .out .now) _ _ (args .at) _ _ (decimal (args .key) ++ numbersText (args .values .now) (args .from) (args .n)) (feed ∷ []) (omega (
       arith,
       pre .0,
       length-append (decimal (args .key)) (numbersText (args .values .now) (args .from) (args .n)),
       numbers-length (args .values .now) (args .from) (args .n),
-    )) (omega arith)
-    (puts-both (args .out .now) _ _ (args .at) _ _ (decimal (args .key)) (numbersText (args .values .now) (args .from) (args .n))
+    )) (omega arith) (puts-both (args .out .now) _ _ (args .at) _ _ (decimal (args .key)) (numbersText (args .values .now) (args .from) (args .n))
     (omega (arith, pre .0)) (fits (args .out .now) _ (args .at) _ (decimal (args .key)) (omega (arith, pre .0)) (omega arith)
     (c .before .before .before .before .before .before .before .before .before .before .put-decimal .ensures))
     (c .before .before .before .before .before .before .put-numbers .ensures)) (c .before .before .put .ensures)

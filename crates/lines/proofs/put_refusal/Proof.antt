@@ -7,10 +7,11 @@ use Rattle.lines.proofs.put_refusal.Tie as tie
 
 returns : tie.Need-returns
 unfolding refusalText
-returns c = both (both (both (both (c .before .before .before .before .before .before .before .before .before .before .before .before .before .before
-    .before .before .before .before .put-word .ensures) (c .before .before .before .before .before .before .before .before .before .before .before
-    .before .before .before .put-field .ensures)) (c .before .before .before .before .before .before .before .before .before .before .put-field2
-    .ensures)) (c .before .before .before .before .before .before .put-field3 .ensures)) (c .before .before .put .ensures)
+returns c =
+    let back8 = c .before .before .before .before .before .before .before .before in
+    let back16 = back8 .before .before .before .before .before .before .before .before in
+    both (both (both (both (back16 .before .before .put-word .ensures) (back8 .before .before .before .before .before .before .put-field .ensures))
+    (back8 .before .before .put-field2 .ensures)) (c .before .before .before .before .before .before .put-field3 .ensures)) (c .before .before .put .ensures)
 
 pub put-refusal-spec : {M : Type 1} → statement M
 put-refusal-spec =

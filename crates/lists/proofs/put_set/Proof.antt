@@ -32,14 +32,10 @@ loop-again c =
     let args = entry .args in
     let loop = c .before .before .before .loop in
     let single = c .before .single in
-    ⊎-elim
-    (λ w. put-in (λ i. args .shift + i) (λ i. has i (args .set)) (args .list .now) (loop .list) _ (args .at) (loop .to) (loop .j) (loop-test .taken)
-    (pre .0) (loop .inv) _
-    (in-set (args .set) (loop .j) (single .result) (single .ensures) (w .0 .taken)) (w .1) (w .2))
-    (λ w. put-off (λ i. args .shift + i) (λ i. has i (args .set)) (args .list .now) (loop .list) _ (args .at) (loop .to) (loop .j) (loop-test .taken)
-    (pre .0) (loop .inv) _
-    (off-set (args .set) (loop .j) (single .result) (single .ensures) (w .0 .left)) (w .1) (w .2))
-    (c .if1 .came)
+    ⊎-elim (λ w. put-in (λ i. args .shift + i) (λ i. has i (args .set)) (args .list .now) (loop .list) _ (args .at) (loop .to) (loop .j)
+    (loop-test .taken) (pre .0) (loop .inv) _ (in-set (args .set) (loop .j) (single .result) (single .ensures) (w .0 .taken)) (w .1) (w .2))
+    (λ w. put-off (λ i. args .shift + i) (λ i. has i (args .set)) (args .list .now) (loop .list) _ (args .at) (loop .to) (loop .j)
+    (loop-test .taken) (pre .0) (loop .inv) _ (off-set (args .set) (loop .j) (single .result) (single .ensures) (w .0 .left)) (w .1) (w .2)) (c .if1 .came)
 
 returns : tie.Need-returns Inv-loop μ-loop
 returns c =

@@ -22,12 +22,10 @@ loop-again c =
     let args = c .before .before .before .before .before .args in
     let loop = c .before .before .before .before .loop in
     let single64 = c .before .single64 in
-    ⊎-elim
-    (λ w. rw (w .1) (counted-again (args .items .now) (args .count) (loop .r) (loop .seen) (loop .i) (single64 .result) (omega arith) (omega arith)
-    (loop .inv) (single64 .ensures) (w .0 .taken)))
+    ⊎-elim (λ w. rw (w .1) (counted-again (args .items .now) (args .count) (loop .r) (loop .seen) (loop .i) (single64 .result) (omega arith)
+    (omega arith) (loop .inv) (single64 .ensures) (w .0 .taken)))
     (λ w. rw (w .1) (counted-new (args .items .now) (args .count) (loop .r) (loop .seen) (loop .i) (single64 .result) (omega arith) (omega arith)
-    (loop .inv) (single64 .ensures) (w .0 .left)))
-    (c .if1 .came)
+    (loop .inv) (single64 .ensures) (w .0 .left))) (c .if1 .came)
 
 returns : tie.Need-returns Inv-loop μ-loop
 returns c =

@@ -25,13 +25,14 @@ put-marginal-requires c κs =
 
 returns-2 : tie.Need-returns-2
 returns-2 c =
-    let args = c .before .before .before .before .before .before .before .before .before .before .before .before .before .before .before .before
-    .before .before .before .before .before .args in
-    let look = c .before .before .before .before .before .before .before .before .before .before .before .before .counted-twice in
-    let made = c .before .before .before .before .before .before .before .before .before .marginal-of in
+    let back8 = c .before .before .before .before .before .before .before .before in
+    let back16 = back8 .before .before .before .before .before .before .before .before in
+    let args = back16 .before .before .before .before .before .args in
+    let look = back8 .before .before .before .before .counted-twice in
+    let made = back8 .before .marginal-of in
     done-told (args .sizes) (args .factors .now) (args .messages .now) (args .keys .now) (args .heads .now) (args .key) (args .to) (args .q)
-    (args .results .now) (look .result) (look .ensures) (c .before .before .before .before .before .before .before .before .before .before .before
-    .if1 .left) (made .result) (made .ensures) (c .before .before .before .before .enum-told .given .1) _ (c .before .before .put-marginal .ensures)
+    (args .results .now) (look .result) (look .ensures) (back8 .before .before .before .if1 .left) (made .result) (made .ensures)
+    (c .before .before .before .before .enum-told .given .1) _ (c .before .before .put-marginal .ensures)
 
 returns-3 : tie.Need-returns-3
 returns-3 c =

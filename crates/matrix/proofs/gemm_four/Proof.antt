@@ -50,15 +50,13 @@ returns c =
     let dots = c .before .before .before .before .before .before .before .before .before .before .before .before .before .before .before .before .dots in
     let v = c .before .before .before .before .before .before .before .before .before .before .before .before .before .before .before .before .before
     .before .before .before .args in
-    λ u e.
-    row-met _ (v .how) _ _ _ _ _ _ (v .i + 3) (v .i + 4) u _ _ _ (omega arith)
+    λ u e. row-met _ (v .how) _ _ _ _ _ _ (v .i + 3) (v .i + 4) u _ _ _ (omega arith)
     (row-met _ (v .how) _ _ _ _ _ _ (v .i + 2) (v .i + 3) u _ _ _ (omega arith)
     (row-met _ (v .how) _ _ _ _ _ _ (v .i + 1) (v .i + 2) u _ _ _ (omega arith)
     (row-met _ (v .how) _ _ _ _ _ _ (v .i) (v .i + 1) u _ _ _ (omega arith) e (dots .ensures .0)
     (c .before .before .before .before .before .before .before .before .before .before .before .before .before .before .meet .ensures))
-    (dots .ensures .1) (c .before .before .before .before .before .before .before .before .before .before .meet2 .ensures))
-    (dots .ensures .2) (c .before .before .before .before .before .before .meet3 .ensures))
-    (dots .ensures .3) (c .before .before .meet4 .ensures)
+    (dots .ensures .1) (c .before .before .before .before .before .before .before .before .before .before .meet2 .ensures)) (dots .ensures .2)
+    (c .before .before .before .before .before .before .meet3 .ensures)) (dots .ensures .3) (c .before .before .meet4 .ensures)
 
 pub gemm-four-spec : {M : Type 1} → statement M
 gemm-four-spec =

@@ -136,14 +136,13 @@ returns c =
     let loop = c .before .before .before .before .before .before .before .before .before .before .before .before .before .loop in
     let eliminate-listed = c .before .before .before .before .before .before .eliminate-listed in
     let r = refused-pivot (args .g) (args .factors .now) (messagesOf (args .p)) (pre .0 .1) (args .shift) (args .start) (args .keys .now)
-    (args .heads .now) (args .messages .now) (loop .messages) (loop .to) (loop .j) (length (loop .work)) (pre .0 .2)
-    (omega (
+    (args .heads .now) (args .messages .now) (loop .messages) (loop .to) (loop .j) (length (loop .work)) (pre .0 .2) (omega (
       arith,
       messages-length (args .p),
       c .before .before .before .before .before .before .before .before .before .before .before .before
           .loop-test .taken,
-    )) (pre .1 .0 .0) (pre .1 .0 .1) sized (pre .1 .1 .0) (pre .1 .1 .1) (omega (arith, pre .1 .1 .2, loop .inv .1)) (loop .inv .0)
-    _ (c .before .before .before .before .before .before .before .before .before .before .message-lists .ensures) _ _ (eliminate-listed .ensures .0)
+    )) (pre .1 .0 .0) (pre .1 .0 .1) sized (pre .1 .1 .0) (pre .1 .1 .1) (omega (arith, pre .1 .1 .2, loop .inv .1)) (loop .inv .0) _
+    (c .before .before .before .before .before .before .before .before .before .before .message-lists .ensures) _ _ (eliminate-listed .ensures .0)
     (eliminate-listed .ensures .1) (c .enum-told2 .given .1) in
     (r .0, (r .1, (λ e. absurd (halted-through _ _ e), carried-tells _ _ (r .0))))
 
@@ -160,14 +159,13 @@ returns-2 c =
     let loop = c .before .before .before .before .before .before .before .before .before .before .before .before .before .loop in
     let eliminate-listed = c .before .before .before .before .before .before .eliminate-listed in
     let r = refused-unbounded (args .g) (args .factors .now) (messagesOf (args .p)) (pre .0 .1) (args .shift) (args .start) (args .keys .now)
-    (args .heads .now) (args .messages .now) (loop .messages) (loop .to) (loop .j) (length (loop .work)) (pre .0 .2)
-    (omega (
+    (args .heads .now) (args .messages .now) (loop .messages) (loop .to) (loop .j) (length (loop .work)) (pre .0 .2) (omega (
       arith,
       messages-length (args .p),
       c .before .before .before .before .before .before .before .before .before .before .before .before
           .loop-test .taken,
-    )) (pre .1 .0 .0) (pre .1 .0 .1) sized (pre .1 .1 .0) (pre .1 .1 .1) (omega (arith, pre .1 .1 .2, loop .inv .1)) (loop .inv .0)
-    _ (c .before .before .before .before .before .before .before .before .before .before .message-lists .ensures) _ _ (eliminate-listed .ensures .0)
+    )) (pre .1 .0 .0) (pre .1 .0 .1) sized (pre .1 .1 .0) (pre .1 .1 .1) (omega (arith, pre .1 .1 .2, loop .inv .1)) (loop .inv .0) _
+    (c .before .before .before .before .before .before .before .before .before .before .message-lists .ensures) _ _ (eliminate-listed .ensures .0)
     (eliminate-listed .ensures .1) (c .enum-told3 .given .1) in
     (r .0, (r .1, (λ e. absurd (halted-through _ _ e), carried-tells _ _ (r .0))))
 

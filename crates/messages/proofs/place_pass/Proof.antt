@@ -59,8 +59,8 @@ loop-again c =
       arith,
       messages-length (args .p),
       c .before .before .before .before .before .before .before .before .before .loop-test .taken,
-    )) sized (loop .inv) _
-    (c .before .before .before .before .before .before .before .message-lists .ensures) _ _ _ (c .before .before .before .before .place-listed .ensures)
+    )) sized (loop .inv) _ (c .before .before .before .before .before .before .before .message-lists .ensures) _ _ _
+    (c .before .before .before .before .place-listed .ensures)
 
 returns : tie.Need-returns Inv-loop μ-loop
 returns c =

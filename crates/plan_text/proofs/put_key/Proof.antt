@@ -9,15 +9,14 @@ use Rattle.plan_text.proofs.put_key.Tie as tie
 returns : tie.Need-returns
 unfolding keyText gatheredOf
 returns c =
-    let lead = c .before .before .before .before .before .before .before .before .before .before .before .before .before .before .before .before
-    .before .before .before .before .before .before .before .before .before .before .before .before .before .before .before .put-named .ensures in
-    let forward = c .before .before .before .before .before .before .before .before .before .before .before .before .before .before .before .before
-    .before .before .before .before .before .before .before .before .before .before .put-set .ensures in
-    let backward = c .before .before .before .before .before .before .before .before .before .before .before .before .before .before .before .before
-    .before .before .before .before .before .put-set2 .ensures in
-    let originals = c .before .before .before .before .before .before .before .before .before .before .before .before .before .before .before .before
-    .put-items .ensures in
-    let leaves = c .before .before .before .before .before .before .before .before .before .before .before .put-items2 .ensures in
+    let back8 = c .before .before .before .before .before .before .before .before in
+    let back16 = back8 .before .before .before .before .before .before .before .before in
+    let back24 = back16 .before .before .before .before .before .before .before .before in
+    let lead = back24 .before .before .before .before .before .before .before .put-named .ensures in
+    let forward = back24 .before .before .put-set .ensures in
+    let backward = back16 .before .before .before .before .before .put-set2 .ensures in
+    let originals = back16 .put-items .ensures in
+    let leaves = back8 .before .before .before .put-items2 .ensures in
     let last = c .before .before .before .before .before .before .put-set3 .ensures in
     let end = c .before .before .put .ensures in
     both (both (both (both (both (both lead forward) backward) originals) leaves) last) end

@@ -34,16 +34,15 @@ put-content-requires c κs =
 
 returns : tie.Need-returns
 returns c =
-    let args = c .before .before .before .before .before .before .before .before .before .before .before .before .before .before .before .before
-    .before .before .before .before .before .before .before .before .before .before .before .before .before .before .before .before .before .before
-    .before .before .args in
-    let lead = c .before .before .before .before .before .before .before .before .before .before .before .before .before .before .before .before
-    .before .before .before .before .before .before .before .before .before .put-named .ensures in
-    let step = c .before .before .before .before .before .before .before .before .before .before .before .before .before .before .before .before
-    .before .before .before .before .put-named2 .ensures in
-    let content = c .before .before .before .before .before .before .before .before .before .before .before .before .before .before .before .before
-    .put-content .ensures in
-    let kept = c .before .before .before .before .before .before .before .before .before .before .before .put-set .ensures in
+    let back8 = c .before .before .before .before .before .before .before .before in
+    let back16 = back8 .before .before .before .before .before .before .before .before in
+    let back24 = back16 .before .before .before .before .before .before .before .before in
+    let back32 = back24 .before .before .before .before .before .before .before .before in
+    let args = back32 .before .before .before .before .args in
+    let lead = back24 .before .put-named .ensures in
+    let step = back16 .before .before .before .before .put-named2 .ensures in
+    let content = back16 .put-content .ensures in
+    let kept = back8 .before .before .before .put-set .ensures in
     let cleared = c .before .before .before .before .before .before .put-set2 .ensures in
     let end = c .before .before .put .ensures in
     same (line (args .name .now) (args .t4) (args .j)) (both (both (both (both (both lead step) content) kept) cleared) end)

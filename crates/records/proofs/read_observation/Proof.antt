@@ -132,14 +132,14 @@ cut-requires-2 c κs =
 
 returns-4 : tie.Need-returns-4
 returns-4 c =
-    let args = c .before .before .before .before .before .before .before .before .before .before .before .before .before .before .before .args in
-    let byte = c .before .before .before .before .before .before .before .before .before .before .byte in
-    let byte2 = c .before .before .before .before .before .before .before .before .before .byte2 in
-    let byte3 = c .before .before .before .before .before .before .before .before .byte3 in
+    let back8 = c .before .before .before .before .before .before .before .before in
+    let args = back8 .before .before .before .before .before .before .before .args in
+    let byte = back8 .before .before .byte in
+    let byte2 = back8 .before .byte2 in
+    let byte3 = back8 .byte3 in
     let the-meaning = c .before .before .before .before .before .before .before .meaning in
     turned (args .g) (args .store .now) _ _ BadRecord _ (keys-cut (args .g) (args .store .now) (args .bytes .now) (args .at)
-    (tells (c .before .before .before .before .before .before .before .before .before .before .before .before .cut .ensures)
-    (c .before .before .before .before .before .before .before .before .before .before .before .if1 .left)) (byte .result) (byte2 .result)
+    (tells (back8 .before .before .before .before .cut .ensures) (back8 .before .before .before .if1 .left)) (byte .result) (byte2 .result)
     (the-meaning .result) (byte .ensures .0) (byte2 .ensures .0) (meant (args .bytes .now) (args .at) (byte3 .result) (the-meaning .result)
     (byte3 .ensures .0) (the-meaning .ensures)) (tells (c .before .before .before .before .before .before .flag-known .ensures)
     (not-false _ (c .before .before .before .before .before .if2 .left)))
@@ -195,46 +195,42 @@ part-read-observed-end c = omega (
 
 read-observed-requires : tie.Need-read-observed-requires
 read-observed-requires c κs =
-    let entry = c .before .before .before .before .before .before .before .before .before .before .before .before .before .before .before .before
-    .before .before .before .before in
+    let back8 = c .before .before .before .before .before .before .before .before in
+    let back16 = back8 .before .before .before .before .before .before .before .before in
+    let entry = back16 .before .before .before .before in
     let args = entry .args in
-    let byte = c .before .before .before .before .before .before .before .before .before .before .before .before .before .before .before .byte in (
+    let byte = back8 .before .before .before .before .before .before .before .byte in (
       (
         entry .pre .0,
         there (args .bytes .now) (args .at + 3) (byte .result)
             (tells (c .before .before .before .before .before .before .before .cut2 .ensures) (c .before .before .before .before .before .before .if4 .left)),
       ),
       (
-        counted (args .bytes .now) (args .at + 3) (byte .result) (c .before .before .before .before .before .before .before .before .before .before
+        counted (args .bytes .now) (args .at + 3) (byte .result) (back8 .before .before
             .before .before .before .before .byte2 .result) _ (front (λ i. byteAt (args .bytes .now) (args .at + 3 + i)) (byte .result) _ _
-            (c .before .before .before .before .keys2 .ensures)) (tells (c .before .before .before .before .before .before .before .before .before
-            .counts-fit .ensures) (not-false _ (c .before .before .before .before .before .before .before .before .if3 .left))),
-        (tells (c .before .before .before .before .before .before .before .before .before .before .before .flag-known .ensures)
-            (not-false _ (c .before .before .before .before .before .before .before .before .before .before .if2 .left))),
+            (c .before .before .before .before .keys2 .ensures)) (tells (back8 .before
+            .counts-fit .ensures) (not-false _ (back8 .if3 .left))),
+        (tells (back8 .before .before .before .flag-known .ensures)
+            (not-false _ (back8 .before .before .if2 .left))),
       ),
     )
 
 returns-5 : tie.Need-returns-5
 returns-5 c =
-    let args = c .before .before .before .before .before .before .before .before .before .before .before .before .before .before .before .before
-    .before .before .before .before .before .before .before .args in
-    let byte = c .before .before .before .before .before .before .before .before .before .before .before .before .before .before .before .before
-    .before .before .byte in
-    let byte2 = c .before .before .before .before .before .before .before .before .before .before .before .before .before .before .before .before
-    .before .byte2 in
-    let byte3 = c .before .before .before .before .before .before .before .before .before .before .before .before .before .before .before .before .byte3 in
-    let the-meaning = c .before .before .before .before .before .before .before .before .before .before .before .before .before .before .before .meaning in
+    let back8 = c .before .before .before .before .before .before .before .before in
+    let back16 = back8 .before .before .before .before .before .before .before .before in
+    let args = back16 .before .before .before .before .before .before .before .args in
+    let byte = back16 .before .before .byte in
+    let byte2 = back16 .before .byte2 in
+    let byte3 = back16 .byte3 in
+    let the-meaning = back8 .before .before .before .before .before .before .before .meaning in
     met (args .g) (args .store .now) _ _ _ _ (from-keys (args .g) (args .store .now) (args .bytes .now) (args .at)
-    (tells (c .before .before .before .before .before .before .before .before .before .before .before .before .before .before .before .before
-    .before .before .before .before .cut .ensures) (c .before .before .before .before .before .before .before .before .before .before .before
-    .before .before .before .before .before .before .before .before .if1 .left)) (byte .result) (byte2 .result) (the-meaning .result)
-    (byte .ensures .0) (byte2 .ensures .0) (meant (args .bytes .now) (args .at) (byte3 .result) (the-meaning .result) (byte3 .ensures .0)
-    (the-meaning .ensures)) (tells (c .before .before .before .before .before .before .before .before .before .before .before .before .before
-    .before .flag-known .ensures) (not-false _ (c .before .before .before .before .before .before .before .before .before .before .before .before
-    .before .if2 .left))) (tells (c .before .before .before .before .before .before .before .before .before .before .before .before .counts-fit
-    .ensures) (not-false _ (c .before .before .before .before .before .before .before .before .before .before .before .if3 .left)))
-    (tells (c .before .before .before .before .before .before .before .before .before .before .cut2 .ensures)
-    (c .before .before .before .before .before .before .before .before .before .if4 .left)) _
+    (tells (back16 .before .before .before .before .cut .ensures) (back16 .before .before .before .if1 .left)) (byte .result) (byte2 .result)
+    (the-meaning .result) (byte .ensures .0) (byte2 .ensures .0) (meant (args .bytes .now) (args .at) (byte3 .result) (the-meaning .result)
+    (byte3 .ensures .0) (the-meaning .ensures)) (tells (back8 .before .before .before .before .before .before .flag-known .ensures)
+    (not-false _ (back8 .before .before .before .before .before .if2 .left)))
+    (tells (back8 .before .before .before .before .counts-fit .ensures) (not-false _ (back8 .before .before .before .if3 .left)))
+    (tells (back8 .before .before .cut2 .ensures) (back8 .before .if4 .left)) _
     (front (λ i. byteAt (args .bytes .now) (args .at + 3 + i)) (byte .result) _ _
     (c .before .before .before .before .before .before .before .keys2 .ensures))) (c .before .before .read-observed .ensures)
 

@@ -90,25 +90,89 @@ read-variance-requires c κs =
       (pre .1 .0, pre .1 .1, mul-le-mul (pre .1 .1) (pre .1 .1)),
     )
 
+add-end : tie.Need-add-end
+add-end c = omega (
+  arith,
+  whole (c .before .before .before .before .before .before) _ _ (c .before .before .given .ensures) (c .before .cut .ensures)
+      (c .if1 .left),
+)
+
+numbers-requires : tie.Need-numbers-requires
+numbers-requires c κs = omega (
+  arith,
+  whole (c .before .before .before .before .before .before .before) _ _
+      (c .before .before .before .given .ensures) (c .before .before .cut .ensures) (c .before .if1 .left),
+)
+
+mul-numbers : tie.Need-mul-numbers
+mul-numbers c = omega (
+  arith,
+  whole (c .before .before .before .before .before .before .before .before .before) _ _
+      (c .before .before .before .before .before .given .ensures) (c .before .before .before .before .cut .ensures) (c .before .before .before .if1 .left),
+)
+
+add-numbers : tie.Need-add-numbers
+add-numbers c = omega (
+  arith,
+  whole (c .before .before .before .before .before .before .before .before .before) _ _
+      (c .before .before .before .before .before .given .ensures) (c .before .before .before .before .cut .ensures) (c .before .before .before .if1 .left),
+)
+
+numbers-requires-2 : tie.Need-numbers-requires-2
+numbers-requires-2 c κs = omega (
+  arith,
+  whole (c .before .before .before .before .before .before .before .before .before .before) _ _
+      (c .before .before .before .before .before .before .given .ensures) (c .before .before .before .before .before .cut .ensures)
+      (c .before .before .before .before .if1 .left),
+)
+
+add-read-variance : tie.Need-add-read-variance
+add-read-variance c = omega (
+  arith,
+  whole (c .before .before .before .before .before .before .before .before .before .before .before .before) _ _
+      (c .before .before .before .before .before .before .before .before .given .ensures)
+      (c .before .before .before .before .before .before .before .cut .ensures) (c .before .before .before .before .before .before .if1 .left),
+)
+
+mul-read-variance : tie.Need-mul-read-variance
+mul-read-variance c = omega (
+  arith,
+  whole (c .before .before .before .before .before .before .before .before .before .before .before .before) _ _
+      (c .before .before .before .before .before .before .before .before .given .ensures)
+      (c .before .before .before .before .before .before .before .cut .ensures) (c .before .before .before .before .before .before .if1 .left),
+)
+
+add-read-variance-2 : tie.Need-add-read-variance-2
+add-read-variance-2 c = omega (
+  arith,
+  whole (c .before .before .before .before .before .before .before .before .before .before .before .before) _ _
+      (c .before .before .before .before .before .before .before .before .given .ensures)
+      (c .before .before .before .before .before .before .before .cut .ensures) (c .before .before .before .before .before .before .if1 .left),
+)
+
+part-enter-observation-end-3 : tie.Need-part-enter-observation-end-3
+part-enter-observation-end-3 c = omega (
+  arith,
+  small (c .before .before .before .before .before .before .before .before .before .before .before
+      .before .before .before .before .before .before .before .before .before),
+)
+
 returns-2 : tie.Need-returns-2
 returns-2 c =
-    let entry = c .before .before .before .before .before .before .before .before .before .before .before .before .before .before .before .before
-    .before .before .before .before .before .before .before .before .before .before in
+    let back8 = c .before .before .before .before .before .before .before .before in
+    let back16 = back8 .before .before .before .before .before .before .before .before in
+    let back24 = back16 .before .before .before .before .before .before .before .before in
+    let entry = back24 .before .before in
     let args = entry .args in
     let enter-observation = c .before .before .before .enter-observation in
     taken (args .g) (args .store .now) (args .bytes .now) (args .keys .now) (args .rows) (args .flag) (args .n) (args .at) _
-    (c .before .before .before .before .before .before .before .before .before .before .before .before .before .before .before .before .before
-    .before .before .before .before .before .given .ensures .0) (tells
-    (c .before .before .before .before .before .before .before .before .before .before .before .before .before .before .before .before .before
-    .before .before .before .before .cut .ensures) (c .before .before .before .before .before .before .before .before .before .before .before
-    .before .before .before .before .before .before .before .before .before .if1 .left)) _ _ _ (enter-observation .result) _ _
-    (front (λ i. numberAt (args .bytes .now) (args .at + 8 * i)) (args .n) _ _
-    (c .before .before .before .before .before .before .before .before .before .before .before .before .before .before .before .before .before
-    .before .numbers .ensures)) (front (λ i. numberAt (args .bytes .now) (args .at + 8 * args .n + 8 * i)) (args .rows) _ _
-    (c .before .before .before .before .before .before .before .before .before .before .before .before .before .before .before .numbers2 .ensures))
+    (back16 .before .before .before .before .before .before .given .ensures .0)
+    (tells (back16 .before .before .before .before .before .cut .ensures) (back16 .before .before .before .before .if1 .left)) _ _ _
+    (enter-observation .result) _ _ (front (λ i. numberAt (args .bytes .now) (args .at + 8 * i)) (args .n) _ _
+    (back16 .before .before .numbers .ensures)) (front (λ i. numberAt (args .bytes .now) (args .at + 8 * args .n + 8 * i)) (args .rows) _ _
+    (back8 .before .before .before .before .before .before .before .numbers2 .ensures))
     (variance-front (args .flag) (args .bytes .now) (args .at + 8 * (args .n + args .rows)) (args .rows) _ _ (entry .pre .0 .1)
-    (c .before .before .before .before .before .before .before .before .before .before .before .before .read-variance .ensures))
-    (enter-observation .ensures .0) (c .went .ensures) (enter-observation .ensures .1)
+    (back8 .before .before .before .before .read-variance .ensures)) (enter-observation .ensures .0) (c .went .ensures) (enter-observation .ensures .1)
 
 pub read-observed-numbers-spec : {M : Type 1} → statement M
 read-observed-numbers-spec =
@@ -120,17 +184,11 @@ read-observed-numbers-spec =
     (λ c. omega (arith, small (c .before .before .before .before), c .given .ensures .1))  -- mul-all
     (λ c κs. search needs)  -- cut-requires
     (λ c κs. search needs)  -- stop-requires
-    returns
-    (λ c. omega (arith, whole (c .before .before .before .before .before .before) _ _ (c .before .before .given .ensures) (c .before .cut .ensures) (c .if1 .left)))  -- add-end
+    returns add-end
     (λ c. search needs)  -- slice-aggregate-numbers
-    (λ c κs. omega (arith, whole (c .before .before .before .before .before .before .before) _ _ (c .before .before .before .given .ensures) (c .before .before .cut .ensures) (c .before .if1 .left)))  -- numbers-requires
-    (λ c. omega (arith, whole (c .before .before .before .before .before .before .before .before .before) _ _ (c .before .before .before .before .before .given .ensures) (c .before .before .before .before .cut .ensures) (c .before .before .before .if1 .left)))  -- mul-numbers
-    (λ c. omega (arith, whole (c .before .before .before .before .before .before .before .before .before) _ _ (c .before .before .before .before .before .given .ensures) (c .before .before .before .before .cut .ensures) (c .before .before .before .if1 .left)))  -- add-numbers
+    numbers-requires mul-numbers add-numbers
     (λ c. search needs)  -- slice-aggregate-numbers-2
-    (λ c κs. omega (arith, whole (c .before .before .before .before .before .before .before .before .before .before) _ _ (c .before .before .before .before .before .before .given .ensures) (c .before .before .before .before .before .cut .ensures) (c .before .before .before .before .if1 .left)))  -- numbers-requires-2
-    (λ c. omega (arith, whole (c .before .before .before .before .before .before .before .before .before .before .before .before) _ _ (c .before .before .before .before .before .before .before .before .given .ensures) (c .before .before .before .before .before .before .before .cut .ensures) (c .before .before .before .before .before .before .if1 .left)))  -- add-read-variance
-    (λ c. omega (arith, whole (c .before .before .before .before .before .before .before .before .before .before .before .before) _ _ (c .before .before .before .before .before .before .before .before .given .ensures) (c .before .before .before .before .before .before .before .cut .ensures) (c .before .before .before .before .before .before .if1 .left)))  -- mul-read-variance
-    (λ c. omega (arith, whole (c .before .before .before .before .before .before .before .before .before .before .before .before) _ _ (c .before .before .before .before .before .before .before .before .given .ensures) (c .before .before .before .before .before .before .before .cut .ensures) (c .before .before .before .before .before .before .if1 .left)))  -- add-read-variance-2
+    numbers-requires-2 add-read-variance mul-read-variance add-read-variance-2
     (λ c. search needs)  -- slice-aggregate-read-variance
     read-variance-requires
     (λ c. search needs)  -- sub-enter-observation
@@ -141,7 +199,7 @@ read-observed-numbers-spec =
     (λ c. search needs)  -- part-enter-observation-end-2
     (λ c. search needs)  -- sub-enter-observation-3
     (λ c. search needs)  -- part-enter-observation-start-3
-    (λ c. omega (arith, small (c .before .before .before .before .before .before .before .before .before .before .before .before .before .before .before .before .before .before .before .before)))  -- part-enter-observation-end-3
+    part-enter-observation-end-3
     (λ c κs. search needs)  -- enter-observation-requires
     (λ c κs. search needs)  -- went-requires
     (λ c. search needs)  -- same-length

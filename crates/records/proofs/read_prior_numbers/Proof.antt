@@ -48,19 +48,44 @@ returns c =
     turned (args .g) (args .store .now) _ _ BadRecord _ (cut-short (args .g) (args .store .now) (args .bytes .now) (args .key) (args .s) (args .at)
     (tells (c .before .before .cut .ensures) (c .before .if1 .taken))) (c .stop .ensures) refl
 
+numbers-requires : tie.Need-numbers-requires
+numbers-requires c κs = omega (arith, whole (c .before .before .before .before .before) _ (c .before .before .cut .ensures) (c .before .if1 .left))
+
+mul-numbers : tie.Need-mul-numbers
+mul-numbers c = omega (
+  arith,
+  whole (c .before .before .before .before .before .before .before) _ (c .before .before .before .before .cut .ensures)
+      (c .before .before .before .if1 .left),
+)
+
+add-numbers : tie.Need-add-numbers
+add-numbers c = omega (
+  arith,
+  whole (c .before .before .before .before .before .before .before) _ (c .before .before .before .before .cut .ensures)
+      (c .before .before .before .if1 .left),
+)
+
+numbers-requires-2 : tie.Need-numbers-requires-2
+numbers-requires-2 c κs = omega (
+  arith,
+  whole (c .before .before .before .before .before .before .before .before) _
+      (c .before .before .before .before .before .cut .ensures) (c .before .before .before .before .if1 .left),
+)
+
+part-enter-prior-end-2 : tie.Need-part-enter-prior-end-2
+part-enter-prior-end-2 c = omega (arith, small (c .before .before .before .before .before .before .before .before .before .before .before .before .before))
+
 returns-2 : tie.Need-returns-2
 returns-2 c =
-    let args = c .before .before .before .before .before .before .before .before .before .before .before .before .before .before .before .before
-    .before .before .before .args in
+    let back8 = c .before .before .before .before .before .before .before .before in
+    let back16 = back8 .before .before .before .before .before .before .before .before in
+    let args = back16 .before .before .before .args in
     let enter-prior = c .before .before .before .enter-prior in
     taken (args .g) (args .store .now) (args .bytes .now) (args .key) (args .s) (args .at)
-    (tells (c .before .before .before .before .before .before .before .before .before .before .before .before .before .before .before .before .cut
-    .ensures) (c .before .before .before .before .before .before .before .before .before .before .before .before .before .before .before .if1
-    .left)) _ _ (enter-prior .result) _ _ (front (λ i. numberAt (args .bytes .now) (args .at + 8 * i)) (args .s) _ _
-    (c .before .before .before .before .before .before .before .before .before .before .before .before .before .numbers .ensures))
-    (front (λ i. numberAt (args .bytes .now) (args .at + 8 * args .s + 8 * i)) (args .s * args .s) _ _
-    (c .before .before .before .before .before .before .before .before .before .before .numbers2 .ensures)) (enter-prior .ensures .0)
-    (c .went .ensures) (enter-prior .ensures .1)
+    (tells (back16 .cut .ensures) (back8 .before .before .before .before .before .before .before .if1 .left)) _ _ (enter-prior .result) _ _
+    (front (λ i. numberAt (args .bytes .now) (args .at + 8 * i)) (args .s) _ _ (back8 .before .before .before .before .before .numbers .ensures))
+    (front (λ i. numberAt (args .bytes .now) (args .at + 8 * args .s + 8 * i)) (args .s * args .s) _ _ (back8 .before .before .numbers2 .ensures))
+    (enter-prior .ensures .0) (c .went .ensures) (enter-prior .ensures .1)
 
 pub read-prior-numbers-spec : {M : Type 1} → statement M
 read-prior-numbers-spec =
@@ -75,17 +100,15 @@ read-prior-numbers-spec =
     (λ c. omega (arith, whole (c .before .before .before .before) _ (c .before .cut .ensures) (c .if1 .left)))  -- mul-end
     (λ c. omega (arith, whole (c .before .before .before .before) _ (c .before .cut .ensures) (c .if1 .left)))  -- add-end-2
     (λ c. search needs)  -- slice-aggregate-numbers
-    (λ c κs. omega (arith, whole (c .before .before .before .before .before) _ (c .before .before .cut .ensures) (c .before .if1 .left)))  -- numbers-requires
-    (λ c. omega (arith, whole (c .before .before .before .before .before .before .before) _ (c .before .before .before .before .cut .ensures) (c .before .before .before .if1 .left)))  -- mul-numbers
-    (λ c. omega (arith, whole (c .before .before .before .before .before .before .before) _ (c .before .before .before .before .cut .ensures) (c .before .before .before .if1 .left)))  -- add-numbers
+    numbers-requires mul-numbers add-numbers
     (λ c. search needs)  -- slice-aggregate-numbers-2
-    (λ c κs. omega (arith, whole (c .before .before .before .before .before .before .before .before) _ (c .before .before .before .before .before .cut .ensures) (c .before .before .before .before .if1 .left)))  -- numbers-requires-2
+    numbers-requires-2
     (λ c. search needs)  -- sub-enter-prior
     (λ c. search needs)  -- part-enter-prior-start
     (λ c. omega (arith, small (c .before .before .before .before .before .before .before .before .before .before .before)))  -- part-enter-prior-end
     (λ c. search needs)  -- sub-enter-prior-2
     (λ c. search needs)  -- part-enter-prior-start-2
-    (λ c. omega (arith, small (c .before .before .before .before .before .before .before .before .before .before .before .before .before)))  -- part-enter-prior-end-2
+    part-enter-prior-end-2
     (λ c κs. search needs)  -- enter-prior-requires
     (λ c κs. search needs)  -- went-requires
     (λ c. search needs)  -- same-length

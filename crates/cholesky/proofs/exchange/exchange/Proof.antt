@@ -47,38 +47,35 @@ inverse-requires c κs =
 
 returns-2 : tie.Need-returns-2
 returns-2 c =
-    let start = c .before .before .before .before .before .before .before .before .before .before .before .before .before .before .before .before
-    .before .before .before .before .before .before in
-    let cholesky = c .before .before .before .before .before .before .before .before .before .before .before .before .before .before .before .before
-    .before .cholesky in
+    let back8 = c .before .before .before .before .before .before .before .before in
+    let back16 = back8 .before .before .before .before .before .before .before .before in
+    let start = back16 .before .before .before .before .before .before in
+    let cholesky = back16 .before .cholesky in
     vector-refused (start .args .n) (start .args .x .now) (start .args .l .now) _ _ _ (cholesky .ensures .0) _ _ (cholesky .ensures .1)
-    (c .before .before .before .before .before .before .before .before .before .before .before .before .before .enum-told .given .1)
-    (start .pre .of-y) (c .before .before .before .before .before .before .before .before .before .before .solve .ensures)
+    (back8 .before .before .before .before .before .enum-told .given .1) (start .pre .of-y) (back8 .before .before .solve .ensures)
     (c .before .before .before .before .before .inverse .ensures) _ (c .before .finite .ensures) (not-true _ (c .if1 .taken))
 
 returns-3 : tie.Need-returns-3
 returns-3 c =
-    let start = c .before .before .before .before .before .before .before .before .before .before .before .before .before .before .before .before
-    .before .before .before .before .before .before .before .before .before in
-    let cholesky = c .before .before .before .before .before .before .before .before .before .before .before .before .before .before .before .before
-    .before .before .before .before .cholesky in
+    let back8 = c .before .before .before .before .before .before .before .before in
+    let back16 = back8 .before .before .before .before .before .before .before .before in
+    let back24 = back16 .before .before .before .before .before .before .before .before in
+    let start = back24 .before in
+    let cholesky = back16 .before .before .before .before .cholesky in
     matrix-refused (start .args .n) (start .args .x .now) (start .args .l .now) _ _ _ (cholesky .ensures .0) _ _ (cholesky .ensures .1)
-    (c .before .before .before .before .before .before .before .before .before .before .before .before .before .before .before .before .enum-told
-    .given .1) (start .pre .of-y) (c .before .before .before .before .before .before .before .before .before .before .before .before .before .solve
-    .ensures) (c .before .before .before .before .before .before .before .before .inverse .ensures) _
+    (back16 .enum-told .given .1) (start .pre .of-y) (back8 .before .before .before .before .before .solve .ensures) (back8 .inverse .ensures) _
     (c .before .before .before .before .finite .ensures) (not-false _ (c .before .before .before .if1 .left)) _ (c .before .finite2 .ensures)
     (not-true _ (c .if2 .taken))
 
 returns-4 : tie.Need-returns-4
 returns-4 c =
-    let start = c .before .before .before .before .before .before .before .before .before .before .before .before .before .before .before .before
-    .before .before .before .before .before .before .before .before .before in
-    let cholesky = c .before .before .before .before .before .before .before .before .before .before .before .before .before .before .before .before
-    .before .before .before .before .cholesky in
+    let back8 = c .before .before .before .before .before .before .before .before in
+    let back16 = back8 .before .before .before .before .before .before .before .before in
+    let back24 = back16 .before .before .before .before .before .before .before .before in
+    let start = back24 .before in
+    let cholesky = back16 .before .before .before .before .cholesky in
     exchange-done (start .args .n) (start .args .x .now) (start .args .l .now) _ _ _ (cholesky .ensures .0) _ _ (cholesky .ensures .1)
-    (c .before .before .before .before .before .before .before .before .before .before .before .before .before .before .before .before .enum-told
-    .given .1) (start .pre .of-y) (c .before .before .before .before .before .before .before .before .before .before .before .before .before .solve
-    .ensures) (c .before .before .before .before .before .before .before .before .inverse .ensures) _
+    (back16 .enum-told .given .1) (start .pre .of-y) (back8 .before .before .before .before .before .solve .ensures) (back8 .inverse .ensures) _
     (c .before .before .before .before .finite .ensures) (not-false _ (c .before .before .before .if1 .left)) _ (c .before .finite2 .ensures)
     (not-false _ (c .if2 .left))
 

@@ -12,27 +12,29 @@ use Rattle.factor.proofs.weighing.store_by.Tie as tie
 
 returns : tie.Need-returns
 returns c =
-    let entry = c .before .before .before .before .before .before .before .before .before .before .before .before .before .before .before .before
-    .before .before .before .before .before .before .before .before .before .before .before in
+    let back8 = c .before .before .before .before .before .before .before .before in
+    let back16 = back8 .before .before .before .before .before .before .before .before in
+    let back24 = back16 .before .before .before .before .before .before .before .before in
+    let entry = back24 .before .before .before in
     let args = entry .args in
     let pre = entry .pre in
-    let exchange = c .before .before .before .before .before .before .before .before .exchange in
+    let exchange = back8 .exchange in
     at-pivot (args .n) (args .at) (args .a .now) (args .mean .now) (args .variance .now) (args .store .now) _ _ _ _ _ _ (exchange .result) (pre .0)
-    (pre .1 .of-l) (pre .1 .of-x) (c .before .before .before .before .before .before .before .before .before .before .before .before .before .before
-    .before .before .before .before .copy-in .ensures) (c .before .before .before .before .before .before .before .before .before .before .before
-    .before .before .before .copy-in2 .ensures) (exchange .ensures) (c .enum-told2 .given .1)
+    (pre .1 .of-l) (pre .1 .of-x) (back16 .before .before .copy-in .ensures)
+    (back8 .before .before .before .before .before .before .copy-in2 .ensures) (exchange .ensures) (c .enum-told2 .given .1)
 
 returns-2 : tie.Need-returns-2
 returns-2 c =
-    let entry = c .before .before .before .before .before .before .before .before .before .before .before .before .before .before .before .before
-    .before .before .before .before .before .before .before .before .before .before .before in
+    let back8 = c .before .before .before .before .before .before .before .before in
+    let back16 = back8 .before .before .before .before .before .before .before .before in
+    let back24 = back16 .before .before .before .before .before .before .before .before in
+    let entry = back24 .before .before .before in
     let args = entry .args in
     let pre = entry .pre in
-    let exchange = c .before .before .before .before .before .before .before .before .exchange in
+    let exchange = back8 .exchange in
     at-overflow (args .n) (args .at) (args .a .now) (args .mean .now) (args .variance .now) (args .store .now) _ _ _ _ _ _ (exchange .result) (pre .0)
-    (pre .1 .of-l) (pre .1 .of-x) (c .before .before .before .before .before .before .before .before .before .before .before .before .before .before
-    .before .before .before .before .copy-in .ensures) (c .before .before .before .before .before .before .before .before .before .before .before
-    .before .before .before .copy-in2 .ensures) (exchange .ensures) (c .enum-told3 .given .1)
+    (pre .1 .of-l) (pre .1 .of-x) (back16 .before .before .copy-in .ensures)
+    (back8 .before .before .before .before .before .before .copy-in2 .ensures) (exchange .ensures) (c .enum-told3 .given .1)
 
 copy-in-requires-5 : tie.Need-copy-in-requires-5
 copy-in-requires-5 c κs =

@@ -133,9 +133,8 @@ returns c =
     let g = c .before .before .before .before .before .before .before .before .before .before .before .before .before .before .before .before .before
     .before .before .before .before .before .good in
     let n : length (args .sizes) ≡ 32 = omega arith in
-    last-tells _ _ _ _
-    (marginal-message n (c .before .before .before .before .before .before .before .before .before .before .before .before .before .before .before
-    .before .before .before .before .before .before .before .pre .0) _ (eliminate-in .ensures .0) _
+    last-tells _ _ _ _ (marginal-message n (c .before .before .before .before .before .before .before .before .before .before .before .before .before
+    .before .before .before .before .before .before .before .before .before .pre .0) _ (eliminate-in .ensures .0) _
     (c .before .before .before .before .before .before .rows .given .1) (eliminate-in .last .1 .1 .0) (eliminate-in .ensures .1) (args .key)
     (getD (args .sizes) (args .key) 0) (dim-of .result) _ _ _ (omega (arith, dim-of .ensures)) (dim-of .ensures)
     (c .before .before .before .before .dim-of2 .ensures) (c .before .before .before .frame-of .ensures) (c .from .ensures .0))
@@ -145,20 +144,19 @@ returns-2 c =
     let args = c .before .before .before .before .before .before .before .before .before .before .before .before .before .before .before .before
     .before .args in
     let dim-of = c .before .before .before .before .before .before .before .before .dim-of in
-    last-tells _ _ _ _
-    (marginal-pivot (eliminate (viewsOf (args .factors .now) (args .messages .now) (args .keys .now) (args .heads .now) (args .slots .now))
-    (args .key ∷ []) (args .cleared .now) (args .sizes)) _ (c .before .before .before .before .before .eliminate-in .ensures .0) (args .key)
-    (getD (args .sizes) (args .key) 0) (dim-of .result) _ (c .before .enum-told .given .1) (omega (arith, dim-of .ensures)) (c .refused .ensures))
+    last-tells _ _ _ _ (marginal-pivot (eliminate (viewsOf (args .factors .now) (args .messages .now) (args .keys .now) (args .heads .now)
+    (args .slots .now)) (args .key ∷ []) (args .cleared .now) (args .sizes)) _ (c .before .before .before .before .before .eliminate-in .ensures .0)
+    (args .key) (getD (args .sizes) (args .key) 0) (dim-of .result) _ (c .before .enum-told .given .1) (omega (arith, dim-of .ensures)) (c .refused .ensures))
 
 returns-3 : tie.Need-returns-3
 returns-3 c =
     let args = c .before .before .before .before .before .before .before .before .before .before .before .before .before .before .before .before
     .before .args in
     let dim-of = c .before .before .before .before .before .before .before .before .dim-of in
-    last-tells _ _ _ _
-    (marginal-unbounded (eliminate (viewsOf (args .factors .now) (args .messages .now) (args .keys .now) (args .heads .now) (args .slots .now))
-    (args .key ∷ []) (args .cleared .now) (args .sizes)) _ (c .before .before .before .before .before .eliminate-in .ensures .0) (args .key)
-    (getD (args .sizes) (args .key) 0) (dim-of .result) _ (c .before .enum-told2 .given .1) (omega (arith, dim-of .ensures)) (c .refused2 .ensures))
+    last-tells _ _ _ _ (marginal-unbounded (eliminate (viewsOf (args .factors .now) (args .messages .now) (args .keys .now) (args .heads .now)
+    (args .slots .now)) (args .key ∷ []) (args .cleared .now) (args .sizes)) _ (c .before .before .before .before .before .eliminate-in .ensures .0)
+    (args .key) (getD (args .sizes) (args .key) 0) (dim-of .result) _ (c .before .enum-told2 .given .1) (omega (arith, dim-of .ensures))
+    (c .refused2 .ensures))
 
 pub marginalize-spec : {M : Type 1} → statement M
 marginalize-spec =

@@ -47,15 +47,16 @@ exchange-requires c κs =
 returns : tie.Need-returns
 unfolding momentsOf
 returns c =
-    let pre = c .before .before .before .before .before .before .before .before .before .before .before .before .before .before .before .before
-    .before .before .before .before .before .before .before .before .before .before .before .before .pre in
-    solved-tells _ _ _ _
-    (rw (
+    let back8 = c .before .before .before .before .before .before .before .before in
+    let back16 = back8 .before .before .before .before .before .before .before .before in
+    let back24 = back16 .before .before .before .before .before .before .before .before in
+    let pre = back24 .before .before .before .before .pre in
+    solved-tells _ _ _ _ (rw (
       ← pre .1 .0,
       ← pre .1 .1,
-      ← c .before .before .before .before .before .before .before .before .before .before .before .before .before .before
+      ← back8 .before .before .before .before .before .before
           .before .before .before .before .before .gemv-tr .ensures,
-      ← c .before .before .before .before .before .before .before .before .before .before
+      ← back8 .before .before
           .before .before .before .before .quadform .ensures,
     ) (c .before .before .before .before .before .before .exchange .ensures))
 

@@ -51,14 +51,12 @@ returns-4 c =
     turned-back (args .t1) (args .f) (args .store .now) _ _ _ _ (not-given (args .t1) (args .f) (args .a .now) (args .mean .now) (args .variance .now)
     (args .store .now) (tells (c .before .before .before .before .before .before .before .before .lengths-fit .ensures)
     (not-false _ (c .before .before .before .before .before .before .before .if1 .left)))
-    (c .before .before .before .before .before .before .if2 .left)
-    (omega (
+    (c .before .before .before .before .before .before .if2 .left) (omega (
       arith,
       c .before .before .before .before .before .offset .ensures .0,
       c .before .before .before .before .numbers .ensures .0,
       c .before .before .before .if3 .left,
-    )) (tells (c .before .before .given-finite .ensures) (not-true _ (c .before .if4 .taken))))
-    (c .refused4 .ensures) refl
+    )) (tells (c .before .before .given-finite .ensures) (not-true _ (c .before .if4 .taken)))) (c .refused4 .ensures) refl
 
 store-factor-requires : tie.Need-store-factor-requires
 store-factor-requires c κs =
@@ -76,50 +74,47 @@ store-factor-requires c κs =
 
 returns-5 : tie.Need-returns-5
 returns-5 c =
-    let args = c .before .before .before .before .before .before .before .before .before .before .before .before .before .before .before .before
-    .before .before .before .before .args in
-    let offset = c .before .before .before .before .before .before .before .before .before .before .before .offset in
-    let numbers = c .before .before .before .before .before .before .before .before .before .before .numbers in
+    let back8 = c .before .before .before .before .before .before .before .before in
+    let back16 = back8 .before .before .before .before .before .before .before .before in
+    let args = back16 .before .before .before .before .args in
+    let offset = back8 .before .before .before .offset in
+    let numbers = back8 .before .before .numbers in
     let store-factor = c .before .before .before .before .before .store-factor in
     let p = ended (args .t1) (args .f) (args .a .now) (args .mean .now) (args .variance .now) (args .store .now)
-    (tells (c .before .before .before .before .before .before .before .before .before .before .before .before .before .before .lengths-fit .ensures)
-    (not-false _ (c .before .before .before .before .before .before .before .before .before .before .before .before .before .if1 .left)))
-    (c .before .before .before .before .before .before .before .before .before .before .before .before .if2 .left) (offset .result)
-    (numbers .result) (offset .ensures .0) (numbers .ensures .0) (c .before .before .before .before .before .before .before .before .before .if3
-    .left) (tells (c .before .before .before .before .before .before .before .before .given-finite .ensures)
-    (not-false _ (c .before .before .before .before .before .before .before .if4 .left))) (store-factor .last .0) Pivot
-    (sym (c .before .enum-told2 .given .1) ∙ store-factor .ensures .0) (store-factor .ensures .1 .0) in
+    (tells (back8 .before .before .before .before .before .before .lengths-fit .ensures)
+    (not-false _ (back8 .before .before .before .before .before .if1 .left))) (back8 .before .before .before .before .if2 .left) (offset .result)
+    (numbers .result) (offset .ensures .0) (numbers .ensures .0) (back8 .before .if3 .left)
+    (tells (back8 .given-finite .ensures) (not-false _ (c .before .before .before .before .before .before .before .if4 .left)))
+    (store-factor .last .0) Pivot (sym (c .before .enum-told2 .given .1) ∙ store-factor .ensures .0) (store-factor .ensures .1 .0) in
     turned-back (args .t1) (args .f) (args .store .now) _ _ _ _ (p .0) (c .refused5 .ensures) (p .1)
 
 returns-6 : tie.Need-returns-6
 returns-6 c =
-    let args = c .before .before .before .before .before .before .before .before .before .before .before .before .before .before .before .before
-    .before .before .before .before .args in
-    let offset = c .before .before .before .before .before .before .before .before .before .before .before .offset in
-    let numbers = c .before .before .before .before .before .before .before .before .before .before .numbers in
+    let back8 = c .before .before .before .before .before .before .before .before in
+    let back16 = back8 .before .before .before .before .before .before .before .before in
+    let args = back16 .before .before .before .before .args in
+    let offset = back8 .before .before .before .offset in
+    let numbers = back8 .before .before .numbers in
     let store-factor = c .before .before .before .before .before .store-factor in
     let p = ended (args .t1) (args .f) (args .a .now) (args .mean .now) (args .variance .now) (args .store .now)
-    (tells (c .before .before .before .before .before .before .before .before .before .before .before .before .before .before .lengths-fit .ensures)
-    (not-false _ (c .before .before .before .before .before .before .before .before .before .before .before .before .before .if1 .left)))
-    (c .before .before .before .before .before .before .before .before .before .before .before .before .if2 .left) (offset .result)
-    (numbers .result) (offset .ensures .0) (numbers .ensures .0) (c .before .before .before .before .before .before .before .before .before .if3
-    .left) (tells (c .before .before .before .before .before .before .before .before .given-finite .ensures)
-    (not-false _ (c .before .before .before .before .before .before .before .if4 .left))) (store-factor .last .0) NotFinite
-    (sym (c .before .enum-told3 .given .1) ∙ store-factor .ensures .0) (store-factor .ensures .1 .0) in
+    (tells (back8 .before .before .before .before .before .before .lengths-fit .ensures)
+    (not-false _ (back8 .before .before .before .before .before .if1 .left))) (back8 .before .before .before .before .if2 .left) (offset .result)
+    (numbers .result) (offset .ensures .0) (numbers .ensures .0) (back8 .before .if3 .left)
+    (tells (back8 .given-finite .ensures) (not-false _ (c .before .before .before .before .before .before .before .if4 .left)))
+    (store-factor .last .0) NotFinite (sym (c .before .enum-told3 .given .1) ∙ store-factor .ensures .0) (store-factor .ensures .1 .0) in
     turned-back (args .t1) (args .f) (args .store .now) _ _ _ _ (p .0) (c .refused6 .ensures) (p .1)
 
 returns-7 : tie.Need-returns-7
 returns-7 c =
-    let args = c .before .before .before .before .before .before .before .before .before .before .before .before .before .before .before .before
-    .before .before .before .args in
-    let offset = c .before .before .before .before .before .before .before .before .before .before .offset in
-    let numbers = c .before .before .before .before .before .before .before .before .before .numbers in
+    let back8 = c .before .before .before .before .before .before .before .before in
+    let back16 = back8 .before .before .before .before .before .before .before .before in
+    let args = back16 .before .before .before .args in
+    let offset = back8 .before .before .offset in
+    let numbers = back8 .before .numbers in
     let store-factor = c .before .before .before .before .store-factor in
     ended (args .t1) (args .f) (args .a .now) (args .mean .now) (args .variance .now) (args .store .now)
-    (tells (c .before .before .before .before .before .before .before .before .before .before .before .before .before .lengths-fit .ensures)
-    (not-false _ (c .before .before .before .before .before .before .before .before .before .before .before .before .if1 .left)))
-    (c .before .before .before .before .before .before .before .before .before .before .before .if2 .left) (offset .result) (numbers .result)
-    (offset .ensures .0) (numbers .ensures .0) (c .before .before .before .before .before .before .before .before .if3 .left)
+    (tells (back8 .before .before .before .before .before .lengths-fit .ensures) (not-false _ (back8 .before .before .before .before .if1 .left)))
+    (back8 .before .before .before .if2 .left) (offset .result) (numbers .result) (offset .ensures .0) (numbers .ensures .0) (back8 .if3 .left)
     (tells (c .before .before .before .before .before .before .before .given-finite .ensures)
     (not-false _ (c .before .before .before .before .before .before .if4 .left))) (store-factor .last .0) Done
     (sym (c .enum-told .given .1) ∙ store-factor .ensures .0) (store-factor .ensures .1 .0)

@@ -55,17 +55,10 @@ loop-again c =
     let args = c .before .before .before .before .before .before .args in
     let loop = c .before .before .before .loop in
     let loop-test = c .before .before .loop-test in
-    ⊎-elim
-    (λ w. subst₂ (λ x y. AliveTo (args .t) (args .t1) x y
-    (loop .i + 1)) (sym (w .6)) (sym (w .7))
-    (more (args .t) (args .t1)
-    (loop .upto) (loop .within) (loop .i)
-    (loop .inv) (loop-test .taken) (w .1 .result) (w .5 .result) (w .0 .taken) (w .1 .ensures) (w .5 .ensures)))
-    (λ w. subst₂ (λ x y. AliveTo (args .t) (args .t1) x y
-    (loop .i + 1)) (sym (w .1)) (sym (w .2))
-    (same (args .t) (args .t1)
-    (loop .upto) (loop .within) (loop .i)
-    (loop .inv) (loop-test .taken) (w .0 .left))) (c .if1 .came)
+    ⊎-elim (λ w. subst₂ (λ x y. AliveTo (args .t) (args .t1) x y (loop .i + 1)) (sym (w .6)) (sym (w .7))
+    (more (args .t) (args .t1) (loop .upto) (loop .within) (loop .i) (loop .inv) (loop-test .taken) (w .1 .result) (w .5 .result) (w .0 .taken)
+    (w .1 .ensures) (w .5 .ensures))) (λ w. subst₂ (λ x y. AliveTo (args .t) (args .t1) x y (loop .i + 1)) (sym (w .1)) (sym (w .2))
+    (same (args .t) (args .t1) (loop .upto) (loop .within) (loop .i) (loop .inv) (loop-test .taken) (w .0 .left))) (c .if1 .came)
 
 returns : tie.Need-returns Inv-loop μ-loop
 returns c =

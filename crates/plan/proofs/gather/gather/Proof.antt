@@ -88,13 +88,14 @@ single-requires c κs = c .before .before .before .before .before .before .befor
 
 returns : tie.Need-returns
 returns c =
-    let entry = c .before .before .before .before .before .before .before .before .before .before .before .before in
+    let back8 = c .before .before .before .before .before .before .before .before in
+    let entry = back8 .before .before .before .before in
     let args = entry .args in
     let pre = entry .pre in
-    let alive-messages = c .before .before .before .before .before .before .before .before .before .before .before .alive-messages in
-    let alive-messages2 = c .before .before .before .before .before .before .before .before .before .before .alive-messages2 in
-    let leaves-of = c .before .before .before .before .before .before .before .before .before .leaves-of in
-    let leaves-of2 = c .before .before .before .before .before .before .before .before .leaves-of2 in
+    let alive-messages = back8 .before .before .before .alive-messages in
+    let alive-messages2 = back8 .before .before .alive-messages2 in
+    let leaves-of = back8 .before .leaves-of in
+    let leaves-of2 = back8 .leaves-of2 in
     let uncovered = c .before .before .before .before .before .before .before .uncovered in
     let kept-keys = c .before .before .before .before .before .kept-keys in
     let kept-keys2 = c .before .before .before .before .kept-keys2 in

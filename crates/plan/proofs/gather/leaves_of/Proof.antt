@@ -39,8 +39,9 @@ loop-again c =
     let single = c .before .single in
     let loop-test = c .before .before .loop-test in
     λ f v s. ⊎-elim (λ w. subst (λ x. Leaving (args .messages) (args .set) (args .listing) f v s x (loop .j + 1)) (sym (w .2))
-    (leave-more (args .messages) (args .set) (args .listing) f v s (loop .l) (loop .j) (single .result) (loop .inv f v s) (loop-test .taken) (single .ensures)
-    (w .0 .taken) (w .1 .result) (w .1 .ensures))) (λ w. subst (λ x. Leaving (args .messages) (args .set) (args .listing) f v s x (loop .j + 1)) (sym (w .1))
+    (leave-more (args .messages) (args .set) (args .listing) f v s (loop .l) (loop .j) (single .result) (loop .inv f v s) (loop-test .taken)
+    (single .ensures) (w .0 .taken) (w .1 .result) (w .1 .ensures)))
+    (λ w. subst (λ x. Leaving (args .messages) (args .set) (args .listing) f v s x (loop .j + 1)) (sym (w .1))
     (leave-same (args .messages) (args .set) (args .listing) f v s (loop .l) (loop .j) (single .result) (loop .inv f v s) (loop-test .taken)
     (single .ensures) (w .0 .left))) (c .if1 .came)
 
@@ -49,8 +50,8 @@ returns c =
     let args = c .before .before .args in
     let pre = c .before .before .pre in
     let loop = c .before .loop in
-    end (args .messages) (args .set) (args .listing) (pre .0 .few) (pre .1 .1) (pre .1 .0) (loop .l) (loop .j) (loop .inv (pre .0 .few) (pre .1 .1) (pre .1 .0))
-    (c .loop-test .left)
+    end (args .messages) (args .set) (args .listing) (pre .0 .few) (pre .1 .1) (pre .1 .0) (loop .l) (loop .j)
+    (loop .inv (pre .0 .few) (pre .1 .1) (pre .1 .0)) (c .loop-test .left)
 
 pub leaves-of-spec : {M : Type 1} → statement M
 leaves-of-spec =

@@ -128,8 +128,8 @@ loop-again c =
     let loop = c .before .before .before .before .before .before .loop in
     let loop-test = c .before .before .before .before .before .loop-test in
     let visit = c .visit in
-    λ r f. again (args .t1) r f (opened (args .t1) (pre .0) (pre .1 .1 .forest) (args .listing) (args .root)) (loop .l) (loop .inv r f) (loop-test .taken)
-    (visit .result) (visit .ensures)
+    λ r f. again (args .t1) r f (opened (args .t1) (pre .0) (pre .1 .1 .forest) (args .listing) (args .root)) (loop .l) (loop .inv r f)
+    (loop-test .taken) (visit .result) (visit .ensures)
 
 returns : tie.Need-returns Inv-loop μ-loop
 returns c =

@@ -36,8 +36,8 @@ element-write-l c =
     let items-set = c .before .before .before .before .items-set in
     let single64 = c .before .single64 in
     free-room (args .t1) (args .count) (args .listing) (search needs) (pre .0) (pre .1 .1) (pre .1 .0) (loop .l) (loop .i) (items-set .result)
-    (single64 .result)
-    (loop .inv (search needs) (pre .0) (pre .1 .1) (pre .1 .0)) (c .before .before .loop-test .taken) (single64 .ensures) (items-set .ensures) (c .if1 .taken)
+    (single64 .result) (loop .inv (search needs) (pre .0) (pre .1 .1) (pre .1 .0)) (c .before .before .loop-test .taken) (single64 .ensures)
+    (items-set .ensures) (c .if1 .taken)
 
 add-l : tie.Need-add-l Inv-loop μ-loop
 add-l c =
@@ -63,8 +63,8 @@ loop-again c =
     let loop = c .before .before .before .loop in
     let items-set = c .before .before .before .before .items-set in
     let single64 = c .before .single64 in
-    λ g v r s. list-more (args .t1) (args .count) (args .listing) g v r s (loop .l) (loop .i) (items-set .result) (single64 .result) (loop .inv g v r s)
-    (c .before .before .loop-test .taken) (single64 .ensures) (items-set .ensures) (c .if1 .taken)
+    λ g v r s. list-more (args .t1) (args .count) (args .listing) g v r s (loop .l) (loop .i) (items-set .result) (single64 .result)
+    (loop .inv g v r s) (c .before .before .loop-test .taken) (single64 .ensures) (items-set .ensures) (c .if1 .taken)
 
 loop-again-2 : tie.Need-loop-again-2 Inv-loop μ-loop
 loop-again-2 c =
@@ -72,8 +72,8 @@ loop-again-2 c =
     let loop = c .before .before .before .loop in
     let items-set = c .before .before .before .before .items-set in
     let single64 = c .before .single64 in
-    λ g v r s. list-same (args .t1) (args .count) (args .listing) g v r s (loop .l) (loop .i) (items-set .result) (single64 .result) (loop .inv g v r s)
-    (c .before .before .loop-test .taken) (single64 .ensures) (items-set .ensures) (c .if1 .left)
+    λ g v r s. list-same (args .t1) (args .count) (args .listing) g v r s (loop .l) (loop .i) (items-set .result) (single64 .result)
+    (loop .inv g v r s) (c .before .before .loop-test .taken) (single64 .ensures) (items-set .ensures) (c .if1 .left)
 
 returns : tie.Need-returns Inv-loop μ-loop
 returns c =

@@ -90,8 +90,8 @@ loop-again c =
     let loop = c .before .before .before .loop in
     let found = c .before .place in
     λ both. more (args .keys) (args .live) (args .order) (args .count) (args .n) (fw .result) (bw .result) both (loop .at) (loop .k) (found .result)
-    (args .n - 1 - found .result)
-    (c .gather .result) (loop .inv both) (c .before .before .loop-test .taken) (found .ensures) refl (c .gather .ensures .0) (c .gather .ensures .1)
+    (args .n - 1 - found .result) (c .gather .result) (loop .inv both) (c .before .before .loop-test .taken) (found .ensures) refl
+    (c .gather .ensures .0) (c .gather .ensures .1)
 
 returns : tie.Need-returns Inv-loop μ-loop
 returns c =

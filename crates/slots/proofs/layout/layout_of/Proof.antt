@@ -37,10 +37,10 @@ returns c =
     let marks = c .before .before .before .before .marks in
     let p = c .before .loop in
     let n : p .key ≡ 32 = omega (arith, c .loop-test .left, p .inv .0) in
-    layout-is (marks .result) (p .first) (args .kept .now) (args .cleared .now) (args .sizes) (omega (arith, marks .ensures .0)) (omega (arith, p .inv .1))
-    (λ k h. marks .ensures .1 k (omega arith))
-    (λ k h. p .inv .2 k (omega arith) ∙ cond-same (marks .ensures .1 k (omega arith)) (c .before .before .before .firsts .ensures .1 k (omega arith))
-    (c .before .before .firsts2 .ensures .1 k (omega arith)))
+    layout-is (marks .result) (p .first) (args .kept .now) (args .cleared .now) (args .sizes) (omega (arith, marks .ensures .0))
+    (omega (arith, p .inv .1)) (λ k h. marks .ensures .1 k (omega arith))
+    (λ k h. p .inv .2 k (omega arith) ∙ cond-same (marks .ensures .1 k (omega arith))
+    (c .before .before .before .firsts .ensures .1 k (omega arith)) (c .before .before .firsts2 .ensures .1 k (omega arith)))
 
 pub layout-of-spec : {M : Type 1} → statement M
 layout-of-spec =

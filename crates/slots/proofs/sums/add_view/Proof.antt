@@ -115,12 +115,11 @@ same-length-2 c = c .before .before .before .before .add-keys .kept .0
 
 returns-2 : tie.Need-returns-2
 returns-2 c =
-    let args = c .before .before .before .before .before .before .before .before .before .before .before .before .before .before .before .before
-    .before .before .before .before .before .args in
+    let back8 = c .before .before .before .before .before .before .before .before in
+    let back16 = back8 .before .before .before .before .before .before .before .before in
+    let args = back16 .before .before .before .before .before .args in
     view-other (args .branch) (args .f) (args .layout) (args .row) (args .prior) (args .keys .now) (args .y) (args .d) (args .nums .now) _ _ _
-    (c .before .before .before .before .before .before .before .before .before .before .before .before .before .before .before .before .if1 .left)
-    (c .before .before .before .before .before .before .before .before .before .before .before .before .copy-rows .ensures)
-    (c .before .before .before .before .add-keys .ensures)
+    (back16 .if1 .left) (back8 .before .before .before .before .copy-rows .ensures) (c .before .before .before .before .add-keys .ensures)
 
 pub add-view-spec : {M : Type 1} → statement M
 add-view-spec =

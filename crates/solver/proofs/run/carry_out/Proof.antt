@@ -32,9 +32,9 @@ returns c =
     let args = c .before .before .before .before .before .before .before .before .before .before .before .before .before .before .before .before
     .before .before .before .before .before .args in
     let carried = c .before .before .before .before .before .before .before .before .before .carry-pass in
-    rw (c .refused .ensures)
-    (first-refused (args .g) (planIn (args .g .variables) (args .p)) (args .places .figure) (args .factors .now) (args .messages .now)
-    (args .marginals .now) _ _ _ _ _ (carried .ensures .0) (c .before .before .before .j .given .1) (carried .ensures .1 .0) (c .before .step-of .ensures))
+    rw (c .refused .ensures) (first-refused (args .g) (planIn (args .g .variables) (args .p)) (args .places .figure) (args .factors .now)
+    (args .messages .now) (args .marginals .now) _ _ _ _ _ (carried .ensures .0) (c .before .before .before .j .given .1) (carried .ensures .1 .0)
+    (c .before .step-of .ensures))
 
 carry-pass-requires-2 : tie.Need-carry-pass-requires-2
 carry-pass-requires-2 c κs =
@@ -82,35 +82,35 @@ sub-refused-2 c =
 returns-2 : tie.Need-returns-2
 unfolding planIn
 returns-2 c =
-    let entry = c .before .before .before .before .before .before .before .before .before .before .before .before .before .before .before .before
-    .before .before .before .before .before .before .before .before .before .before .before .before .before .before in
+    let back8 = c .before .before .before .before .before .before .before .before in
+    let back16 = back8 .before .before .before .before .before .before .before .before in
+    let back24 = back16 .before .before .before .before .before .before .before .before in
+    let entry = back24 .before .before .before .before .before .before in
     let args = entry .args in
     let pre = entry .pre in
-    let carried = c .before .before .before .before .before .before .before .before .before .before .before .before .before .before .before .before
-    .before .before .carry-pass in
-    let carried2 = c .before .before .before .before .before .before .before .before .before .carry-pass2 in
-    let through = c .before .before .before .before .before .before .before .before .before .before .before .before .enum-told .given .1 in
+    let carried = back16 .before .before .carry-pass in
+    let carried2 = back8 .before .carry-pass2 in
+    let through = back8 .before .before .before .before .enum-told .given .1 in
     let ends = forward-ends (args .g) (args .p) (pre .0 .0) (args .places) (args .keys .now) (args .heads .now) (pre .0 .1) (args .factors .now)
     (args .messages .now) _ _ (pre .1) _ (carried .ensures .1 .1 .0 through) in
-    rw (c .refused2 .ensures)
-    (second-refused (args .g) (planIn (args .g .variables) (args .p)) (args .places .figure) (args .factors .now) (args .messages .now)
-    (args .marginals .now) (args .places .forward) _ _ _ _ (carried .ensures .0) (carried2 .ensures .0) through
+    rw (c .refused2 .ensures) (second-refused (args .g) (planIn (args .g .variables) (args .p)) (args .places .figure) (args .factors .now)
+    (args .messages .now) (args .marginals .now) (args .places .forward) _ _ _ _ (carried .ensures .0) (carried2 .ensures .0) through
     (carried .ensures .1 .0) (carried2 .ensures .1 .0) ends _ _ _ (c .before .before .before .j2 .given .1) (c .before .step-of2 .ensures))
 
 third-stage-requires : tie.Need-third-stage-requires
 third-stage-requires c κs =
-    let entry = c .before .before .before .before .before .before .before .before .before .before .before .before .before .before .before .before
-    .before .before .before .before .before .before .before .before .before .before .before .before .before .before in
+    let back8 = c .before .before .before .before .before .before .before .before in
+    let back16 = back8 .before .before .before .before .before .before .before .before in
+    let back24 = back16 .before .before .before .before .before .before .before .before in
+    let entry = back24 .before .before .before .before .before .before in
     let args = entry .args in
     let pre = entry .pre in
-    let carried = c .before .before .before .before .before .before .before .before .before .before .before .before .before .before .before .before
-    .before .before .carry-pass in
-    let carried2 = c .before .before .before .before .before .before .before .before .before .carry-pass2 in
+    let carried = back16 .before .before .carry-pass in
+    let carried2 = back8 .before .carry-pass2 in
     let kept = carried .kept .1 .1 .1 .1 .1 in
     let kept2 = carried2 .kept .1 .1 .1 .1 .1 in
     let enough = enough-later (pre .1) (kept .0) (kept .1 .0) in
-    let fw = carried .ensures .1 .1 .0 (c .before .before .before .before .before .before .before .before .before .before .before .before .enum-told
-    .given .1) in
+    let fw = carried .ensures .1 .1 .0 (back8 .before .before .before .before .enum-told .given .1) in
     let bw = carried2 .ensures .1 .1 .0 (c .before .before .before .enum-told2 .given .1) in
     third-asks (args .g) (args .p) (pre .0 .0) (args .places) (args .keys .now) (args .heads .now) (pre .0 .1) (args .factors .now) _ _
     (length (args .marginals .now)) (enough-later enough (kept2 .0) (kept2 .1 .0))
@@ -120,27 +120,27 @@ third-stage-requires c κs =
 returns-3 : tie.Need-returns-3
 unfolding planIn
 returns-3 c =
-    let entry = c .before .before .before .before .before .before .before .before .before .before .before .before .before .before .before .before
-    .before .before .before .before .before .before .before .before .before .before .before .before .before .before .before .before .before .before .before in
+    let back8 = c .before .before .before .before .before .before .before .before in
+    let back16 = back8 .before .before .before .before .before .before .before .before in
+    let back24 = back16 .before .before .before .before .before .before .before .before in
+    let back32 = back24 .before .before .before .before .before .before .before .before in
+    let entry = back32 .before .before .before in
     let args = entry .args in
     let pre = entry .pre in
-    let carried = c .before .before .before .before .before .before .before .before .before .before .before .before .before .before .before .before
-    .before .before .before .before .before .before .before .carry-pass in
-    let carried2 = c .before .before .before .before .before .before .before .before .before .before .before .before .before .before .carry-pass2 in
+    let carried = back16 .before .before .before .before .before .before .before .carry-pass in
+    let carried2 = back8 .before .before .before .before .before .before .carry-pass2 in
     let kept = carried .kept .1 .1 .1 .1 .1 in
     let kept2 = carried2 .kept .1 .1 .1 .1 .1 in
     let enough = enough-later (pre .1) (kept .0) (kept .1 .0) in
-    let through = c .before .before .before .before .before .before .before .before .before .before .before .before .before .before .before .before
-    .before .enum-told .given .1 in
-    let through2 = c .before .before .before .before .before .before .before .before .enum-told2 .given .1 in
+    let through = back16 .before .enum-told .given .1 in
+    let through2 = back8 .enum-told2 .given .1 in
     let fw = carried .ensures .1 .1 .0 through in
     let bw = carried2 .ensures .1 .1 .0 through2 in
     let ends = forward-ends (args .g) (args .p) (pre .0 .0) (args .places) (args .keys .now) (args .heads .now) (pre .0 .1) (args .factors .now)
     (args .messages .now) _ _ (pre .1) _ fw in
     third-told (args .g) (planIn (args .g .variables) (args .p)) (args .places .figure) (args .factors .now) (args .messages .now)
-    (args .marginals .now) (args .places .forward) _ _ _ _ (carried .ensures .0) (carried2 .ensures .0) through
-    (carried .ensures .1 .0) (carried2 .ensures .1 .0) ends _ _ through2
-    (c .before .before .before .before .third-stage .ensures _
+    (args .marginals .now) (args .places .forward) _ _ _ _ (carried .ensures .0) (carried2 .ensures .0) through (carried .ensures .1 .0)
+    (carried2 .ensures .1 .0) ends _ _ through2 (c .before .before .before .before .third-stage .ensures _
     (gatherable (args .g) (args .p) (pre .0 .0) (args .places) (args .keys .now) (args .heads .now) (pre .0 .1) (args .factors .now) _ _
     (length (args .marginals .now)) (enough-later enough (kept2 .0) (kept2 .1 .0))
     (forward-stays (args .g) (args .p) (pre .0 .0) (args .places) (args .keys .now) (args .heads .now) (pre .0 .1) (args .factors .now) _ _

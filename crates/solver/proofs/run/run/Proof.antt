@@ -12,10 +12,8 @@ use Rattle.solver.proofs.run.run.Tie as tie
 returns : tie.Need-returns
 returns c =
     let args = c .before .before .before .before .before .before .before .before .before .args in
-    run-tells _ _ _ _
-    (rw (c .refused .ensures)
-    (run-refused (args .g) (args .factors .now) (args .messages .now) (args .marginals .now) (length (args .work .now)) _
-    (refused-why _ (args .g) _ (c .before .before .before .before .arrange .ensures .0) (c .before .before .outcome .given .1))))
+    run-tells _ _ _ _ (rw (c .refused .ensures) (run-refused (args .g) (args .factors .now) (args .messages .now) (args .marginals .now)
+    (length (args .work .now)) _ (refused-why _ (args .g) _ (c .before .before .before .before .arrange .ensures .0) (c .before .before .outcome .given .1))))
 
 place-plan-requires : tie.Need-place-plan-requires
 place-plan-requires c κs =
@@ -32,27 +30,26 @@ check-stores-requires c κs =
 
 returns-2 : tie.Need-returns-2
 returns-2 c =
-    let args = c .before .before .before .before .before .before .before .before .before .before .before .before .before .before .before .before
-    .before .before .args in
-    let made = c .before .before .before .before .before .before .before .before .before .before .before .before .before .arrange in
-    let pl = made-planned (made .result) (args .g) (made .ensures .0) (made .ensures .1 .1)
-    (c .before .before .before .before .before .before .before .before .before .before .before .enum-told .given .1) in
-    run-tells _ _ _ _
-    (rw (c .refused2 .ensures)
-    (run-made (args .g) (made .result .plan) _ _ _ (args .factors .now) (args .messages .now) (args .marginals .now) (length (args .work .now)) pl
-    (c .before .before .before .before .before .before .before .place-plan .ensures) _
+    let back8 = c .before .before .before .before .before .before .before .before in
+    let back16 = back8 .before .before .before .before .before .before .before .before in
+    let args = back16 .before .before .args in
+    let made = back8 .before .before .before .before .before .arrange in
+    let pl = made-planned (made .result) (args .g) (made .ensures .0) (made .ensures .1 .1) (back8 .before .before .before .enum-told .given .1) in
+    run-tells _ _ _ _ (rw (c .refused2 .ensures) (run-made (args .g) (made .result .plan) _ _ _ (args .factors .now) (args .messages .now)
+    (args .marginals .now) (length (args .work .now)) pl (c .before .before .before .before .before .before .before .place-plan .ensures) _
     (short-checked (args .g) (planIn (args .g .variables) (made .result .plan)) _ (args .factors .now) (args .messages .now) (args .marginals .now)
     (length (args .work .now)) _ (sym (c .before .before .before .before .check-stores .ensures) ∙ c .before .before .why .given .1))))
 
 carry-out-requires : tie.Need-carry-out-requires
 carry-out-requires c κs =
-    let args = c .before .before .before .before .before .before .before .before .before .before .before .before .before .before .before .before
-    .before .before .before .before .before .args in
-    let made = c .before .before .before .before .before .before .before .before .before .before .before .before .before .before .before .before .arrange in (
+    let back8 = c .before .before .before .before .before .before .before .before in
+    let back16 = back8 .before .before .before .before .before .before .before .before in
+    let args = back16 .before .before .before .before .before .args in
+    let made = back16 .arrange in (
       (
         as-held (args .g) _ _ (made-planned (made .result) (args .g) (made .ensures .0) (made .ensures .1 .1)
-            (c .before .before .before .before .before .before .before .before .before .before .before .before .before .before .enum-told .given .1)),
-        c .before .before .before .before .before .before .before .before .before .before .place-plan .ensures,
+            (back8 .before .before .before .before .before .before .enum-told .given .1)),
+        back8 .before .before .place-plan .ensures,
       ),
       enough-told (args .g) _ _ _ _ _ (sym (c .before .before .before .before .before .before .before .check-stores .ensures)
           ∙ c .before .before .before .before .before .enum-told2 .given .1),
@@ -60,23 +57,19 @@ carry-out-requires c κs =
 
 returns-3 : tie.Need-returns-3
 returns-3 c =
-    let args = c .before .before .before .before .before .before .before .before .before .before .before .before .before .before .before .before
-    .before .before .before .before .before .before .before .before .before .before .before .before .args in
-    let made = c .before .before .before .before .before .before .before .before .before .before .before .before .before .before .before .before
-    .before .before .before .before .before .before .before .arrange in
+    let back8 = c .before .before .before .before .before .before .before .before in
+    let back16 = back8 .before .before .before .before .before .before .before .before in
+    let back24 = back16 .before .before .before .before .before .before .before .before in
+    let args = back24 .before .before .before .before .args in
+    let made = back16 .before .before .before .before .before .before .before .arrange in
     let pl = made-planned (made .result) (args .g) (made .ensures .0) (made .ensures .1 .1)
-    (c .before .before .before .before .before .before .before .before .before .before .before .before .before .before .before .before .before
-    .before .before .before .before .enum-told .given .1) in
-    run-tells _ _ _ _
-    (run-made (args .g) (made .result .plan) _ _ _ (args .factors .now) (args .messages .now) (args .marginals .now) (length (args .work .now)) pl
-    (c .before .before .before .before .before .before .before .before .before .before .before .before .before .before .before .before .before
-    .place-plan .ensures) _
+    (back16 .before .before .before .before .before .enum-told .given .1) in
+    run-tells _ _ _ _ (run-made (args .g) (made .result .plan) _ _ _ (args .factors .now) (args .messages .now) (args .marginals .now)
+    (length (args .work .now)) pl (back16 .before .place-plan .ensures) _
     (c .before .before .before .before .before .before .carry-out .ensures
-    ∙ enough-checked (args .g) (planIn (args .g .variables) (made .result .plan)) _ (args .factors .now) (args .messages .now) (args .marginals .now)
-    (length (args .work .now))
-    (enough-told (args .g) _ _ _ _ _ (sym (c .before .before .before .before .before .before .before .before .before .before .before .before .before
-    .before .check-stores .ensures) ∙ c .before .before .before .before .before .before .before .before .before .before .before .before .enum-told2
-    .given .1))))
+    ∙ enough-checked (args .g) (planIn (args .g .variables) (made .result .plan)) _ (args .factors .now) (args .messages .now)
+    (args .marginals .now) (length (args .work .now)) (enough-told (args .g) _ _ _ _ _
+    (sym (back8 .before .before .before .before .before .before .check-stores .ensures) ∙ back8 .before .before .before .before .enum-told2 .given .1))))
 
 pub run-spec : {M : Type 1} → statement M
 run-spec =

@@ -50,15 +50,13 @@ moments-requires c κs =
 returns : tie.Need-returns
 returns c =
     let args = c .before .before .before .before .before .before .before .before .before .before .before .before .before .before .before .before .args in
-    from-tells _ _ _ _ _
-    (from-pivot (args .key) (args .size) (args .rows) (args .message .now) _ _ _
+    from-tells _ _ _ _ _ (from-pivot (args .key) (args .size) (args .rows) (args .message .now) _ _ _
     (c .before .before .before .before .before .before .before .moments .ensures .0) _ (c .refused .ensures) (c .before .enum-told2 .given .1))
 
 returns-2 : tie.Need-returns-2
 returns-2 c =
     let args = c .before .before .before .before .before .before .before .before .before .before .before .before .before .before .before .before .args in
-    from-tells _ _ _ _ _
-    (from-unbounded (args .key) (args .size) (args .rows) (args .message .now) _ _ _
+    from-tells _ _ _ _ _ (from-unbounded (args .key) (args .size) (args .rows) (args .message .now) _ _ _
     (c .before .before .before .before .before .before .before .moments .ensures .0) _ (c .refused2 .ensures) (c .before .enum-told3 .given .1))
 
 returns-3 : tie.Need-returns-3
@@ -71,8 +69,7 @@ returns-3 c =
     let a = mul-le-mul (pre .1) (pre .0) in
     let b = mul-le-mul (pre .1) (pre .1) in
     let d = mul-le-mul (pre .0) (pre .0) in
-    from-tells _ _ _ _ _
-    (from-done (args .key) (args .size) (args .rows) (args .message .now) _ _ _ (moments .ensures .0)
+    from-tells _ _ _ _ _ (from-done (args .key) (args .size) (args .rows) (args .message .now) _ _ _ (moments .ensures .0)
     (moments .kept .1 .1 .1 .1 .1 .0 ∙ zeros-long 6 (args .size) (pre .0))
     (moments .kept .1 .1 .1 .1 .1 .1 .1 .0 ∙ zeros-long 36 (args .size * args .size) d) (c .enum-told .given .1))
 
