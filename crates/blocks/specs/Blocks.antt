@@ -1,5 +1,4 @@
--- The block columns of one factor, and a reader that gives each key with its block column in turn: document 01, "Kept, and written anew".
--- Definitions only.
+-- The block columns of one factor: document 01, "Kept, and written anew". Definitions only.
 use Prim.Native.Nat.{ℕ, zero, suc, _+_, _*_}
 use mathlib.Core.List.{List}
 use lib.ListN.{getD}

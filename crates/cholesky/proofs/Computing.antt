@@ -8,8 +8,8 @@ use Rattle.matrix.specs.Stores.{steps, sweep}
 use Rattle.matrix.specs.Finite.{allFinite}
 use Rattle.cholesky.specs.Factor.{pivotOf, reduced, below, rooted, factorColumn, factor}
 use Rattle.cholesky.specs.Solve.{solvedRow, solveLower, solveUpper, solved, unitColumn, inverted}
-use Rattle.cholesky.specs.Forms.{Form, bounded, exchangedBy, exchanged}
+use Rattle.cholesky.specs.Forms.{Form, finiteForm, exchangedBy, exchanged}
 
 unfoldable pub computedExchange : ℕ → List Float → List Float → Form
-unfolding exchanged exchangedBy bounded factor factorColumn rooted below reduced pivotOf rootOf solved solveLower solveUpper solvedRow inverted unitColumn steps sweep deductOf deduct allFinite ofBits sub mul div
+unfolding exchanged exchangedBy finiteForm factor factorColumn rooted below reduced pivotOf rootOf solved solveLower solveUpper solvedRow inverted unitColumn steps sweep deductOf deduct allFinite ofBits sub mul div
 computedExchange n x m = exchanged n x m

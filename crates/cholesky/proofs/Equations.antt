@@ -17,7 +17,7 @@ use Rattle.root.specs.declared.Pivot.the-variants.{Root, Refused}
 use Rattle.matrix.proofs.Agreement.{deduct-same}
 use Rattle.matrix.proofs.Entries.{steps-length, steps-other, steps-at}
 
--- the given entry (i, j) of s deduct l(i, k) times l(j, k) of t, for rising k below j
+-- the given entry (i, j) of s less l(i, k) times l(j, k) of t, for rising k below j
 pub rest : List Float → List Float → View → ℕ → ℕ → Float
 rest s t v i j = deductOf (entry s v i j) t v i t (flip v) j 0 j
 

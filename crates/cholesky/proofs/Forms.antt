@@ -14,7 +14,7 @@ use Rattle.matrix.specs.declared.View.{View}
 use Rattle.matrix.proofs.Entries.{steps-length, sweep-length}
 use Rattle.cholesky.specs.Factor.{Left, whole, stuck, factor}
 use Rattle.cholesky.specs.Solve.{solveLower, solveUpper, solved, unitColumn, inverted}
-use Rattle.cholesky.specs.Forms.{form, pivot, notFinite, bounded, exchangedBy, exchanged}
+use Rattle.cholesky.specs.Forms.{form, pivot, notFinite, finiteForm, exchangedBy, exchanged}
 use Rattle.cholesky.specs.declared.Factored.{Factored}
 use Rattle.cholesky.specs.declared.Factored.the-variants as factored
 use Rattle.cholesky.specs.declared.exchange.Exchanged.the-variants.{Done, Pivot, NotFinite}
@@ -25,7 +25,7 @@ use Rattle.cholesky.specs.Answers.{factoredAs, listOf, told}
 
 module _ (n : ℕ) (x : List Float) where
   whole-by : (F : Left) → factoredAs F ≡ factored.Done
-      → exchangedBy n x F ≡ bounded (solved (listOf F) (columns n) n (columns n) 0 x)
+      → exchangedBy n x F ≡ finiteForm (solved (listOf F) (columns n) n (columns n) 0 x)
       (inverted (listOf F) (columns n) n (columns n) (replicate (n * n) plus-zero) n)
   unfolding exchangedBy
   whole-by (whole l) e = refl
@@ -43,21 +43,21 @@ module _ (n : ℕ) (x : List Float) where
 
     module _ (l z₀ : List Float) (el : l ≡ listOf (factor (columns n) n m n)) (e : r ≡ factored.Done) (ez₀ : z₀ ≡ replicate (n * n) plus-zero)
         (ey : y ≡ solved l (columns n) n (columns n) 0 x) (ez : z ≡ inverted l (columns n) n (columns n) z₀ n) (b : Bool) (eb : b ≡ allFinite y) where
-      both : exchanged n x m ≡ bounded y z
+      both : exchanged n x m ≡ finiteForm y z
       unfolding exchanged
       both = whole-by (factor (columns n) n m n) (sym er ∙ e) ∙ sym (rw (ey, ez, ez₀, el))
 
       pub vector-refused : b ≡ false → exchanged n x m ≡ told NotFinite y z
-      unfolding bounded told
+      unfolding finiteForm told
       vector-refused h = both ∙ simp (sym eb ∙ h)
 
       module _ (h : b ≡ true) (d : Bool) (ed : d ≡ allFinite z) where
         pub matrix-refused : d ≡ false → exchanged n x m ≡ told NotFinite y z
-        unfolding bounded told
+        unfolding finiteForm told
         matrix-refused g = both ∙ simp (sym eb ∙ h, sym ed ∙ g)
 
         pub exchange-done : d ≡ true → exchanged n x m ≡ told Done y z
-        unfolding bounded told
+        unfolding finiteForm told
         exchange-done g = both ∙ simp (sym eb ∙ h, sym ed ∙ g)
 
 -- ---- lengths
@@ -72,8 +72,8 @@ inverted-length l lv n xv x m = sweep-length _ x m (λ c t. solved-length l lv n
 
 -- the other form has a vector as long as the one given, and a matrix of n × n numbers
 module _ (n : ℕ) (x y z : List Float) where
-  bounded-long : (a b : List Float) → length a ≡ length x → length b ≡ n * n → bounded a b ≡ form y z → (length y ≡ length x) × (length z ≡ n * n)
-  unfolding bounded
+  bounded-long : (a b : List Float) → length a ≡ length x → length b ≡ n * n → finiteForm a b ≡ form y z → (length y ≡ length x) × (length z ≡ n * n)
+  unfolding finiteForm
   bounded-long a b la lb e = go (allFinite a) (allFinite b) e
     where
       go : (p q : Bool) → cond p (cond q (form a b) notFinite) notFinite ≡ form y z → (length y ≡ length x) × (length z ≡ n * n)
@@ -94,7 +94,7 @@ exchanged-long n x m y z e = by-long n x y z (factor (columns n) n m n) e
 -- ---- a vector of zeros and the identity are exchanged at every size: no pivot is refused, and all numbers are finite
 
 pub identity-exchanged : (n : ℕ) → exchanged n (replicate n plus-zero) (identityOf n) ≡ form (replicate n plus-zero) (identityOf n)
-unfolding exchanged exchangedBy bounded
+unfolding exchanged exchangedBy finiteForm
 identity-exchanged n =
     simp (
       identity-factor n,

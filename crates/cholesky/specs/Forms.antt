@@ -17,12 +17,13 @@ pub data Form : Type 0 where
   pivot : Form
   notFinite : Form
 
-unfoldable pub bounded : (x m : List Float) → Form
-bounded x m = cond (allFinite x) (cond (allFinite m) (form x m) notFinite) notFinite
+-- the form, if all its numbers are finite; that they aren't is 6 for a factor and 17 for a marginal
+unfoldable pub finiteForm : (x m : List Float) → Form
+finiteForm x m = cond (allFinite x) (cond (allFinite m) (form x m) notFinite) notFinite
 
 -- with the Cholesky factor l of the matrix the vector is solved and the matrix inverted
 unfoldable pub exchangedBy : (n : ℕ) (x : List Float) → Left → Form
-exchangedBy n x (whole l) = bounded (solved l (columns n) n (columns n) 0 x) (inverted l (columns n) n (columns n) (replicate (n * n) plus-zero) n)
+exchangedBy n x (whole l) = finiteForm (solved l (columns n) n (columns n) 0 x) (inverted l (columns n) n (columns n) (replicate (n * n) plus-zero) n)
 exchangedBy n x (stuck l) = pivot
 
 unfoldable pub exchanged : (n : ℕ) (x m : List Float) → Form

@@ -10,7 +10,7 @@ use Rattle.graph.specs.Moments.{startOf}
 use Rattle.lines.specs.Lines.{hexBy, numberText, numbersText, lineText, linesText, refusedWord, refusalText}
 use Rattle.records.proofs.Computing.{computedReading}
 use Rattle.job.specs.Job.{runText, jobText}
-use Rattle.claims.specs.Pairs.{sized-bytes, variable-record, prior-record, equal-bytes}
+use Rattle.claims.specs.Pairs.{sized-bytes, bytes-of-variable, bytes-of-prior, equal-bytes}
 use Rattle.claims.proofs.Computing.{computedRun}
 
 -- the text, opened for computing
@@ -36,13 +36,13 @@ one-variable (suc (suc (suc (suc (suc (suc zero)))))) l m = refl
 one-variable (suc (suc (suc (suc (suc (suc (suc size))))))) l m = absurd (omega arith)
 
 -- P3: `0`, ` 4000000000000000` and ` 4010000000000000`
-pub one-prior : jobText (variable-record 0 ++ prior-record)
+pub one-prior : jobText (bytes-of-variable 0 ++ bytes-of-prior)
     ≡ (48 ∷ []) ++ (32 ∷ 52 ∷ 48 ∷ 48 ∷ 48 ∷ 48 ∷ 48 ∷ 48 ∷ 48 ∷ 48 ∷ 48 ∷ 48 ∷ 48 ∷ 48 ∷ 48 ∷ 48 ∷ 48 ∷ []) ++
     (32 ∷ 52 ∷ 48 ∷ 49 ∷ 48 ∷ 48 ∷ 48 ∷ 48 ∷ 48 ∷ 48 ∷ 48 ∷ 48 ∷ 48 ∷ 48 ∷ 48 ∷ 48 ∷ 48 ∷ []) ++ (10 ∷ [])
 unfolding printed
 one-prior = refl
 
 -- P8: ` 3 0 2`, since the third record is refused
-pub equal-keys : jobText (variable-record 0 ++ variable-record 1 ++ equal-bytes) ≡ refusedWord ++ (32 ∷ 51 ∷ 32 ∷ 48 ∷ 32 ∷ 50 ∷ 10 ∷ [])
+pub equal-keys : jobText (bytes-of-variable 0 ++ bytes-of-variable 1 ++ equal-bytes) ≡ refusedWord ++ (32 ∷ 51 ∷ 32 ∷ 48 ∷ 32 ∷ 50 ∷ 10 ∷ [])
 unfolding printed
 equal-keys = refl

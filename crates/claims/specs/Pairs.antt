@@ -145,12 +145,12 @@ four-bytes = 0 ∷ 0 ∷ 0 ∷ 0 ∷ 0 ∷ 0 ∷ 0x10 ∷ 0x40 ∷ []
 abbrev pub sized-bytes : (index size : ℕ) → List ℕ
 sized-bytes index size = 0x56 ∷ 0x41 ∷ 0x61 ∷ 0 ∷ 0 ∷ 0 ∷ index ∷ 0 ∷ 0 ∷ 0 ∷ size ∷ []
 
-abbrev pub variable-record : ℕ → List ℕ
-variable-record index = sized-bytes index 1
+abbrev pub bytes-of-variable : ℕ → List ℕ
+bytes-of-variable index = sized-bytes index 1
 
 -- a prior on key 0 with mean 2 and variance 4
-abbrev pub prior-record : List ℕ
-prior-record = 0x50 ∷ 0x52 ∷ 0 ∷ two-bytes ++ four-bytes
+abbrev pub bytes-of-prior : List ℕ
+bytes-of-prior = 0x50 ∷ 0x52 ∷ 0 ∷ two-bytes ++ four-bytes
 
 -- an observation of one row on the keys 1, 1
 abbrev pub equal-bytes : List ℕ
@@ -211,9 +211,9 @@ pub record Pairs : Type 0 where
   -- P2 as a job, of every size: `refused 16 3 0`
   pub p2-job : (size : ℕ) → 1 ≤ size → size ≤ max-size → jobText (sized-bytes 0 size) ≡ refusedWord ++ (32 ∷ 49 ∷ 54 ∷ 32 ∷ 51 ∷ 32 ∷ 48 ∷ 10 ∷ [])
   -- P3 and P8 as jobs: `0 4000000000000000 4010000000000000`; `refused 3 0 2`, since the third record is refused
-  pub p3-job : jobText (variable-record 0 ++ prior-record)
+  pub p3-job : jobText (bytes-of-variable 0 ++ bytes-of-prior)
       ≡ (48 ∷ [])
       ++ (32 ∷ 52 ∷ 48 ∷ 48 ∷ 48 ∷ 48 ∷ 48 ∷ 48 ∷ 48 ∷ 48 ∷ 48 ∷ 48 ∷ 48 ∷ 48 ∷ 48 ∷ 48 ∷ 48 ∷ [])
       ++ (32 ∷ 52 ∷ 48 ∷ 49 ∷ 48 ∷ 48 ∷ 48 ∷ 48 ∷ 48 ∷ 48 ∷ 48 ∷ 48 ∷ 48 ∷ 48 ∷ 48 ∷ 48 ∷ 48 ∷ [])
       ++ (10 ∷ [])
-  pub p8-job : jobText (variable-record 0 ++ variable-record 1 ++ equal-bytes) ≡ refusedWord ++ (32 ∷ 51 ∷ 32 ∷ 48 ∷ 32 ∷ 50 ∷ 10 ∷ [])
+  pub p8-job : jobText (bytes-of-variable 0 ++ bytes-of-variable 1 ++ equal-bytes) ≡ refusedWord ++ (32 ∷ 51 ∷ 32 ∷ 48 ∷ 32 ∷ 50 ∷ 10 ∷ [])

@@ -11,14 +11,14 @@ use Rattle.workspace.specs.Sums.{Sums, pick, change}
 use Rattle.workspace.specs.declared.Frame.{Frame}
 use Rattle.workspace.specs.declared.Part.the-variants.{S, H, G, Xi, W}
 use Rattle.slots.specs.declared.Branch.{Branch}
-use Rattle.gaussian.specs.Elimination.{refused, done, filled, lost, ended, factorised}
+use Rattle.gaussian.specs.Elimination.{refused, done, filledW, lost, ended, factorised}
 use Rattle.gaussian.specs.Answers.{endedAs}
 use Rattle.cholesky.specs.Answers.{factoredAs, listOf}
 
 module _ (branch : Branch) (f : Frame) where
   pub lose-is : (σ σ₁ σ₂ σ₃ σ₄ σ₅ : Sums) → σ₁ ≡ change H (λ c. solvedColumns (σ .s) (f .cleared) c 1) σ → σ₂
       ≡ change G (λ c. solvedColumns (σ₁ .s) (f .cleared) c (f .rows)) σ₁
-      → σ₃ ≡ change W (λ c. filled branch (f .rows) c) σ₂
+      → σ₃ ≡ change W (λ c. filledW branch (f .rows) c) σ₂
       → σ₄ ≡ change Xi (λ c. product Subtract (columns (f .rows)) (f .rows) (σ₃ .g) (flip (columns (f .cleared))) (pick H σ₃) (columns (f .cleared))
       (f .cleared) c 1) σ₃
       → σ₅ ≡ change W (λ c. product Subtract (columns (f .rows)) (f .rows) (σ₄ .g) (flip (columns (f .cleared))) (pick G σ₄) (columns (f .cleared))

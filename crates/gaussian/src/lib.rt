@@ -33,7 +33,7 @@ ghost use Rattle.slots.specs.Layouts.{dimOf};
 ghost use Rattle.slots.specs.Views.{rowsOfAll, withViews, factorNumbers};
 ghost use Rattle.slots.specs.Tables.{headOf, viewAt};
 ghost use Rattle.slots.specs.Fitting.{SlotReady, Counted};
-ghost use Rattle.gaussian.specs.Elimination.{branchOf, messageRows, begun, filled, lost, factorised, inBranch, eliminate, numbersIn};
+ghost use Rattle.gaussian.specs.Elimination.{branchOf, messageRows, begun, filledW, lost, factorised, inBranch, eliminate, numbersIn};
 ghost use Rattle.gaussian.specs.Answers.{endedAs, eliminatedAs, messageStored, leftIn, viewsOf, branchedAt};
 ghost use Rattle.gaussian.specs.Asked.{Asked, Roomy, SlotsAsked};
 ghost use Rattle.gaussian.specs.Told.{eliminatedTold, messageTold};
@@ -124,7 +124,7 @@ fn sum_up<'a>(
 // In x only the lower triangle of W has been summed: the upper one is filled from it.
 fn fill_upper_in_x(work: &mut [f64], f: Frame, branch: Branch)
     requires { ⌜ FrameLaid f (length (now work)) ⌝ }
-    ensures { λ _. ⌜ matricesIn f (now (work .exit)) ≡ change Part.W (λ c. filled branch (f .rows) c) (matricesIn f (now (work .entry))) ⌝ }
+    ensures { λ _. ⌜ matricesIn f (now (work .exit)) ≡ change Part.W (λ c. filledW branch (f .rows) c) (matricesIn f (now (work .entry))) ⌝ }
 {
     match branch {
         Branch::Z => {}

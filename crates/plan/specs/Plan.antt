@@ -17,8 +17,8 @@ use Rattle.plan.specs.declared.plan.Plan.{Plan}
 use Rattle.factor.specs.Factor.{absent}
 use Rattle.factor.specs.declared.Factor.{Factor}
 
-abbrev pub place : (k : ℕ) (order : List ℕ) → ℕ
-place k order = schedule.placeIn k order
+abbrev pub keyPlace : (k : ℕ) (order : List ℕ) → ℕ
+keyPlace k order = schedule.placeIn k order
 
 -- Where a plan starts and along what: the first `number` of live are numbers of originals, none twice, and the first n of the order
 -- name each of n keys once.

@@ -41,7 +41,7 @@ fn reversed(order: [u8; VARIABLES], n: usize) -> [u8; VARIABLES]
 // The place of a key in the order, which is its step in the forward pass.
 fn place(order: [u8; VARIABLES], n: usize, k: usize) -> usize
     requires { ⌜ n ≤ max-variables ⌝ }
-    ensures { λ r. ⌜ r ≡ spec.place k (take n order) ⌝ }
+    ensures { λ r. ⌜ r ≡ spec.keyPlace k (take n order) ⌝ }
 {
     let mut i = 0;
     while i < n {

@@ -46,7 +46,7 @@ pub record Run (K : ℕ → List ℕ) (N : List ℕ) (P : List ℕ) (st : State)
   -- each message is active, or in the content of one other
   pub place : (c : ℕ) → count c (messagesIn (st .active)) + sumOver (λ m. count c (messagesIn (m .content))) (st .messages)
       ≡ count c (from 0 (length (st .messages)))
-  -- under the active messages stand collected messages, each once
+  -- under the active messages stand all messages, each once
   pub whole : (h : ℕ → ClosedFactor → List ℕ) (x : ℕ) → sumOver (λ c. count x (collected h (st .messages) c)) (messagesIn (st .active))
       ≡ sumOver (λ j. count x (h j (at (st .messages) j))) (from 0 (length (st .messages)))
   -- an original that touches a cleared key is a leaf under the message that clears it

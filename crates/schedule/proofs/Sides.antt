@@ -191,7 +191,7 @@ pub record Side (K : ℕ → List ℕ) (N P : List ℕ) (k : ℕ) (full : List C
   -- a key up to the step is active or cleared, once; the step's key is active
   pub keys : (j : ℕ) → count j ak + count j gone ≡ count j (k ∷ P)
   pub own : In k ak
-  -- no leaf twice; a leaf's keys are collected up to the step, and one is cleared
+  -- no leaf twice; a leaf's keys are all up to the step, and one is cleared
   pub part : (f : ℕ) → count f (gatheredLeaves full (length P)) ≤ count f N
   pub upto : (f : ℕ) → In f (gatheredLeaves full (length P)) → (j : ℕ) → In j (K f) → In j (k ∷ P)
   pub low : (f : ℕ) → In f (gatheredLeaves full (length P)) → (j : ℕ) × In j (K f) × In j gone
@@ -204,7 +204,7 @@ pub record Side (K : ℕ → List ℕ) (N P : List ℕ) (k : ℕ) (full : List C
   -- the keys cleared behind are the cleared ones
   pub cleared : (j : ℕ) → count j (clearedBy full (behind full (alive-messages (length P) full))) ≡ count j gone
   pub covers : Covers K N full (behind full (alive-messages (length P) full))
-  -- as many turns as there are messages open collected that lies behind
+  -- as many turns as there are messages open all that lies behind
   pub under : AllUnder full (behind full (alive-messages (length P) full))
 
 count-joined² : {A : Type 0} (x : ℕ) (g : ℕ → List ℕ) (h : A → List ℕ) (l : List A) → count x (joined g (joined h l))

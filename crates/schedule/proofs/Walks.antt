@@ -10,7 +10,7 @@ use lib.Dec.{T}
 use lib.ListN.{length}
 use lib.Seq.{append-snoc}
 use Rattle.schedule.specs.Count.{sumOver}
-use Rattle.schedule.specs.Pass.{Slot, Walked, lastOf, initOf, filled, restAfter, placed, walk}
+use Rattle.schedule.specs.Pass.{Slot, Walked, lastOf, initOf, filled, restAfter, withSlot, walk}
 
 last-sum : (g : Slot → ℕ) (s : Slot) (l : List Slot) → g (lastOf s l) + sumOver g (initOf s l) ≡ g s + sumOver g l
 unfolding sumOver
@@ -62,7 +62,7 @@ walk-sum g p (suc d) [] = refl
 walk-sum g p (suc d) (s ∷ l) = go (p s) (walk-sum g p d (restAfter (p s) l))
   where
     go : (b : Bool) → sumOver g ((walk p d (restAfter b l)) .taken) + sumOver g ((walk p d (restAfter b l)) .left) ≡ sumOver g (restAfter b l)
-        → sumOver g ((placed b s (walk p d (restAfter b l))) .taken) + sumOver g ((placed b s (walk p d (restAfter b l))) .left) ≡ g s + sumOver g l
+        → sumOver g ((withSlot b s (walk p d (restAfter b l))) .taken) + sumOver g ((withSlot b s (walk p d (restAfter b l))) .left) ≡ g s + sumOver g l
     go true ih = omega (arith, next-sum g true l)
     go false ih = omega arith
 
@@ -80,7 +80,7 @@ walk-taken p (suc d) (s ∷ l) {e} m = go (p s) refl m (λ b n. walk-taken p d (
     now q (inl r) ih = (List·Memᴰ·head r, rw (r, q) tt)
     now q (inr r) ih = up true (ih true r)
 
-    go : (b : Bool) → p s ≡ b → List·Memᴰ e ((placed b s (walk p d (restAfter b l))) .taken)
+    go : (b : Bool) → p s ≡ b → List·Memᴰ e ((withSlot b s (walk p d (restAfter b l))) .taken)
         → ((b : Bool) → List·Memᴰ e ((walk p d (restAfter b l)) .taken) → List·Memᴰ e (restAfter b l) × T (p e)) → List·Memᴰ e (s ∷ l) × T (p e)
     go true q m ih = now q (List·Memᴰ·cases-cons m) ih
     go false q m ih = up false (ih false m)
@@ -101,7 +101,7 @@ walk-left p (suc d) (s ∷ l) {e} h m = go (p s) refl m (λ b n. walk-left p d (
     now q (inl r) ih = (List·Memᴰ·head r, rw (r, q) tt)
     now q (inr r) ih = up false (ih false r)
 
-    go : (b : Bool) → p s ≡ b → List·Memᴰ e ((placed b s (walk p d (restAfter b l))) .left)
+    go : (b : Bool) → p s ≡ b → List·Memᴰ e ((withSlot b s (walk p d (restAfter b l))) .left)
         → ((b : Bool) → List·Memᴰ e ((walk p d (restAfter b l)) .left) → List·Memᴰ e (restAfter b l) × T (not (p e))) → List·Memᴰ e (s ∷ l) × T (not (p e))
     go true q m ih = up true (ih true m)
     go false q m ih = now q (List·Memᴰ·cases-cons m) ih

@@ -19,12 +19,12 @@ unfoldable pub grow : (ℕ → ClosedFactor → List ℕ) → List ClosedFactor 
 grow h ms zero j = []
 grow h ms (suc d) j = h j (at ms j) ++ joined (grow h ms d) (reverse (inner ms j))
 
--- h of the message j and of collected under it
+-- h of the message j and of all under it
 unfoldable pub collected : (ℕ → ClosedFactor → List ℕ) → List ClosedFactor → ℕ → List ℕ
 unfolding grow
 collected h ms j = grow h ms (suc j) j
 
--- the message alone; so `heavy` counts the messages of a stack with collected that lie under them
+-- the message alone; so `heavy` counts the messages of a stack with all that lie under them
 abbrev pub itself : ℕ → ClosedFactor → List ℕ
 itself j m = j ∷ []
 
@@ -46,7 +46,7 @@ pub record Tidy (n : ℕ) (K : ℕ → List ℕ) (N : List ℕ) (ms : List Close
 -- ---- what a key gathers
 
 pub record Settled (n : ℕ) (K : ℕ → List ℕ) (N : List ℕ) (fw bw : List ClosedFactor) (k : ℕ) (g : Gathered) : Type 0 where
-  -- the keys cleared last and k itself: none stands twice, collected are registered
+  -- the keys cleared last and k itself: none stands twice, all are registered
   pub apart : (x : ℕ) → count x (g .last) + count x (k ∷ []) ≤ 1
   pub low : (x : ℕ) → In x (g .last) → x < n
   -- the gathered messages have been made, and what is gathered has no other keys

@@ -28,7 +28,7 @@ pub enum Target {
     At(Part, View),
 }
 
-// Where the product of the block columns of k and o goes: in z into S for o from k on, in x into S or W for o up to k, and into G for a kept o.
+// Where the product of the block columns of k and o goes: in z into S for o from k on, in x into S or W for o up to k, and into G for a cleared k and a kept o.
 fn target_of(branch: Branch, f: Frame, k: Spot, o: Spot) -> Target
     requires { ⌜ (f .cleared ≤ 32) × (f .rows ≤ 32) × (k .at ≤ 32) × (o .at ≤ 32) ⌝ }
     ensures { λ r. ⌜ r ≡ target branch f k o ⌝ }

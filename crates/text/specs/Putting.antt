@@ -1,5 +1,4 @@
 -- Inner: text put into a lent buffer byte by byte. What lies past the buffer's end is dropped, so that the same calls find a text's length and lay it.
---
 use mathlib.Core.Path.{_≡_}
 use mathlib.Core.Bool.{cond}
 use mathlib.Core.List.{List, [], _∷_}

@@ -80,7 +80,7 @@ unfolding dotOf
 dot-same a a′ av av′ i b b′ bv bv′ j n ha hb =
     accumulate-same plus-zero (terms a av i b bv j) (terms a′ av′ i b′ bv′ j) n (λ k h. ap₂ (mul binary64) (ha k h) (hb k h))
 
--- C deduct A transposed times B
+-- C less A transposed times B
 pub subtracted-part : (x : List Float) (a b c d p q m n w : ℕ) → b ≤ p → d ≤ p → p ≤ q → q ≤ length x → n * m ≤ b - a → n * w ≤ d - c → m * w ≤ q - p
     → subtractedIn (start p m) m (flip (start a n)) (start c n) n x w
     ≡ splice x p q (product Subtract (columns m) m (part x a b) (flip (columns n)) (part x c d) (columns n) n (part x p q) w)

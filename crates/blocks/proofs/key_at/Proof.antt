@@ -1,4 +1,4 @@
--- `blocks::key_at` meets its contract: each branch's test says which case of `keyAt` holds. Assumes nothing.
+-- `blocks::key_at` meets its contract: each branch's test says which case of `nextKeyAt` holds. Assumes nothing.
 use borrow.Author.Needs.{needs}
 use borrow.Author.Tests.{le-ltb, lt-ltb}
 use Rattle.blocks.proofs.key_at.Statement.{statement}

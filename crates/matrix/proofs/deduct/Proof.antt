@@ -1,4 +1,4 @@
--- `matrix::deduct` meets its contract. The loop's invariant: the left is the definition's at the terms passed. Assumes nothing.
+-- `matrix::deduct` meets its contract. The loop's invariant: `left` is the definition's at the terms passed. Assumes nothing.
 use Prim.Native.Nat.{_≤_, _-_}
 use mathlib.Core.Path.{_≡_, refl}
 use native.Mathlib.Omega.{arith}
