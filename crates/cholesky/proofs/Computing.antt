@@ -11,5 +11,6 @@ use Rattle.cholesky.specs.Solve.{solvedRow, solveLower, solveUpper, solv
 use Rattle.cholesky.specs.Forms.{Form, finiteForm, exchangedBy, exchanged}
 
 unfoldable pub computedExchange : ℕ → List Float → List Float → Form
-unfolding exchanged exchangedBy finiteForm factor factorColumn rooted below reduced pivotOf rootOf solved solveLower solveUpper solvedRow inverted unitColumn steps sweep deductOf deduct allFinite ofBits sub mul div
+unfolding exchanged exchangedBy finiteForm factor factorColumn rooted below reduced pivotOf rootOf solved solveLower solveUpper solvedRow inverted
+    unitColumn steps sweep deductOf deduct allFinite ofBits sub mul div
 computedExchange n x m = exchanged n x m

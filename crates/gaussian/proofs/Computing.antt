@@ -18,5 +18,7 @@ use Rattle.gaussian.specs.Elimination.{eliminate, branched, inBranch, be
 
 -- the definition, open to computing
 unfoldable pub computed : List FactorView → List ℕ → List ℕ → List ℕ → Outcome
-unfolding eliminate branched inBranch outcome factorised ended lost begun frameOf layoutOf rowsOfAll withViews views.withView views.withPrior views.withRows views.withKeys views.withKey views.withOwn views.withProducts views.withProduct views.targetOf blocks.columnOf change turns stamp filledDiagonal filledUpper filledColumn solvedColumns transposedTimes accumulate dotOf blockColumn block product add computedExchange
+unfolding eliminate branched inBranch outcome factorised ended lost begun frameOf layoutOf rowsOfAll withViews views.withView views.withPrior
+    views.withRows views.withKeys views.withKey views.withOwn views.withProducts views.withProduct views.targetOf blocks.columnOf change turns stamp
+    filledDiagonal filledUpper filledColumn solvedColumns transposedTimes accumulate dotOf blockColumn block product add computedExchange
 computed views kept cleared sizes = eliminate views kept cleared sizes

@@ -13,9 +13,11 @@ use Rattle.graph.specs.declared.Added.{Added}
 
 -- the test of a record
 unfoldable pub computedTest : Graph → Bool
-unfolding valid every all variablesFit factorsFit variablePlace registered clear same factorPlace fits keyFits rowsFit isClear above total sum scalar sizeFits free offset numbers aNumbers firstColumn
+unfolding valid every all variablesFit factorsFit variablePlace registered clear same factorPlace fits keyFits rowsFit isClear above total sum scalar
+    sizeFits free offset numbers aNumbers firstColumn
 computedTest g = valid g
 
 unfoldable pub computedCall : Graph → Call → Added
-unfolding addVariable addPrior addObservation priorStore observationStore priorVerdict observationVerdict countsFit factorVerdict lengthsFit givenFinite computedTest computedExchange
+unfolding addVariable addPrior addObservation priorStore observationStore priorVerdict observationVerdict countsFit factorVerdict lengthsFit
+    givenFinite computedTest computedExchange
 computedCall g c = answered g c
