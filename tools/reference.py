@@ -50,7 +50,7 @@ def cholesky(a):
             value = a[i][j]
             for k in range(j):
                 value -= low[i][k] * low[j][k]
-            if i == j and not 0 < value < math.inf:
+            if i == j and not (0 < value < math.inf and 2.0**-40 * a[j][j] < value):
                 return None
             low[i][j] = math.sqrt(value) if i == j else value / low[j][j]
     return low

@@ -8,3 +8,5 @@ pub mod job;
 pub mod plan;
 pub mod refusal;
 pub mod run;
+
+pub use nalgebra::tolerance;

@@ -1,11 +1,12 @@
 //! Where the original leaves document 01: smallest inputs, with what each of the two says.
 use nalgebra::{DMatrix, DVector};
-use oracle::cases::Job;
+use oracle::cases::{Job, two_to};
 use oracle::gaussian::{FactorGraph, Symbol};
 use oracle::job;
 use oracle::refusal::Stage;
 use oracle::run::{Outside, expected, parts};
 use oracle::solver::shown::pass;
+use oracle::tolerance::published;
 
 /// Keys of these sizes and of size 1, a prior of this variance on all but the last, and one row 1, 2, 3, ... across them.
 fn row_across(sizes: &[usize], variance: f64) -> Job {
@@ -92,4 +93,14 @@ fn numbers_that_are_not_finite() {
     let (mean, variance) = (DVector::zeros(1), DMatrix::from_column_slice(1, 1, &[5e-324]));
     assert_eq!(graph.add_prior(0, mean, variance).unwrap(), 0);
     assert_eq!(expected(&Job::with(&[1]).prior(0, &[0.0], &[5e-324]).bytes()), Ok("refused 6 0 1\n".to_string()));
+}
+
+/// A prior whose variance has the float below 1 beside its diagonal of 1: what is left of the second entry is 2^-52, which the
+/// published rule takes.
+#[test]
+fn a_pivot_of_rounding_size() {
+    let x = 1.0 - two_to(-53);
+    let job = Job::with(&[2]).prior(0, &[0.0, 0.0], &[1.0, x, x, 1.0]);
+    assert_eq!(expected(&job.bytes()), Ok("refused 7 0 1\n".to_string()));
+    assert!(published(|| expected(&job.bytes())).is_ok_and(|prints| prints.starts_with("0 ")));
 }

@@ -2,6 +2,8 @@
 use anyhow::{Context, Result, bail, ensure};
 use nalgebra::linalg::Cholesky;
 use nalgebra::{DMatrix, DVector, RealField};
+use oracle::cases::two_to;
+use oracle::tolerance::published;
 
 const LARGE: f64 = 1e16;
 
@@ -62,14 +64,48 @@ fn a_product_that_document_01_lacks_panics() {
     assert!(odd.is_err());
 }
 
+/// Beside an entry of 1.
+fn pivot(left: f64) -> Option<f64> {
+    RealField::pivot(left, 1.0)
+}
+
 #[test]
 fn pivots_are_finite_and_above_zero() {
     for refused in [0.0, -0.0, -1.0, f64::NAN, f64::INFINITY, f64::NEG_INFINITY] {
-        assert_eq!(RealField::pivot(refused), None);
+        assert_eq!(pivot(refused), None);
+        assert_eq!(RealField::pivot(refused, refused), None);
     }
-    assert_eq!(RealField::pivot(4.0), Some(2.0));
-    assert_eq!(RealField::pivot(2.0).map(f64::to_bits), Some(0x3FF6_A09E_667F_3BCD));
-    assert_eq!(RealField::pivot(f64::from_bits(1)), Some(f64::from_bits((1023 - 537) << 52)));
+    assert_eq!(pivot(4.0), Some(2.0));
+    assert_eq!(pivot(2.0).map(f64::to_bits), Some(0x3FF6_A09E_667F_3BCD));
+    let least = f64::from_bits(1);
+    assert_eq!(RealField::pivot(least, least), Some(f64::from_bits((1023 - 537) << 52)));
+}
+
+/// 2^-40 of the entry, which is a NaN or an infinity too, or a subnormal number: then it is rounded, to 0 at 2^-1035.
+#[test]
+fn pivots_exceed_their_share_of_the_entry() {
+    let share = two_to(-40);
+    let (below, above) = (f64::from_bits(share.to_bits() - 1), f64::from_bits(share.to_bits() + 1));
+    assert_eq!([below, share, above].map(|left| pivot(left).is_some()), [false, false, true]);
+    assert_eq!([f64::NAN, f64::INFINITY].map(|given| RealField::pivot(1.0, given)), [None, None]);
+    let least = |given: u64| RealField::pivot(f64::from_bits(1), f64::from_bits(given)).is_some();
+    assert_eq!([1 << 39, (1 << 39) + 1, 1 << 40].map(least), [true, false, false]);
+    assert!(RealField::pivot(f64::from_bits(2), f64::from_bits(1 << 40)).is_some());
+}
+
+/// What is left of the second entry, and whether its root is taken.
+fn second_pivot(b: f64, entry: f64) -> (f64, bool) {
+    (entry - b * b, Cholesky::new(matrix(2, 2, &[1.0, b, b, entry])).is_some())
+}
+
+/// 2^-40 is left of 1, and 2^-40 * 1.4375^2 of the float below 1.4375^2. By the entry after subtraction both would be taken.
+#[test]
+fn the_entry_is_that_before_subtraction() {
+    let square = 1.4375_f64 * 1.4375;
+    assert_eq!(second_pivot(1.0 - two_to(-41), 1.0), (two_to(-40), false));
+    let (b, entry) = (f64::from_bits(0x3FF6_FFFF_FFFF_F47F), f64::from_bits(square.to_bits() - 1));
+    assert_eq!(second_pivot(b, entry), (square * two_to(-40), true));
+    assert_eq!(published(|| second_pivot(1.0 - two_to(-41), 1.0)), (two_to(-40), true));
 }
 
 #[test]
@@ -80,12 +116,13 @@ fn the_factor_reads_only_the_lower_triangle() {
     assert_eq!([l[0], l[1], l[2], l[4], l[5], l[8]], [2.0, 1.0, 3.0, 2.0, 2.0, 3.0]);
 }
 
-/// The last pivot is (1e16 + 2 - 1e16) - 1 by rising k. In the other order 1e16 + 2 - 1 rounds to 1e16, which leaves 0.
+/// The last pivot is (1e16 + 2 - 1e16) - 1 by rising k. In the other order 1e16 + 2 - 1 rounds to 1e16, which leaves 0. Beside its
+/// entry it is small, so the published rule is used.
 #[test]
 fn the_factor_subtracts_at_rising_k_one_at_a_time() {
     let root = LARGE.sqrt();
     let given = matrix(3, 3, &[1.0, 0.0, root, 0.0, 1.0, 1.0, 0.0, 0.0, LARGE + 2.0]);
-    let factor = Cholesky::new(given).unwrap();
+    let factor = published(|| Cholesky::new(given)).unwrap();
     assert_eq!(factor.l_dirty().data[8], 1.0);
 }
 

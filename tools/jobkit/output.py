@@ -21,15 +21,15 @@ MEANINGS = {
     3: "the keys of an observation don't rise strictly",
     4: "an observation has more than 8 keys, or rows outside 1 to 12",
     6: "a number given, or computed from those given, isn't finite",
-    7: "a variance isn't positive definite: a pivot is refused",
+    7: "a variance isn't positive definite, or hardly: a pivot is refused",
     8: "the mark is unknown, the flag isn't 0 or 1, or the record is cut short",
     10: "the name of the variable is taken",
     11: "the record names a key that no record above it registers",
     12: "more than 32 variables, a total size above 32, or more than 64 factors",
     13: "the factors take more than the 2,048 numbers of the factor store",
     14: "the messages take more than the 3,072 numbers of the message store",
-    15: "keys cleared at this step aren't determined: a pivot of their block is refused",
-    16: "the factors don't determine this key: a pivot of its information is refused",
+    15: "keys cleared at this step aren't determined, or hardly: a pivot of their block is refused",
+    16: "the factors don't determine this key, or hardly: a pivot of its information is refused",
     17: "a message or a marginal isn't finite",
 }
 

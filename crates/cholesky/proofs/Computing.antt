@@ -1,7 +1,7 @@
 -- The exchange of forms, open to computing: a law that unfolds `computedExchange` unfolds all that it rests on. Assumes nothing.
 use Prim.Native.Nat.{ℕ}
 use mathlib.Core.List.{List}
-use lib.Ieee.{Float, ofBits, sub, mul, div}
+use lib.Ieee.{Float, ofBits, sub, mul, div, lt}
 use Rattle.root.specs.Root.{rootOf}
 use Rattle.matrix.specs.Sums.{deduct, deductOf}
 use Rattle.matrix.specs.Stores.{steps, sweep}
@@ -12,5 +12,5 @@ use Rattle.cholesky.specs.Forms.{Form, finiteForm, exchangedBy, exchange
 
 unfoldable pub computedExchange : ℕ → List Float → List Float → Form
 unfolding exchanged exchangedBy finiteForm factor factorColumn rooted below reduced pivotOf rootOf solved solveLower solveUpper solvedRow inverted
-    unitColumn steps sweep deductOf deduct allFinite ofBits sub mul div
+    unitColumn steps sweep deductOf deduct allFinite ofBits sub mul div lt
 computedExchange n x m = exchanged n x m

@@ -171,3 +171,9 @@ module _ (v : View) (n : ℕ) (s : List Float) (ap′ : Apart v n n) (inside : I
           → Holds v n s u (suc j)
       go (whole t) f g ih = rooted-holds t u j (omega arith) (ih t f) (pivotOf (reduced t v j j) (entry t v j j)) refl g
       go (stuck t) f g ih = absurd (never t u g)
+
+  -- each pivot, a refused one too, is compared with its diagonal entry as it was given, whatever the columns before it did
+  pub by-given : (j : ℕ) → j < n → (t : List Float) → factor v n s j ≡ whole t
+      → factor v n s (suc j) ≡ rooted v j t (n - suc j) (pivotOf (rest s t v j j) (entry s v j j))
+  unfolding factor factorColumn rest reduced
+  by-given j h t e = rw (e, factor-holds j (omega arith) t e .given j j h h (inl (omega arith)))

@@ -9,7 +9,7 @@ use native.Mathlib.Omega.{arith}
 use lib.Dec.{eqb}
 use lib.ListN.{set, getD, length, replicate, length-replicate, getD-replicate}
 use lib.Seq.{set-getD}
-use lib.Ieee.{Float, nan, binary64, sub, mul, div}
+use lib.Ieee.{Float, nan, binary64, sub, mul, div, lt}
 use borrow.Author.Tests.{eq-eqb, ne-eqb}
 use Rattle.root.specs.Root.{rootOf}
 use Rattle.root.specs.declared.Pivot.the-variants.{Root}
@@ -50,7 +50,7 @@ by-one x (inl e) = rw e
 by-one x (inr e) = rw e
 
 pivot-one : pivotOf one one ≡ Root one
-unfolding pivotOf rootOf
+unfolding pivotOf rootOf mul lt
 pivot-one = refl
 
 -- terms that are all 0.0 take nothing off

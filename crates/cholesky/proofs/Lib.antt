@@ -1,4 +1,5 @@
 -- Laws of the factorisation and of the solves.
+pub mod Tolerance
 pub mod Turns
 pub mod Equations
 pub mod LowerOnly

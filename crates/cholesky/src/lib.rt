@@ -17,11 +17,19 @@ pub enum Factored {
     Refused,
 }
 
-// The root of a pivot, by what is left of the diagonal entry and by that entry as it was given.
+// 2^-40: how small a pivot may be beside its diagonal entry.
+const TOLERANCE: f64 = 0.0000000000009094947017729282379150390625;
+
+// The root of a pivot, by what is left of the diagonal entry and by that entry as it was given. A pivot that is of rounding size
+// beside the entry is refused too.
 fn pivot(left: f64, given: f64) -> Pivot
     ensures { λ r. ⌜ r ≡ pivotOf left given ⌝ }
 {
-    root::root(left)
+    if TOLERANCE * given < left {
+        root::root(left)
+    } else {
+        Pivot::Refused
+    }
 }
 
 // Entry (i, j) less l(i, k) times l(j, k) for rising k below j.

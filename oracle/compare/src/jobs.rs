@@ -5,7 +5,7 @@ mod full;
 use oracle::cases::graphs::{
     Style, any_graph, any_links, chain, close_columns, full_rank_chain, graph, ladder, ring, some_sizes, star, tree,
 };
-use oracle::cases::{Job, Random, two_to};
+use oracle::cases::{Job, Random, tolerance, two_to};
 use oracle::job::{FACTORS, KEYS, ROWS, TOTAL_SIZE, VARIABLES};
 
 /// How a job was drawn, for the counts.
@@ -22,6 +22,7 @@ pub enum Kind {
     Any,
     Keyless,
     NearlySingular,
+    BesideTolerance,
     WholeNumbers,
     Uneven,
     Limits,
@@ -31,9 +32,9 @@ pub enum Kind {
 }
 
 /// Of 100 draws so many are of each kind; the rest are damaged jobs.
-const SHARES: [(Kind, usize); 16] = [
-    (Kind::Chain, 10),
-    (Kind::Tree, 10),
+const SHARES: [(Kind, usize); 17] = [
+    (Kind::Chain, 8),
+    (Kind::Tree, 8),
     (Kind::Loop, 8),
     (Kind::Star, 8),
     (Kind::Ladder, 5),
@@ -43,6 +44,7 @@ const SHARES: [(Kind, usize); 16] = [
     (Kind::Any, 8),
     (Kind::Keyless, 4),
     (Kind::NearlySingular, 5),
+    (Kind::BesideTolerance, 4),
     (Kind::WholeNumbers, 5),
     (Kind::Uneven, 4),
     (Kind::Limits, 2),
@@ -70,6 +72,7 @@ fn of_kind(random: &mut Random, kind: Kind) -> Job {
         Kind::FactorStore => full::factor_store(random),
         Kind::MessageStore => full::message_store(random),
         Kind::NearlySingular => nearly_singular(random),
+        Kind::BesideTolerance => tolerance::beside(random),
         Kind::WholeNumbers => whole_numbers(random),
         Kind::Uneven => uneven(random),
         Kind::ManyPriors => many_priors(random),

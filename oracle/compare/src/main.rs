@@ -9,8 +9,13 @@ use std::process::ExitCode;
 use compare::jobs::{self, Kind};
 use compare::outcome::{Outcome, compare};
 use oracle::cases::Job;
+use oracle::tolerance::nearest;
 
-type Counts = BTreeMap<(Outcome, Kind), u64>;
+/// The last is how many floats the nearest pivot of a job lay above what it must exceed, where these are few.
+type Counts = BTreeMap<(Outcome, Kind, Option<i64>), u64>;
+
+/// Pivots that lie further off are not told apart.
+const NEAR: i64 = 2;
 
 fn main() -> ExitCode {
     let words: Vec<String> = std::env::args().skip(1).collect();
@@ -44,13 +49,15 @@ fn some(seed: u64, first: u64, count: u64, threads: u64, folder: &Path) -> Count
     let mut counts = Counts::new();
     for number in (first..count).step_by(threads as usize) {
         let (kind, job) = jobs::draw(seed, number);
+        nearest();
         let outcome = compare(&job);
+        let steps = nearest().filter(|steps| steps.abs() <= NEAR);
         if let Outcome::Differs(how) = &outcome {
             eprintln!("job {number}: {how}");
             let small = reduced(job);
             std::fs::write(folder.join(format!("differs-{number}.job")), small.bytes()).unwrap();
         }
-        *counts.entry((outcome, kind)).or_default() += 1;
+        *counts.entry((outcome, kind, steps)).or_default() += 1;
     }
     counts
 }
@@ -70,7 +77,8 @@ fn reduced(mut job: Job) -> Job {
 fn report(counts: &Counts) -> ExitCode {
     let mut by_outcome: BTreeMap<String, u64> = BTreeMap::new();
     let mut by_kind: BTreeMap<Kind, [u64; 4]> = BTreeMap::new();
-    for ((outcome, kind), n) in counts {
+    let mut by_steps: BTreeMap<i64, u64> = BTreeMap::new();
+    for ((outcome, kind, steps), n) in counts {
         let (name, columns): (String, &[usize]) = match outcome {
             Outcome::Same(text) if text == "done" => (format!("same: {text}"), &[0, 1]),
             Outcome::Same(text) => (format!("same: {text}"), &[1]),
@@ -78,9 +86,15 @@ fn report(counts: &Counts) -> ExitCode {
             Outcome::Differs(_) => ("DIFFERS INSIDE THE DOMAIN".to_string(), &[1, 3]),
         };
         *by_outcome.entry(name).or_default() += n;
+        if let Some(steps) = steps.filter(|_| columns.contains(&1)) {
+            *by_steps.entry(steps).or_default() += n;
+        }
         columns.iter().for_each(|&column| by_kind.entry(*kind).or_default()[column] += n);
     }
     by_outcome.iter().for_each(|(name, n)| println!("{n:>9}  {name}"));
+    by_steps
+        .iter()
+        .for_each(|(steps, n)| println!("{n:>9}  in domain, a pivot {steps:+} floats from what it must exceed"));
     println!("     done in domain   outside  differs  kind");
     by_kind.iter().for_each(|(kind, [done, inside, outside, differs])| {
         println!("{done:>9} {inside:>9} {outside:>9} {differs:>8}  {kind:?}")

@@ -1,6 +1,8 @@
 //! A stand-in for the matrix library, as document 01 lays it down under 'Arithmetic beneath': every operation is rounded
 //! once, product sums start from +0.0 and add their terms at rising index, and the finished sum meets the target.
+//! A pivot must also exceed 2^-40 of its diagonal entry (C-13), which the library that this stands for doesn't ask.
 //! Only what the original calls is here. Matrices are stored column by column. Shapes that don't fit panic.
+pub mod tolerance;
 
 use std::marker::PhantomData;
 use std::ops::{Add, AddAssign, Div, Mul, Neg, Sub};
@@ -18,8 +20,9 @@ pub trait RealField:
 {
     fn zero() -> Self;
     fn one() -> Self;
-    /// The root of a pivot; none where the pivot is not finite and above zero.
-    fn pivot(self) -> Option<Self>;
+    /// The root of a pivot, which is left of the diagonal entry given; none where the pivot is not finite, above zero and
+    /// above the entry times the tolerance.
+    fn pivot(self, given: Self) -> Option<Self>;
 }
 
 impl RealField for f64 {
@@ -31,8 +34,10 @@ impl RealField for f64 {
         1.0
     }
 
-    fn pivot(self) -> Option<Self> {
-        (self.is_finite() && self > 0.0).then(|| self.sqrt())
+    fn pivot(self, given: Self) -> Option<Self> {
+        let least = tolerance::least(given);
+        tolerance::note(self, least);
+        (self.is_finite() && self > 0.0 && self > least).then(|| self.sqrt())
     }
 }
 
@@ -283,7 +288,7 @@ pub mod linalg {
             for j in 0..m.ncols() {
                 for i in j..m.nrows() {
                     let left = (0..j).fold(m.at(i, j), |left, k| left - m.at(i, k) * m.at(j, k));
-                    let entry = if i == j { left.pivot()? } else { left / m.at(j, j) };
+                    let entry = if i == j { left.pivot(m.at(j, j))? } else { left / m.at(j, j) };
                     m.set(i, j, entry);
                 }
             }

@@ -9,6 +9,7 @@ mod random;
 mod reading;
 mod refusals;
 mod registration;
+pub mod tolerance;
 mod writer;
 
 pub use graphs::any_graph;
@@ -16,6 +17,7 @@ pub use random::{Random, two_to};
 pub use writer::{Job, identity};
 
 use crate::run::expected;
+use nalgebra::tolerance::published;
 
 pub struct Case {
     pub name: String,
@@ -43,16 +45,14 @@ impl Cases {
         self.all.push(Case { name, records: job.records, prints });
     }
 
-    /// The first job drawn that is in the domain and prints what is wanted.
+    /// The first job drawn that is in the domain and prints what is wanted by the published rule for pivots. So a rule that was
+    /// added by request changes answers, and never which jobs are recorded.
     fn draw(&mut self, name: impl Into<String>, make: impl Fn(&mut Random) -> Job, wanted: impl Fn(&str) -> bool) {
         let name = name.into();
         for _ in 0..DRAWS {
             let job = make(&mut self.random);
-            if let Ok(prints) = expected(&job.bytes())
-                && wanted(&prints)
-            {
-                self.all.push(Case { name, records: job.records, prints });
-                return;
+            if published(|| expected(&job.bytes())).is_ok_and(|prints| wanted(&prints)) {
+                return self.add(name, job);
             }
         }
         panic!("{name}: not found in {DRAWS} draws");
@@ -76,6 +76,7 @@ pub fn all() -> Vec<Case> {
     limits::add(&mut cases);
     graphs::add(&mut cases);
     refusals::add(&mut cases);
+    tolerance::add(&mut cases);
     cases.all
 }
 
