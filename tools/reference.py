@@ -132,6 +132,7 @@ class Job:
         refuse(len(self.factors) >= FACTORS, 12)
         refuse(self.stored + need > FACTOR_STORE, 13)
         refuse(not finite(*a, *mean, *variance), 6)
+        refuse(variance != transposed(variance), 20)
         low = cholesky(variance)
         refuse(low is None, 7)
         xi, w = solve(low, [value for value, in mean]), inverse(low)

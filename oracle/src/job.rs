@@ -1,4 +1,4 @@
-//! The job file: its records in turn, each handed to the original's registering calls once document 01's checks have passed.
+//! The job file: its records in turn, each handed to the original's registering calls once the checks of documents 01 and 02 have passed.
 use nalgebra::{DMatrix, DVector};
 
 use crate::gaussian::shown::{self, Shown};
@@ -82,6 +82,7 @@ fn prior(graph: &mut FactorGraph<f64>, bytes: &mut Bytes) -> Result<(), Reason> 
     let size = graph.size(key).ok_or(Reason::NoSuchKey)?;
     let given = bytes.numbers(size + size * size)?;
     check_factor(graph, given.len(), &given)?;
+    check(symmetric(size, &given[size..]), Reason::NotSymmetric)?;
     let mean = DVector::from_column_slice(&given[..size]);
     let variance = DMatrix::from_column_slice(size, size, &given[size..]);
     graph.add_prior(key, mean, variance).map_err(|_| Reason::VariancePivot)?;
@@ -102,6 +103,7 @@ fn observation(graph: &mut FactorGraph<f64>, bytes: &mut Bytes) -> Result<(), Re
     check_factor(graph, rows * width + rows + rows * rows, &given)?;
     let (a, rest) = given.split_at(rows * width);
     let (mean, variance) = rest.split_at(rows);
+    check(flag == 0 || symmetric(rows, variance), Reason::NotSymmetric)?;
     let a = DMatrix::from_column_slice(rows, width, a);
     let mean = DVector::from_column_slice(mean);
     let variance = match flag {
@@ -117,6 +119,11 @@ fn check_factor(graph: &FactorGraph<f64>, takes: usize, given: &[f64]) -> Result
     check(graph.n_factors() < FACTORS, Reason::PastLimit)?;
     check(stored(graph) + takes <= FACTOR_STORE, Reason::FactorStoreShort)?;
     check(given.iter().all(|x| x.is_finite()), Reason::NumberNotFinite)
+}
+
+/// Each entry compares equal to the one across the diagonal (C-12). The original reads the lower triangle alone.
+fn symmetric(size: usize, variance: &[f64]) -> bool {
+    (0..size).all(|i| (0..size).all(|j| variance[i + j * size] == variance[j + i * size]))
 }
 
 /// The original stores what isn't finite; document 01 refuses it.

@@ -1,4 +1,4 @@
-//! The refusals that a job can meet, with document 01's numbers.
+//! The refusals that a job can meet, with the numbers of documents 01 and 02.
 use std::fmt;
 
 /// A refusal's number is its case's value.
@@ -20,6 +20,7 @@ pub enum Reason {
     MarginalPivot = 16,
     ResultNotFinite = 17,
     CountedTwice = 18,
+    NotSymmetric = 20,
 }
 
 /// A stage's number is its case's value.

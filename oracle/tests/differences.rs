@@ -95,6 +95,19 @@ fn numbers_that_are_not_finite() {
     assert_eq!(expected(&Job::with(&[1]).prior(0, &[0.0], &[5e-324]).bytes()), Ok("refused 6 0 1\n".to_string()));
 }
 
+/// A variance whose triangles differ is refused with 20 (C-12); the original reads the lower one alone and takes it.
+#[test]
+fn triangles_that_differ() {
+    let variance = [1.0, 0.0, 5e-324, 1.0];
+    let mut graph: FactorGraph<f64> = FactorGraph::new();
+    graph.add_variable(Symbol('a', 0), 2).unwrap();
+    assert_eq!(graph.add_prior(0, DVector::zeros(2), DMatrix::from_column_slice(2, 2, &variance)).unwrap(), 0);
+    let prior = Job::with(&[2]).prior(0, &[0.0; 2], &variance);
+    assert_eq!(expected(&prior.bytes()), Ok("refused 20 0 1\n".to_string()));
+    let observation = Job::with(&[2]).observation(&[], &[], &[0.0; 2], &variance);
+    assert_eq!(expected(&observation.bytes()), Ok("refused 20 0 1\n".to_string()));
+}
+
 /// A prior whose variance has the float below 1 beside its diagonal of 1: what is left of the second entry is 2^-52, which the
 /// published rule takes.
 #[test]

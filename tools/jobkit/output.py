@@ -31,6 +31,7 @@ MEANINGS = {
     15: "keys cleared at this step aren't determined, or hardly: a pivot of their block is refused",
     16: "the factors don't determine this key, or hardly: a pivot of its information is refused",
     17: "a message or a marginal isn't finite",
+    20: "a variance isn't symmetric: an entry differs from the one across the diagonal",
 }
 
 

@@ -127,7 +127,7 @@ module _ (v : View) (n : ℕ) (s : List Float) (I : Identity v n s) where
 
 -- ---- the solves, on a column of 0.0 and 1.0
 
-unit-turned : (i j : ℕ) → unit i j ≡ unit j i
+pub unit-turned : (i j : ℕ) → unit i j ≡ unit j i
 unit-turned i j = go (ℕ-discrete i j)
   where
     go : Dec (i ≡ j) → unit i j ≡ unit j i
@@ -171,7 +171,7 @@ pub identity-length : (n : ℕ) → length (identityOf n) ≡ n * n
 unfolding identityOf
 identity-length n = block-length (columns n) n (λ i j old. cond (eqb i j) one plus-zero) (replicate (n * n) plus-zero) n ∙ length-replicate (n * n) plus-zero
 
-identity-is : (n : ℕ) → Identity (columns n) n (identityOf n)
+pub identity-is : (n : ℕ) → Identity (columns n) n (identityOf n)
 unfolding Identity identityOf unit
 identity-is n i j hi hj =
     block-at (columns n) n (λ i j old. cond (eqb i j) one plus-zero) (replicate (n * n) plus-zero) i j n (apart (columns n) n n refl (omega arith)) hi hj

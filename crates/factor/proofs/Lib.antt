@@ -6,3 +6,4 @@ pub mod Storing
 pub mod Fitting
 pub mod KeyOrder
 pub mod Telling
+pub mod Symmetry

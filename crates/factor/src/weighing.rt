@@ -1,10 +1,17 @@
-// The numbers of a factor: whether those given are finite, and A, xi and W into the store.
+// The numbers of a factor: whether those given are finite and the variance is symmetric, and A, xi and W into the store.
 use crate::limits::ROWS;
 use crate::limits::SQUARE;
 use crate::lists::copy_in;
 use cholesky::exchange::Exchanged;
 use cholesky::exchange::exchange;
+use matrix::View;
+use matrix::get;
 ghost use mathlib.Core.Path.{_≡_};
+ghost use mathlib.Core.Bool.{true};
+ghost use Prim.Native.Nat.{_*_, _<_};
+ghost use lib.ListN.{length};
+ghost use Rattle.matrix.specs.Finite.{allFinite};
+ghost use Rattle.factor.specs.Counting.{all};
 ghost use Rattle.factor.specs.Factor as spec;
 ghost use Rattle.cholesky.specs.Forms.{exchanged};
 ghost use Rattle.factor.specs.Storing.{FactorRoom, formLaid};
@@ -22,6 +29,37 @@ pub fn given_finite(a: &[f64], mean: &[f64], variance: &[f64]) -> bool
         return false;
     }
     matrix::finite(variance)
+}
+
+// Column j of S(n × n) above the diagonal compares equal to row j left of it, entry by entry.
+fn column_mirrored(s: &[f64], n: usize, j: usize) -> bool
+    requires { ⌜ (length (now s) ≡ n * n) × (j < n) ⌝ }
+    ensures { λ r. ⌜ r ≡ all (λ i. spec.mirrored n (now (s .entry)) i j) j ⌝ }
+{
+    let v = View {
+        at: 0,
+        down: 1,
+        across: n,
+    };
+    for i in 0..j {
+        if get(s, v, i, j) != get(s, v, j, i) {
+            return false;
+        }
+    }
+    true
+}
+
+// S(n × n) is symmetric. Each pair off the diagonal is looked at once: a finite number equals itself.
+pub fn symmetric(s: &[f64], n: usize) -> bool
+    requires { ⌜ (length (now s) ≡ n * n) × (allFinite (now s) ≡ true) ⌝ }
+    ensures { λ r. ⌜ r ≡ spec.symmetric n (now (s .entry)) ⌝ }
+{
+    for j in 0..n {
+        if !column_mirrored(s, n, j) {
+            return false;
+        }
+    }
+    true
 }
 
 // Stores A, xi and W of a mean and a variance of n rows from a place on, by way of the working slices. The store is touched only when all numbers are there.

@@ -1,16 +1,19 @@
 -- What follows of a factor's checks (`Checking`) for the answer and the store. Assumes nothing.
 use Prim.Native.Nat.{ℕ, _+_, _*_, _<_, _≤_}
 use mathlib.Core.Path.{_≡_, refl, sym, ap, subst, _∙_}
-use mathlib.Core.Bool.{true}
+use mathlib.Core.Bool.{true, false}
 use mathlib.Core.List.{List}
 use native.Mathlib.Omega.{arith}
 use lib.Ieee.{Float}
 use lib.ListN.{length}
+use Rattle.matrix.specs.Finite.{allFinite}
+use Rattle.cholesky.specs.Answers.{endOf}
 use Rattle.factor.specs.Limits.{max-factors, max-rows}
-use Rattle.factor.specs.Factor.{numbers, lengthsFit, givenFinite}
+use Rattle.factor.specs.Factor.{numbers, lengthsFit, givenFinite, symmetric}
 use Rattle.cholesky.specs.Forms.{Form, form, pivot, notFinite, exchanged}
 use Rattle.factor.specs.Storing.{formLaid, FactorRoom}
 use Rattle.factor.specs.declared.Factor.{Factor}
+use Rattle.factor.proofs.Counting.{every-at}
 use Rattle.cholesky.specs.declared.exchange.Exchanged.{Exchanged}
 use Rattle.cholesky.specs.declared.exchange.Exchanged.the-variants as cholesky
 use Rattle.graph.specs.Record.{offset}
@@ -19,9 +22,8 @@ use Rattle.graph.specs.declared.Graph.{Graph}
 use Rattle.graph.specs.declared.Added.{Added}
 use Rattle.graph.specs.declared.Outcome.the-variants.{Number}
 use Rattle.graph.specs.declared.refusal.Refusal.{Refusal}
-use Rattle.graph.specs.declared.refusal.Refusal.the-variants.{NotFinite, VariancePivot}
-use Rattle.graph.proofs.Checking.{Passed, checks, weighs, a-long, mean-long, variance-long}
-use Rattle.cholesky.specs.Answers.{endOf}
+use Rattle.graph.specs.declared.refusal.Refusal.the-variants.{NotFinite, VariancePivot, NotSymmetric}
+use Rattle.graph.proofs.Checking.{Passed, checks, not-symmetric, weighs, a-long, mean-long, variance-long}
 
 -- a refusal answers the graph as it came, and leaves the store
 pub turned-back : (g : Graph) (f : Factor) (store s : List Float) (v : FactorVerdict) (why : Refusal) (r : Added) → v ≡ refuse why → r ≡ refused g why
@@ -29,25 +31,40 @@ pub turned-back : (g : Graph) (f : Factor) (store s : List Float) (v : FactorVer
     → (r ≡ settle g f v) × (s ≡ stored g store v)
 turned-back g f store s v why r e h k = rw e (h, k)
 
--- with what the code has tested, and the start and the count of numbers that it has found
-module _ (g : Graph) (f : Factor) (a mean variance store : List Float)
-    (h5 : lengthsFit (g .sizes) f (length a) (length mean) (length variance) ≡ true) (h12 : g .count < max-factors)
-    (start n : ℕ) (es : start ≡ offset g (g .count)) (en : n ≡ numbers (g .sizes) f) (h13 : start + n ≤ length store)
-    (h6 : givenFinite a mean variance ≡ true) where
-  passed : Passed g f a mean variance store
-  passed = record { lengths = h5; few = h12; room = omega arith; finite = h6 }
+-- what the code has tested before it looks at the variance's pairs, with the start that it has found
+pub record Tested (g : Graph) (f : Factor) (a mean variance store : List Float) (start : ℕ) : Type 0 where
+  pub lengths : lengthsFit (g .sizes) f (length a) (length mean) (length variance) ≡ true
+  pub few : g .count < max-factors
+  pub next : start ≡ offset g (g .count)
+  pub room : start + numbers (g .sizes) f ≤ length store
+  pub finite : givenFinite a mean variance ≡ true
 
+module _ (g : Graph) (f : Factor) (a mean variance store : List Float) (start : ℕ) (t : Tested g f a mean variance store start) where
   long : length mean ≡ f .rows
-  long = mean-long g f _ _ _ h5
+  long = mean-long g f _ _ _ (t .lengths)
+
+  square : length variance ≡ length mean * length mean
+  square = variance-long g f _ _ _ (t .lengths) ∙ ap (λ (y : ℕ). y * y) (sym long)
+
+  -- the variance may be looked at, pair by pair
+  pub square-finite : (length variance ≡ length mean * length mean) × (allFinite variance ≡ true)
+  unfolding givenFinite
+  square-finite = (square, every-at _ 2 (t .finite))
+
+  pub asymmetric : symmetric (length mean) variance ≡ false → checks g f a mean variance store ≡ refuse NotSymmetric
+  asymmetric h = not-symmetric g f a mean variance store (t .lengths) (t .few) (omega (arith, t .next, t .room)) (t .finite) (rw long at h)
 
   -- there is room for the numbers
   pub room-for : f .rows ≤ max-rows → FactorRoom (length mean) start a mean variance store
   unfolding numbers
   room-for most =
       let s : f .rows * f .rows ≡ length mean * length mean = ap (λ (y : ℕ). y * y) (sym long) in
-      record { rows = omega (arith, long); of-mean = refl; of-variance = variance-long g f _ _ _ h5 ∙ s; room = omega (arith, a-long g f _ _ _ h5, long) }
+      record { rows = omega (arith, long); of-mean = refl; of-variance = square; room = omega (arith, a-long g f _ _ _ (t .lengths), long, t .room) }
 
-  module _ (s : List Float) where
+  module _ (h20 : symmetric (length mean) variance ≡ true) (s : List Float) where
+    passed : Passed g f a mean variance store
+    passed = record { lengths = t .lengths; few = t .few; room = omega (arith, t .next, t .room); finite = t .finite; triangles = rw long at h20 }
+
     -- the answer and the store, by how the weighing ended
     abbrev pub Ends : Exchanged → Type 0
     Ends cholesky.Done = (_≡_ {A = Added} record { graph = withFactor g f; outcome = Number (g .count) } (settle g f (checks g f a mean variance store))) ×
@@ -57,7 +74,7 @@ module _ (g : Graph) (f : Factor) (a mean variance store : List Float)
 
     ends : (v : Form) → checks g f a mean variance store ≡ weighedVerdict a v → s ≡ formLaid v a store start → Ends (endOf v)
     unfolding endOf
-    ends (form xi w) c l = rw (c, ← es) (refl, l)
+    ends (form xi w) c l = rw (c, ← t .next) (refl, l)
     ends pivot c l = (c, l)
     ends notFinite c l = (c, l)
 

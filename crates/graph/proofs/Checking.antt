@@ -10,7 +10,7 @@ use lib.Ieee.{Float}
 use lib.ListN.{length}
 use Rattle.factor.specs.Limits.{max-variables, max-total, max-factors, max-keys, max-rows}
 use Rattle.factor.specs.Counting.{every}
-use Rattle.factor.specs.Factor.{rising, known, priorOf, observationOf, fits, aNumbers, lengthsFit, givenFinite, numbers}
+use Rattle.factor.specs.Factor.{rising, known, priorOf, observationOf, fits, aNumbers, lengthsFit, givenFinite, symmetric, numbers}
 use Rattle.cholesky.specs.Forms.{Form, form, pivot, notFinite, exchanged}
 use Rattle.factor.specs.declared.Factor.{Factor}
 use Rattle.factor.proofs.Counting.{every-at}
@@ -24,7 +24,7 @@ use Rattle.graph.specs.declared.Added.{Added}
 use Rattle.graph.specs.declared.Outcome.the-variants.{Key}
 use Rattle.graph.specs.declared.refusal.Refusal.{Refusal}
 use Rattle.graph.specs.declared.refusal.Refusal.the-variants.{NotALetter, SizeOutside, KeysNotRising, CountOutside, LengthUnlike, NotFinite}
-use Rattle.graph.specs.declared.refusal.Refusal.the-variants.{NameTaken, NoSuchKey, PastLimit, FactorStoreShort, NoSuchGraph}
+use Rattle.graph.specs.declared.refusal.Refusal.the-variants.{VariancePivot, NameTaken, NoSuchKey, PastLimit, FactorStoreShort, NotSymmetric, NoSuchGraph}
 
 -- a check passes or fails
 by : (b : Bool) {P : Type 0} → (b ≡ true → P) → (b ≡ false → P) → P
@@ -111,6 +111,7 @@ pub record Passed (g : Graph) (f : Factor) (a mean variance store : List Float) 
   pub few : g .count < max-factors
   pub room : offset g (g .count) + numbers (g .sizes) f ≤ length store
   pub finite : givenFinite a mean variance ≡ true
+  pub triangles : symmetric (f .rows) variance ≡ true
 
 module _ (g : Graph) (f : Factor) (a mean variance store : List Float) where
   abbrev pub checks : FactorVerdict
@@ -134,30 +135,47 @@ module _ (g : Graph) (f : Factor) (a mean variance store : List Float) where
       unfolding factorVerdict
       not-given h13 h = rw (h5, lt-ltb _ _ h12, le-leb _ _ h13, h)
 
+      pub not-symmetric : offset g (g .count) + numbers (g .sizes) f ≤ length store → givenFinite a mean variance ≡ true
+          → symmetric (f .rows) variance ≡ false → checks ≡ refuse NotSymmetric
+      unfolding factorVerdict
+      not-symmetric h13 h6 h = rw (h5, lt-ltb _ _ h12, le-leb _ _ h13, h6, h)
+
   pub weighs : Passed g f a mean variance store → checks ≡ weighedVerdict a (exchanged (f .rows) mean variance)
   unfolding factorVerdict
-  weighs p = rw (p .lengths, lt-ltb _ _ (p .few), le-leb _ _ (p .room), p .finite)
+  weighs p = rw (p .lengths, lt-ltb _ _ (p .few), le-leb _ _ (p .room), p .finite, p .triangles)
 
-  module _ (P : FactorVerdict → Type 0) (back : (why : Refusal) → P (refuse why)) where
-    weighed-cases : (v : Form) → ((xi w : List Float) → v ≡ form xi w → P (accept (a ++ xi ++ w))) → P (weighedVerdict a v)
-    weighed-cases (form xi w) taken = taken xi w refl
-    weighed-cases pivot taken = back _
-    weighed-cases notFinite taken = back _
+  module _ (P : FactorVerdict → Type 0) where
+    weighed-ways : (v : Form) → P (refuse VariancePivot) → P (refuse NotFinite) → ((xi w : List Float) → v ≡ form xi w → P (accept (a ++ xi ++ w)))
+        → P (weighedVerdict a v)
+    weighed-ways (form xi w) r7 r6 taken = taken xi w refl
+    weighed-ways pivot r7 r6 taken = r7
+    weighed-ways notFinite r7 r6 taken = r6
 
-    pub factor-cases : (Passed g f a mean variance store → (xi w : List Float) → exchanged (f .rows) mean variance ≡ form xi w
-        → P (accept (a ++ xi ++ w))) → P checks
-    factor-cases taken =
+    -- each way out; all others follow from this
+    pub factor-ways : P (refuse LengthUnlike) → P (refuse PastLimit) → P (refuse FactorStoreShort) → P (refuse NotFinite)
+        → (symmetric (f .rows) variance ≡ false → P (refuse NotSymmetric)) → P (refuse VariancePivot)
+        → (Passed g f a mean variance store → (xi w : List Float) → exchanged (f .rows) mean variance ≡ form xi w → P (accept (a ++ xi ++ w)))
+        → P checks
+    factor-ways r5 r12 r13 r6 r20 r7 taken =
         by (lengthsFit (g .sizes) f (length a) (length mean) (length variance))
         (λ h5. by-lt (g .count) max-factors
         (λ few. by-le (offset g (g .count) + numbers (g .sizes) f) (length store)
         (λ room. by (givenFinite a mean variance)
-        (λ h6.
-        let p : Passed g f a mean variance store = record { lengths = h5; few = few; room = room; finite = h6 } in
-        rw (weighs p) (weighed-cases (exchanged (f .rows) mean variance) (taken p)))
-        (λ h. rw (not-given h5 few room h) (back _)))
-        (λ l. rw (short h5 few l) (back _)))
-        (λ l. rw (full h5 l) (back _)))
-        (λ h. rw (unlike h) (back _))
+        (λ h6. by (symmetric (f .rows) variance)
+        (λ h20.
+        let p : Passed g f a mean variance store = record { lengths = h5; few = few; room = room; finite = h6; triangles = h20 } in
+        rw (weighs p) (weighed-ways (exchanged (f .rows) mean variance) r7 r6 (taken p)))
+        (λ h. rw (not-symmetric h5 few room h6 h) (r20 h)))
+        (λ h. rw (not-given h5 few room h) r6))
+        (λ l. rw (short h5 few l) r13))
+        (λ l. rw (full h5 l) r12))
+        (λ h. rw (unlike h) r5)
+
+    -- whatever the refusal is
+    pub factor-cases : ((why : Refusal) → P (refuse why))
+        → (Passed g f a mean variance store → (xi w : List Float) → exchanged (f .rows) mean variance ≡ form xi w → P (accept (a ++ xi ++ w)))
+        → P checks
+    factor-cases back taken = factor-ways (back _) (back _) (back _) (back _) (λ h. back _) (back _) taken
 
 -- the lengths are those that the factor's record asks for
 module _ (g : Graph) (f : Factor) (a mean variance : ℕ) (h : lengthsFit (g .sizes) f a mean variance ≡ true) where

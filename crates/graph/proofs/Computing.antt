@@ -1,8 +1,9 @@
 -- The registering calls, open to computing: a law that unfolds `computedCall` unfolds all that they rest on. Assumes nothing.
 use mathlib.Core.Bool.{Bool}
+use lib.Ieee.{eq}
 use Rattle.cholesky.proofs.Computing.{computedExchange}
 use Rattle.factor.specs.Counting.{every, all, sum}
-use Rattle.factor.specs.Factor.{above, keyFits, rowsFit, fits, isClear, firstColumn, aNumbers, numbers, lengthsFit, givenFinite}
+use Rattle.factor.specs.Factor.{above, keyFits, rowsFit, fits, isClear, firstColumn, aNumbers, numbers, lengthsFit, givenFinite, symmetric}
 use Rattle.graph.specs.Record.{scalar, sizeFits, same, free, total, registered, clear, variablePlace, variablesFit, factorPlace, factorsFit}
 use Rattle.graph.specs.Record.{offset, valid}
 use Rattle.graph.specs.Registration.{addVariable, factorVerdict, priorVerdict, addPrior, priorStore, countsFit, observationVerdict}
@@ -19,5 +20,5 @@ computedTest g = valid g
 
 unfoldable pub computedCall : Graph → Call → Added
 unfolding addVariable addPrior addObservation priorStore observationStore priorVerdict observationVerdict countsFit factorVerdict lengthsFit
-    givenFinite computedTest computedExchange
+    givenFinite symmetric eq computedTest computedExchange
 computedCall g c = answered g c

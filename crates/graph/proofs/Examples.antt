@@ -1,16 +1,18 @@
--- A few calls worked out by computation: equal keys, a prior, an observation, and a variance without a pivot. Assumes nothing.
+-- A few calls worked out by computation: equal keys, a prior, an observation, a variance without a pivot, and variances whose triangles differ.
+-- Assumes nothing.
 use Prim.Native.Nat.{ℕ}
 use mathlib.Core.Path.{_≡_, refl, ap}
+use mathlib.Core.Bool.{true}
 use mathlib.Core.List.{[], _∷_}
-use lib.Ieee.{Float, nan, binary64, ofBits}
+use lib.Ieee.{Float, nan, inf, binary64, ofBits}
 use Rattle.factor.specs.Factor.{observationOf}
 use Rattle.factor.specs.Told.{value, refusal}
 use Rattle.graph.specs.Record.{fresh}
-use Rattle.graph.specs.Registration.{refused, settle, refuse, addVariable, priorVerdict, addPrior, priorStore, observationVerdict}
+use Rattle.graph.specs.Registration.{refused, settle, FactorVerdict, accept, refuse, addVariable, priorVerdict, addPrior, priorStore, observationVerdict}
 use Rattle.graph.specs.Registration.{addObservation, observationStore}
 use Rattle.graph.specs.Told.{callTold}
 use Rattle.graph.specs.declared.Graph.{Graph}
-use Rattle.graph.specs.declared.refusal.Refusal.the-variants.{KeysNotRising, VariancePivot}
+use Rattle.graph.specs.declared.refusal.Refusal.the-variants.{KeysNotRising, NotFinite, VariancePivot, NotSymmetric}
 use Rattle.graph.proofs.Computing.{computedCall}
 
 abbrev float : ℕ → Float
@@ -81,3 +83,43 @@ observation-stored = refl
 no-pivot : priorVerdict pair 0 (two ∷ []) (minus-one ∷ []) (nan ∷ nan ∷ []) ≡ refuse VariancePivot
 unfolding pair
 no-pivot = refl
+
+-- ---- priors of mean 0 on a key of size 2: both triangles of the variance count
+
+abbrev zero : Float
+zero = float 0
+
+abbrev minus-zero : Float
+minus-zero = float 0x8000000000000000
+
+-- the float above 1
+abbrev above-one : Float
+above-one = float 0x3FF0000000000001
+
+unfoldable square : (v00 v10 v01 v11 : Float) → FactorVerdict
+unfolding computedCall
+square v00 v10 v01 v11 = priorVerdict (addVariable fresh (97, 0) 2 .graph) 0 (zero ∷ zero ∷ []) (v00 ∷ v10 ∷ v01 ∷ v11 ∷ [])
+    (nan ∷ nan ∷ nan ∷ nan ∷ nan ∷ nan ∷ [])
+
+-- 0.0 and -0.0 agree; xi is 0 and W the identity
+zeros-agree : square one minus-zero zero one ≡ accept (zero ∷ zero ∷ one ∷ zero ∷ zero ∷ one ∷ [])
+unfolding square
+zeros-agree = refl
+
+-- the last bit counts
+last-bit : square four one above-one four ≡ refuse NotSymmetric
+unfolding square
+last-bit = refl
+
+-- 20 comes before 7, which is still 7 where the triangles agree; and 6 before 20
+before-pivot : square one two zero one ≡ refuse NotSymmetric
+unfolding square
+before-pivot = refl
+
+still-pivot : square one two two one ≡ refuse VariancePivot
+unfolding square
+still-pivot = refl
+
+after-given : square one zero (inf true) one ≡ refuse NotFinite
+unfolding square
+after-given = refl

@@ -1,5 +1,6 @@
 -- Laws that several proofs cite.
 pub mod Checking
+pub mod Triangles
 pub mod CheckOrder
 pub mod Calls
 pub mod Places

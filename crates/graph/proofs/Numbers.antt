@@ -8,9 +8,9 @@ use Rattle.graph.specs.declared.refusal.Refusal.{Refusal}
 use Rattle.graph.specs.declared.refusal.Refusal.the-variants.{NeitherKeptNorCleared, NotALetter, SizeOutside, KeysNotRising, CountOutside}
 use Rattle.graph.specs.declared.refusal.Refusal.the-variants.{LengthUnlike, NotFinite, VariancePivot, BadRecord, KeptAndCleared, NameTaken}
 use Rattle.graph.specs.declared.refusal.Refusal.the-variants.{NoSuchKey, PastLimit, FactorStoreShort, StoreShort, ClearedPivot, MarginalPivot}
-use Rattle.graph.specs.declared.refusal.Refusal.the-variants.{ResultNotFinite, CountedTwice, NoSuchGraph}
+use Rattle.graph.specs.declared.refusal.Refusal.the-variants.{ResultNotFinite, CountedTwice, NotSymmetric, NoSuchGraph}
 
--- the refusal of a number: 0 to 18 in their order, and 30 is past them
+-- the refusal of a number: 0 to 20 in their order, and 30 is past them; 19 is none, so anything may stand there
 abbrev named : ℕ → Refusal
 named n =
     getD
@@ -33,6 +33,8 @@ named n =
     ∷ MarginalPivot
     ∷ ResultNotFinite
     ∷ CountedTwice
+    ∷ NoSuchGraph
+    ∷ NotSymmetric
     ∷ [])
     n
     NoSuchGraph
@@ -57,6 +59,7 @@ back ClearedPivot = refl
 back MarginalPivot = refl
 back ResultNotFinite = refl
 back CountedTwice = refl
+back NotSymmetric = refl
 back NoSuchGraph = refl
 
 pub same-refusal : (a b : Refusal) → refusalNumber a ≡ refusalNumber b → a ≡ b

@@ -15,6 +15,7 @@ use Rattle.factor.specs.Limits.{max-factors, max-keys, max-rows}
 use Rattle.factor.specs.Factor.{rising, known, priorOf, observationOf, aNumbers, numbers, lengthsFit, givenFinite}
 use Rattle.factor.specs.declared.Factor.{Factor}
 use Rattle.factor.proofs.Counting.{every-3}
+use Rattle.factor.proofs.Symmetry.{identity-symmetric}
 use Rattle.cholesky.proofs.Forms.{identity-exchanged}
 use Rattle.graph.specs.Record.{sizeAt, offset, valid}
 use Rattle.graph.specs.Registration.{withVariable, FactorVerdict, accept, withFactor, settle, weighedVerdict, factorVerdict, priorVerdict, addPrior}
@@ -50,7 +51,8 @@ module _ (g : Graph) (f : Factor) (h12 : g .count < max-factors) (a : List Float
   factor-passes =
       let l : offset g (g .count) + numbers (g .sizes) f ≤ length (room g f) = omega
       (arith, length-replicate (offset g (g .count) + numbers (g .sizes) f) plus-zero) in
-      weighs g f a _ _ _ (record { lengths = lengths; few = h12; room = l; finite = given }) ∙ ap (weighedVerdict a) (identity-exchanged (f .rows))
+      weighs g f a _ _ _ (record { lengths = lengths; few = h12; room = l; finite = given; triangles = identity-symmetric (f .rows) })
+      ∙ ap (weighedVerdict a) (identity-exchanged (f .rows))
 
 -- ---- a prior
 

@@ -298,6 +298,9 @@ impl Graph {
         if !factor::weighing::given_finite(a, mean, variance) {
             return self.refused(Refusal::NotFinite);
         }
+        if !factor::weighing::symmetric(variance, mean.len()) {
+            return self.refused(Refusal::NotSymmetric);
+        }
         match factor::weighing::store_factor(store, start, a, mean, variance, mean.len()) {
             Exchanged::Done => {}
             Exchanged::Pivot => return self.refused(Refusal::VariancePivot),

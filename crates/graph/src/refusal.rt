@@ -22,10 +22,11 @@ pub enum Refusal {
     MarginalPivot,
     ResultNotFinite,
     CountedTwice,
+    NotSymmetric,
     NoSuchGraph,
 }
 
-// The number of a refusal in document 01.
+// The number of a refusal in document 01, and from 19 to 29 in document 02.
 pub fn code(why: Refusal) -> usize
     ensures { λ r. ⌜ r ≡ refusalNumber why ⌝ }
 {
@@ -49,6 +50,7 @@ pub fn code(why: Refusal) -> usize
         Refusal::MarginalPivot => 16,
         Refusal::ResultNotFinite => 17,
         Refusal::CountedTwice => 18,
+        Refusal::NotSymmetric => 20,
         Refusal::NoSuchGraph => 30,
     }
 }

@@ -104,6 +104,30 @@ fn prior_numbers(g: Graph) {
         &[2.0, 1.0, 5.0, 2.0],
         8,
     );
+    prior(
+        b"mean too short, variance not symmetric",
+        g,
+        1,
+        &one,
+        &[2.0, 1.0, 5.0, 2.0],
+        8,
+    );
+    prior(
+        b"a variance neither symmetric nor definite",
+        g,
+        1,
+        &two,
+        &[1.0, 2.0, 3.0, 1.0],
+        8,
+    );
+    prior(
+        b"zeros of either sign across the diagonal",
+        g,
+        1,
+        &two,
+        &[2.0, 0.0, 0.0 * (0.0 - 1.0), 2.0],
+        8,
+    );
 }
 
 fn shapes(g: Graph) {
@@ -123,6 +147,16 @@ fn shapes(g: Graph) {
     );
     observation(b"no rows", g, &[0], 0, &one, &one, &one, 8);
     observation(b"13 rows", g, &[0], 13, &rows, &rows, &square, 8);
+    observation(
+        b"a variance of 2 rows that isn't symmetric",
+        g,
+        &[0],
+        2,
+        &two,
+        &two,
+        &[2.0, 1.0, 5.0, 2.0],
+        8,
+    );
     observation(b"equal keys", g, &[1, 1], 1, &one, &one, &one, 8);
     observation(b"falling keys", g, &[1, 0], 1, &one, &one, &one, 8);
     observation(b"equal keys not there", g, &[9, 9], 1, &one, &one, &one, 8);

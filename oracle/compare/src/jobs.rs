@@ -5,7 +5,7 @@ mod full;
 use oracle::cases::graphs::{
     Style, any_graph, any_links, chain, close_columns, full_rank_chain, graph, ladder, ring, some_sizes, star, tree,
 };
-use oracle::cases::{Job, Random, tolerance, two_to};
+use oracle::cases::{Job, Random, symmetry, tolerance, two_to};
 use oracle::job::{FACTORS, KEYS, ROWS, TOTAL_SIZE, VARIABLES};
 
 /// How a job was drawn, for the counts.
@@ -23,6 +23,7 @@ pub enum Kind {
     Keyless,
     NearlySingular,
     BesideTolerance,
+    BesideSymmetry,
     WholeNumbers,
     Uneven,
     Limits,
@@ -32,11 +33,11 @@ pub enum Kind {
 }
 
 /// Of 100 draws so many are of each kind; the rest are damaged jobs.
-const SHARES: [(Kind, usize); 17] = [
-    (Kind::Chain, 8),
-    (Kind::Tree, 8),
-    (Kind::Loop, 8),
-    (Kind::Star, 8),
+const SHARES: [(Kind, usize); 18] = [
+    (Kind::Chain, 7),
+    (Kind::Tree, 7),
+    (Kind::Loop, 7),
+    (Kind::Star, 7),
     (Kind::Ladder, 5),
     (Kind::Apart, 6),
     (Kind::Wide, 8),
@@ -45,6 +46,7 @@ const SHARES: [(Kind, usize); 17] = [
     (Kind::Keyless, 4),
     (Kind::NearlySingular, 5),
     (Kind::BesideTolerance, 4),
+    (Kind::BesideSymmetry, 4),
     (Kind::WholeNumbers, 5),
     (Kind::Uneven, 4),
     (Kind::Limits, 2),
@@ -73,6 +75,7 @@ fn of_kind(random: &mut Random, kind: Kind) -> Job {
         Kind::MessageStore => full::message_store(random),
         Kind::NearlySingular => nearly_singular(random),
         Kind::BesideTolerance => tolerance::beside(random),
+        Kind::BesideSymmetry => symmetry::beside(random),
         Kind::WholeNumbers => whole_numbers(random),
         Kind::Uneven => uneven(random),
         Kind::ManyPriors => many_priors(random),

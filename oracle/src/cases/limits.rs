@@ -64,7 +64,7 @@ fn keyless(job: Job, rows: usize) -> Job {
 }
 
 /// A prior and observations without keys that leave this much of the factor store.
-fn filled(rows: &[usize], left: usize) -> Job {
+pub fn filled(rows: &[usize], left: usize) -> Job {
     let twelves = (0..13).fold(Job::with(&[1]).prior(0, &[2.0], &[4.0]), |job, _| keyless(job, 12));
     let job = rows.iter().fold(twelves, |job, &rows| keyless(job, rows));
     assert_eq!(job::stored(&job::read(&job.bytes()).graph), FACTOR_STORE - left);

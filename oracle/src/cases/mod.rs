@@ -9,6 +9,7 @@ mod random;
 mod reading;
 mod refusals;
 mod registration;
+pub mod symmetry;
 pub mod tolerance;
 mod writer;
 
@@ -77,6 +78,7 @@ pub fn all() -> Vec<Case> {
     graphs::add(&mut cases);
     refusals::add(&mut cases);
     tolerance::add(&mut cases);
+    symmetry::add(&mut cases);
     cases.all
 }
 

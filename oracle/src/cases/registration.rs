@@ -7,6 +7,7 @@ pub fn add(cases: &mut Cases) {
     given(cases);
     pivots(cases);
     computed(cases);
+    lopsided(cases);
     accepted(cases);
 }
 
@@ -62,9 +63,13 @@ fn pivots(cases: &mut Cases) {
         cases.add(format!("prior-variance-{name}"), pair().prior(0, &[0.0], &[variance]));
     }
     cases.add("prior-variance-singular", pair().prior(1, &[0.0, 0.0], &[1.0, 2.0, 2.0, 4.0]));
-    cases.add("prior-variance-second-pivot", pair().prior(1, &[0.0, 0.0], &[1.0, 2.0, 0.0, 3.0]));
-    let overflowing = [two_to(-1000), two_to(600), 0.0, 1.0];
-    cases.add("prior-variance-pivot-overflows", pair().prior(1, &[0.0, 0.0], &overflowing));
+    let large = two_to(600);
+    for (twin, second, overflowing) in [("", 2.0, large), ("-lopsided", 0.0, 0.0)] {
+        let second = [1.0, 2.0, second, 3.0];
+        cases.add(format!("prior-variance-second-pivot{twin}"), pair().prior(1, &[0.0, 0.0], &second));
+        let overflowing = [two_to(-1000), large, overflowing, 1.0];
+        cases.add(format!("prior-variance-pivot-overflows{twin}"), pair().prior(1, &[0.0, 0.0], &overflowing));
+    }
     cases.add("observation-variance-zero", pair().observation(&[0], &[1.0], &[1.0], &[0.0]));
     cases.add("observation-without-keys-variance-negative", pair().observation(&[], &[], &[1.0], &[-1.0]));
     let third = [1.0, 0.5, 0.5, 0.5, 1.0, 0.5, 0.5, 0.5, 1.0 / 3.0];
@@ -82,11 +87,14 @@ fn computed(cases: &mut Cases) {
     cases.add("observation-xi-overflows-in-its-last", Job::with(&[1]).observation(&[], &[], &[0.0, 8.0], &steep));
 }
 
-fn accepted(cases: &mut Cases) {
+fn lopsided(cases: &mut Cases) {
     let lopsided = [2.0, 0.5, -77.0, 3.0];
     cases.add("variance-lopsided", Job::with(&[2]).prior(0, &[1.0, 2.0], &lopsided));
     let lopsided = Job::with(&[2]).observation(&[0], &[1.0, 2.0, 3.0, 5.0], &[1.0, 2.0], &lopsided);
     cases.add("variance-lopsided-observation", lopsided);
+}
+
+fn accepted(cases: &mut Cases) {
     let zeros = Job::with(&[1, 1]).unit_observation(&[0, 1], &[1.0, 0.0, 0.0, 1.0], &[-3.0, -0.0]);
     cases.add("mean-minus-zero-below-a-negative-one", zeros.plain_prior(0, 1.0));
     cases.add("mean-minus-zero", Job::with(&[1]).prior(0, &[-0.0], &[1.0]));

@@ -1,4 +1,5 @@
 -- `graph::Graph::add_factor` meets its contract: its ways out are those of the verdict (`proofs/CheckOrder.antt`). Assumes nothing.
+use Prim.Native.Nat.{ℕ}
 use mathlib.Core.Path.{_∙_, refl, sym}
 use native.Mathlib.Omega.{arith}
 use borrow.Author.Needs.{needs}
@@ -8,7 +9,7 @@ use Rattle.factor.proofs.Fitting.{fits-touched}
 use Rattle.cholesky.specs.declared.exchange.Exchanged.the-variants.{Done, Pivot, NotFinite}
 use Rattle.graph.proofs.Validity.{rows-most}
 use Rattle.graph.proofs.Checking.{full, not-given, short, unlike}
-use Rattle.graph.proofs.CheckOrder.{ended, room-for, turned-back}
+use Rattle.graph.proofs.CheckOrder.{Tested, asymmetric, ended, room-for, square-finite, turned-back}
 use Rattle.graph.proofs.Graph.add_factor.Statement.{statement}
 use Rattle.graph.proofs.Graph.add_factor.Tie as tie
 
@@ -58,65 +59,69 @@ returns-4 c =
       c .before .before .before .if3 .left,
     )) (tells (c .before .before .given-finite .ensures) (not-true _ (c .before .if4 .taken)))) (c .refused4 .ensures) refl
 
-store-factor-requires : tie.Need-store-factor-requires
-store-factor-requires c κs =
-    let entry = c .before .before .before .before .before .before .before .before .before .before .before .before .before .before in
-    let offset = c .before .before .before .before .before .offset in
-    let numbers = c .before .before .before .before .numbers in
-    let args = entry .args in
-    let pre = entry .pre in
-    room-for (args .t1) (args .f) (args .a .now) (args .mean .now) (args .variance .now) (args .store .now)
-    (tells (c .before .before .before .before .before .before .before .before .lengths-fit .ensures)
-    (not-false _ (c .before .before .before .before .before .before .before .if1 .left)))
-    (c .before .before .before .before .before .before .if2 .left) (offset .result) (numbers .result) (offset .ensures .0) (numbers .ensures .0)
-    (c .before .before .before .if3 .left) (tells (c .before .before .given-finite .ensures) (not-false _ (c .before .if4 .left)))
-    (rows-most (args .t1) (pre .0) (args .f) (pre .1))
+-- where the numbers given are finite: the call's entry, the start that was found, and what was tested
+abbrev entry : tie.Else4 → tie.Start
+entry c = c .before .before .before .before .before .before .before .before .before .before .before .before .before
+
+abbrev start : tie.Else4 → ℕ
+start c = c .before .before .before .before .offset .result
+
+tested : (c : tie.Else4) → Tested (entry c .args .t1) (entry c .args .f) (entry c .args .a .now) (entry c .args .mean .now)
+    (entry c .args .variance .now) (entry c .args .store .now) (start c)
+tested c = record {
+  lengths = tells (c .before .before .before .before .before .before .before .lengths-fit .ensures)
+      (not-false _ (c .before .before .before .before .before .before .if1 .left));
+  few = c .before .before .before .before .before .if2 .left;
+  next = c .before .before .before .before .offset .ensures .0;
+  room = omega (arith, c .before .before .before .numbers .ensures .0, c .before .before .if3 .left);
+  finite = tells (c .before .given-finite .ensures) (not-false _ (c .if4 .left));
+}
 
 returns-5 : tie.Need-returns-5
 returns-5 c =
-    let back8 = c .before .before .before .before .before .before .before .before in
-    let back16 = back8 .before .before .before .before .before .before .before .before in
-    let args = back16 .before .before .before .before .args in
-    let offset = back8 .before .before .before .offset in
-    let numbers = back8 .before .before .numbers in
-    let store-factor = c .before .before .before .before .before .store-factor in
-    let p = ended (args .t1) (args .f) (args .a .now) (args .mean .now) (args .variance .now) (args .store .now)
-    (tells (back8 .before .before .before .before .before .before .lengths-fit .ensures)
-    (not-false _ (back8 .before .before .before .before .before .if1 .left))) (back8 .before .before .before .before .if2 .left) (offset .result)
-    (numbers .result) (offset .ensures .0) (numbers .ensures .0) (back8 .before .if3 .left)
-    (tells (back8 .given-finite .ensures) (not-false _ (c .before .before .before .before .before .before .before .if4 .left)))
-    (store-factor .last .0) Pivot (sym (c .before .enum-told2 .given .1) ∙ store-factor .ensures .0) (store-factor .ensures .1 .0) in
-    turned-back (args .t1) (args .f) (args .store .now) _ _ _ _ (p .0) (c .refused5 .ensures) (p .1)
+    let there = c .before .before .before in
+    let args = entry there .args in
+    turned-back (args .t1) (args .f) (args .store .now) _ _ _ _ (asymmetric (args .t1) (args .f) (args .a .now) (args .mean .now) (args .variance .now)
+    (args .store .now) (start there) (tested there) (tells (c .before .before .symmetric .ensures) (not-true _ (c .before .if5 .taken))))
+    (c .refused5 .ensures) refl
+
+store-factor-requires : tie.Need-store-factor-requires
+store-factor-requires c κs =
+    let there = c .before .before .before in
+    let args = entry there .args in
+    room-for (args .t1) (args .f) (args .a .now) (args .mean .now) (args .variance .now) (args .store .now) (start there) (tested there)
+    (rows-most (args .t1) (entry there .pre .0) (args .f) (entry there .pre .1))
 
 returns-6 : tie.Need-returns-6
 returns-6 c =
-    let back8 = c .before .before .before .before .before .before .before .before in
-    let back16 = back8 .before .before .before .before .before .before .before .before in
-    let args = back16 .before .before .before .before .args in
-    let offset = back8 .before .before .before .offset in
-    let numbers = back8 .before .before .numbers in
+    let there = c .before .before .before .before .before .before .before .before .before in
+    let args = entry there .args in
     let store-factor = c .before .before .before .before .before .store-factor in
-    let p = ended (args .t1) (args .f) (args .a .now) (args .mean .now) (args .variance .now) (args .store .now)
-    (tells (back8 .before .before .before .before .before .before .lengths-fit .ensures)
-    (not-false _ (back8 .before .before .before .before .before .if1 .left))) (back8 .before .before .before .before .if2 .left) (offset .result)
-    (numbers .result) (offset .ensures .0) (numbers .ensures .0) (back8 .before .if3 .left)
-    (tells (back8 .given-finite .ensures) (not-false _ (c .before .before .before .before .before .before .before .if4 .left)))
-    (store-factor .last .0) NotFinite (sym (c .before .enum-told3 .given .1) ∙ store-factor .ensures .0) (store-factor .ensures .1 .0) in
+    let p = ended (args .t1) (args .f) (args .a .now) (args .mean .now) (args .variance .now) (args .store .now) (start there) (tested there)
+    (tells (c .before .before .before .before .before .before .before .before .symmetric .ensures)
+    (not-false _ (c .before .before .before .before .before .before .before .if5 .left))) (store-factor .last .0) Pivot
+    (sym (c .before .enum-told2 .given .1) ∙ store-factor .ensures .0) (store-factor .ensures .1 .0) in
     turned-back (args .t1) (args .f) (args .store .now) _ _ _ _ (p .0) (c .refused6 .ensures) (p .1)
 
 returns-7 : tie.Need-returns-7
 returns-7 c =
-    let back8 = c .before .before .before .before .before .before .before .before in
-    let back16 = back8 .before .before .before .before .before .before .before .before in
-    let args = back16 .before .before .before .args in
-    let offset = back8 .before .before .offset in
-    let numbers = back8 .before .numbers in
+    let there = c .before .before .before .before .before .before .before .before .before in
+    let args = entry there .args in
+    let store-factor = c .before .before .before .before .before .store-factor in
+    let p = ended (args .t1) (args .f) (args .a .now) (args .mean .now) (args .variance .now) (args .store .now) (start there) (tested there)
+    (tells (c .before .before .before .before .before .before .before .before .symmetric .ensures)
+    (not-false _ (c .before .before .before .before .before .before .before .if5 .left))) (store-factor .last .0) NotFinite
+    (sym (c .before .enum-told3 .given .1) ∙ store-factor .ensures .0) (store-factor .ensures .1 .0) in
+    turned-back (args .t1) (args .f) (args .store .now) _ _ _ _ (p .0) (c .refused7 .ensures) (p .1)
+
+returns-8 : tie.Need-returns-8
+returns-8 c =
+    let there = c .before .before .before .before .before .before .before .before in
+    let args = entry there .args in
     let store-factor = c .before .before .before .before .store-factor in
-    ended (args .t1) (args .f) (args .a .now) (args .mean .now) (args .variance .now) (args .store .now)
-    (tells (back8 .before .before .before .before .before .lengths-fit .ensures) (not-false _ (back8 .before .before .before .before .if1 .left)))
-    (back8 .before .before .before .if2 .left) (offset .result) (numbers .result) (offset .ensures .0) (numbers .ensures .0) (back8 .if3 .left)
-    (tells (c .before .before .before .before .before .before .before .given-finite .ensures)
-    (not-false _ (c .before .before .before .before .before .before .if4 .left))) (store-factor .last .0) Done
+    ended (args .t1) (args .f) (args .a .now) (args .mean .now) (args .variance .now) (args .store .now) (start there) (tested there)
+    (tells (c .before .before .before .before .before .before .before .symmetric .ensures)
+    (not-false _ (c .before .before .before .before .before .before .if5 .left))) (store-factor .last .0) Done
     (sym (c .enum-told .given .1) ∙ store-factor .ensures .0) (store-factor .ensures .1 .0)
 
 pub add-factor-spec : {M : Type 1} → statement M
@@ -133,18 +138,21 @@ add-factor-spec =
     returns-3
     (λ c κs. search needs)  -- given-finite-requires
     (λ c κs. search needs)  -- refused-requires-4
-    returns-4 store-factor-requires
+    returns-4
+    (λ c κs. square-finite _ _ _ _ _ _ _ (tested c))  -- symmetric-requires
+    (λ c κs. search needs)  -- refused-requires-5
+    returns-5 store-factor-requires
     (λ c. search needs)  -- enum-told
     (λ c. search needs)  -- enum-told-2
-    (λ c κs. search needs)  -- refused-requires-5
-    (λ c. search needs)  -- same-length
-    returns-5
-    (λ c. search needs)  -- enum-told-3
     (λ c κs. search needs)  -- refused-requires-6
-    (λ c. search needs)  -- same-length-2
+    (λ c. search needs)  -- same-length
     returns-6
+    (λ c. search needs)  -- enum-told-3
+    (λ c κs. search needs)  -- refused-requires-7
+    (λ c. search needs)  -- same-length-2
+    returns-7
     (λ c. search needs)  -- mul-f
     (λ c. search needs)  -- element-set-from-f
     (λ c. search needs)  -- add-self
     (λ c. search needs)  -- same-length-3
-    returns-7)
+    returns-8)
