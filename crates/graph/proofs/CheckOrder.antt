@@ -31,6 +31,14 @@ pub turned-back : (g : Graph) (f : Factor) (store s : List Float) (v : FactorVer
     → (r ≡ settle g f v) × (s ≡ stored g store v)
 turned-back g f store s v why r e h k = rw e (h, k)
 
+-- the answer and the store s, by how the weighing ended
+module _ (g : Graph) (f : Factor) (a mean variance store s : List Float) where
+  abbrev pub Ends : Exchanged → Type 0
+  Ends cholesky.Done = (_≡_ {A = Added} record { graph = withFactor g f; outcome = Number (g .count) } (settle g f (checks g f a mean variance store))) ×
+      (s ≡ stored g store (checks g f a mean variance store))
+  Ends cholesky.Pivot = (checks g f a mean variance store ≡ refuse VariancePivot) × (s ≡ store)
+  Ends cholesky.NotFinite = (checks g f a mean variance store ≡ refuse NotFinite) × (s ≡ store)
+
 -- what the code has tested before it looks at the variance's pairs, with the start that it has found
 pub record Tested (g : Graph) (f : Factor) (a mean variance store : List Float) (start : ℕ) : Type 0 where
   pub lengths : lengthsFit (g .sizes) f (length a) (length mean) (length variance) ≡ true
@@ -65,21 +73,14 @@ module _ (g : Graph) (f : Factor) (a mean variance store : List Float) (start : 
     passed : Passed g f a mean variance store
     passed = record { lengths = t .lengths; few = t .few; room = omega (arith, t .next, t .room); finite = t .finite; triangles = rw long at h20 }
 
-    -- the answer and the store, by how the weighing ended
-    abbrev pub Ends : Exchanged → Type 0
-    Ends cholesky.Done = (_≡_ {A = Added} record { graph = withFactor g f; outcome = Number (g .count) } (settle g f (checks g f a mean variance store))) ×
-        (s ≡ stored g store (checks g f a mean variance store))
-    Ends cholesky.Pivot = (checks g f a mean variance store ≡ refuse VariancePivot) × (s ≡ store)
-    Ends cholesky.NotFinite = (checks g f a mean variance store ≡ refuse NotFinite) × (s ≡ store)
-
-    ends : (v : Form) → checks g f a mean variance store ≡ weighedVerdict a v → s ≡ formLaid v a store start → Ends (endOf v)
+    ends : (v : Form) → checks g f a mean variance store ≡ weighedVerdict a v → s ≡ formLaid v a store start → Ends g f a mean variance store s (endOf v)
     unfolding endOf
     ends (form xi w) c l = rw (c, ← t .next) (refl, l)
     ends pivot c l = (c, l)
     ends notFinite c l = (c, l)
 
     pub ended : (r : Exchanged) → r ≡ endOf (exchanged (length mean) mean variance) → s
-        ≡ formLaid (exchanged (length mean) mean variance) a store start → Ends r
+        ≡ formLaid (exchanged (length mean) mean variance) a store start → Ends g f a mean variance store s r
     ended r e l =
         let c = weighs g f a mean variance store passed ∙ ap (λ (y : ℕ). weighedVerdict a (exchanged y mean variance)) (sym long) in
-        subst Ends (sym e) (ends (exchanged (length mean) mean variance) c l)
+        subst (Ends g f a mean variance store s) (sym e) (ends (exchanged (length mean) mean variance) c l)

@@ -1,15 +1,16 @@
 -- `graph::Graph::add_factor` meets its contract: its ways out are those of the verdict (`proofs/CheckOrder.antt`). Assumes nothing.
 use Prim.Native.Nat.{ℕ}
-use mathlib.Core.Path.{_∙_, refl, sym}
+use mathlib.Core.Path.{_∙_, _≡_, refl, sym}
 use native.Mathlib.Omega.{arith}
 use borrow.Author.Needs.{needs}
 use borrow.Author.Tests.{not-false, not-true}
 use Rattle.factor.proofs.Counting.{tells}
 use Rattle.factor.proofs.Fitting.{fits-touched}
+use Rattle.cholesky.specs.declared.exchange.Exchanged.{Exchanged}
 use Rattle.cholesky.specs.declared.exchange.Exchanged.the-variants.{Done, Pivot, NotFinite}
 use Rattle.graph.proofs.Validity.{rows-most}
 use Rattle.graph.proofs.Checking.{full, not-given, short, unlike}
-use Rattle.graph.proofs.CheckOrder.{Tested, asymmetric, ended, room-for, square-finite, turned-back}
+use Rattle.graph.proofs.CheckOrder.{Ends, Tested, asymmetric, ended, room-for, square-finite, turned-back}
 use Rattle.graph.proofs.Graph.add_factor.Statement.{statement}
 use Rattle.graph.proofs.Graph.add_factor.Tie as tie
 
@@ -92,37 +93,33 @@ store-factor-requires c κs =
     room-for (args .t1) (args .f) (args .a .now) (args .mean .now) (args .variance .now) (args .store .now) (start there) (tested there)
     (rows-most (args .t1) (entry there .pre .0) (args .f) (entry there .pre .1))
 
+-- behind the weighing: the call's entry, and how it ends
+abbrev called : tie.After-store-factor → tie.Start
+called c = entry (c .before .before .before .before)
+
+weighed : (c : tie.After-store-factor) (r : Exchanged) → r ≡ c .store-factor .result
+    → Ends (called c .args .t1) (called c .args .f) (called c .args .a .now) (called c .args .mean .now) (called c .args .variance .now)
+    (called c .args .store .now) (c .store-factor .last .0) r
+weighed c r e =
+    let there = c .before .before .before .before in
+    let args = entry there .args in
+    ended (args .t1) (args .f) (args .a .now) (args .mean .now) (args .variance .now) (args .store .now) (start there) (tested there)
+    (tells (c .before .before .before .symmetric .ensures) (not-false _ (c .before .before .if5 .left)))
+    (c .store-factor .last .0) r (e ∙ c .store-factor .ensures .0) (c .store-factor .ensures .1 .0)
+
 returns-6 : tie.Need-returns-6
 returns-6 c =
-    let there = c .before .before .before .before .before .before .before .before .before in
-    let args = entry there .args in
-    let store-factor = c .before .before .before .before .before .store-factor in
-    let p = ended (args .t1) (args .f) (args .a .now) (args .mean .now) (args .variance .now) (args .store .now) (start there) (tested there)
-    (tells (c .before .before .before .before .before .before .before .before .symmetric .ensures)
-    (not-false _ (c .before .before .before .before .before .before .before .if5 .left))) (store-factor .last .0) Pivot
-    (sym (c .before .enum-told2 .given .1) ∙ store-factor .ensures .0) (store-factor .ensures .1 .0) in
+    let there = c .before .before .before .before .before in
+    let p = weighed there Pivot (sym (c .before .enum-told2 .given .1)) in
+    let args = called there .args in
     turned-back (args .t1) (args .f) (args .store .now) _ _ _ _ (p .0) (c .refused6 .ensures) (p .1)
 
 returns-7 : tie.Need-returns-7
 returns-7 c =
-    let there = c .before .before .before .before .before .before .before .before .before in
-    let args = entry there .args in
-    let store-factor = c .before .before .before .before .before .store-factor in
-    let p = ended (args .t1) (args .f) (args .a .now) (args .mean .now) (args .variance .now) (args .store .now) (start there) (tested there)
-    (tells (c .before .before .before .before .before .before .before .before .symmetric .ensures)
-    (not-false _ (c .before .before .before .before .before .before .before .if5 .left))) (store-factor .last .0) NotFinite
-    (sym (c .before .enum-told3 .given .1) ∙ store-factor .ensures .0) (store-factor .ensures .1 .0) in
+    let there = c .before .before .before .before .before in
+    let p = weighed there NotFinite (sym (c .before .enum-told3 .given .1)) in
+    let args = called there .args in
     turned-back (args .t1) (args .f) (args .store .now) _ _ _ _ (p .0) (c .refused7 .ensures) (p .1)
-
-returns-8 : tie.Need-returns-8
-returns-8 c =
-    let there = c .before .before .before .before .before .before .before .before in
-    let args = entry there .args in
-    let store-factor = c .before .before .before .before .store-factor in
-    ended (args .t1) (args .f) (args .a .now) (args .mean .now) (args .variance .now) (args .store .now) (start there) (tested there)
-    (tells (c .before .before .before .before .before .before .before .symmetric .ensures)
-    (not-false _ (c .before .before .before .before .before .before .if5 .left))) (store-factor .last .0) Done
-    (sym (c .enum-told .given .1) ∙ store-factor .ensures .0) (store-factor .ensures .1 .0)
 
 pub add-factor-spec : {M : Type 1} → statement M
 add-factor-spec =
@@ -155,4 +152,4 @@ add-factor-spec =
     (λ c. search needs)  -- element-set-from-f
     (λ c. search needs)  -- add-self
     (λ c. search needs)  -- same-length-3
-    returns-8)
+    (λ c. weighed (c .before .before .before .before) Done (sym (c .enum-told .given .1))))  -- returns-8
