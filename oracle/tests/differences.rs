@@ -101,10 +101,12 @@ fn triangles_that_differ() {
     let variance = [1.0, 0.0, 5e-324, 1.0];
     let mut graph: FactorGraph<f64> = FactorGraph::new();
     graph.add_variable(Symbol('a', 0), 2).unwrap();
-    assert_eq!(graph.add_prior(0, DVector::zeros(2), DMatrix::from_column_slice(2, 2, &variance)).unwrap(), 0);
+    let matrix = || DMatrix::from_column_slice(2, 2, &variance);
+    assert_eq!(graph.add_prior(0, DVector::zeros(2), matrix()).unwrap(), 0);
+    assert_eq!(graph.add_observation(vec![0], DMatrix::identity(2, 2), DVector::zeros(2), matrix()).unwrap(), 1);
     let prior = Job::with(&[2]).prior(0, &[0.0; 2], &variance);
     assert_eq!(expected(&prior.bytes()), Ok("refused 20 0 1\n".to_string()));
-    let observation = Job::with(&[2]).observation(&[], &[], &[0.0; 2], &variance);
+    let observation = Job::with(&[2]).observation(&[0], &[1.0, 0.0, 0.0, 1.0], &[0.0; 2], &variance);
     assert_eq!(expected(&observation.bytes()), Ok("refused 20 0 1\n".to_string()));
 }
 
