@@ -8,7 +8,7 @@ import math
 import struct
 from itertools import combinations
 
-KEYS, ROWS, SIZE, TOTAL, FACTORS, FACTOR_STORE, MESSAGE_STORE = 8, 12, 6, 32, 64, 2048, 3072
+KEYS, ROWS, SIZE, TOTAL, FACTORS, FACTOR_STORE, MESSAGE_STORE = 4, 6, 6, 32, 64, 2048, 3072
 
 
 class Refused(Exception):

@@ -9,8 +9,10 @@ pub const VARIABLES: usize = 32;
 pub const TOTAL_SIZE: usize = 32;
 pub const SIZES: std::ops::RangeInclusive<usize> = 1..=6;
 pub const FACTORS: usize = 64;
-pub const KEYS: usize = 8;
-pub const ROWS: std::ops::RangeInclusive<usize> = 1..=12;
+/// Keys and rows of an observation (C-20).
+pub const KEYS: usize = 4;
+pub const ROWS: std::ops::RangeInclusive<usize> = 1..=MOST_ROWS;
+pub const MOST_ROWS: usize = 6;
 
 /// The stores of the program `strips`, in numbers.
 pub const FACTOR_STORE: usize = 2048;

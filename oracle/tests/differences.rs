@@ -110,6 +110,22 @@ fn triangles_that_differ() {
     assert_eq!(expected(&observation.bytes()), Ok("refused 20 0 1\n".to_string()));
 }
 
+/// An observation on more than 4 keys or of more than 6 rows is refused with 4 (C-20); the original has no such limit.
+#[test]
+fn more_keys_or_rows_than_an_observation_may_have() {
+    for (keys, rows, refused) in [(4, 6, false), (5, 6, true), (4, 7, true)] {
+        let (listed, a) = ((0..keys).collect::<Vec<usize>>(), vec![1.0; rows * keys]);
+        let mut graph: FactorGraph<f64> = FactorGraph::new();
+        (0..keys).for_each(|key| assert_eq!(graph.add_variable(Symbol('a', key), 1).unwrap(), key));
+        let matrix = DMatrix::from_column_slice(rows, keys, &a);
+        let added = graph.add_observation(listed.clone(), matrix, DVector::zeros(rows), DMatrix::identity(rows, rows));
+        assert_eq!(added.unwrap(), 0);
+        let held = (0..keys).fold(Job::with(&vec![1; keys]), |job, key| job.plain_prior(key, 1.0));
+        let prints = expected(&held.unit_observation(&listed, &a, &vec![0.0; rows]).bytes()).unwrap();
+        assert_eq!(prints == format!("refused 4 0 {}\n", 2 * keys), refused, "{prints}");
+    }
+}
+
 /// A prior whose variance has the float below 1 beside its diagonal of 1: what is left of the second entry is 2^-52, which the
 /// published rule takes.
 #[test]

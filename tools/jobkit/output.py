@@ -19,7 +19,7 @@ MEANINGS = {
     1: "the letter of a variable is no Unicode scalar value",
     2: "the size of a variable is outside 1 to 6",
     3: "the keys of an observation don't rise strictly",
-    4: "an observation has more than 8 keys, or rows outside 1 to 12",
+    4: "an observation has more than 4 keys, or rows outside 1 to 6",
     6: "a number given, or computed from those given, isn't finite",
     7: "a variance isn't positive definite, or hardly: a pivot is refused",
     8: "the mark is unknown, the flag isn't 0 or 1, or the record is cut short",

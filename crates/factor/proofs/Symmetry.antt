@@ -5,13 +5,14 @@ use mathlib.Core.Bool.{Bool, true, false, false≢true, Bool·beq}
 use mathlib.Core.List.{List, [], _∷_}
 use native.Mathlib.Decide.{decLt, ℕ-discrete}
 use native.Mathlib.Omega.{arith}
-use borrow.Author.Tests.{eq-eqb, ne-eqb, not-false, not-true}
-use lib.Ieee.{Float, nan, inf, fin, up, down, level, eq, ne}
+use borrow.Author.Tests.{ne-eqb, not-false, not-true}
+use lib.Ieee.{Float, nan, inf, fin, up, down, level, eq, ne, isNan}
 use lib.ListN.{length, getD}
 use Rattle.matrix.specs.Views.{entry, columns}
 use Rattle.matrix.specs.Finite.{isFinite, allFinite}
 use Rattle.matrix.specs.Triangles.{identityOf}
 use Rattle.matrix.proofs.Dense.{dense}
+use Rattle.matrix.proofs.Numbers.{equals-itself}
 use Rattle.cholesky.proofs.Identity.{unit-turned, identity-length, identity-is, identity-finite, Identity}
 use Rattle.factor.specs.Counting.{all}
 use Rattle.factor.specs.Factor.{mirrored, symmetric}
@@ -45,13 +46,11 @@ eq-turned (fin s m e) nan = refl
 eq-turned (fin s m e) (inf t) = refl
 eq-turned (fin s m e) (fin t n d) = level-turned s (m * up e * down d) t (n * up d * down e)
 
--- a finite number equals itself
-eq-same : (x : Float) → isFinite x ≡ true → eq x x ≡ true
-unfolding eq
-eq-same nan h = absurd (false≢true h)
-eq-same (inf s) h = absurd (false≢true h)
-eq-same (fin true m e) h = rw (eq-eqb _ _ refl)
-eq-same (fin false m e) h = rw (eq-eqb _ _ refl)
+finite-no-nan : (x : Float) → isFinite x ≡ true → isNan x ≡ false
+unfolding isNan
+finite-no-nan nan h = absurd (false≢true h)
+finite-no-nan (inf s) h = refl
+finite-no-nan (fin s m e) h = refl
 
 -- what a comparison of two numbers read tells of the entries
 module _ {x y a b : Float} (ex : x ≡ a) (ey : y ≡ b) where
@@ -81,8 +80,8 @@ unfolding symmetric
 symmetric-of n s h = all-of _ n (λ j lj. all-of _ n (λ i li. h i j li lj))
 
 module _ (n : ℕ) (s : List Float) (long : length s ≡ n * n) (finite : allFinite s ≡ true) where
-  diagonal : (i : ℕ) → i < n → mirrored n s i i ≡ true
-  diagonal i l = eq-same _ (finite-at s _ finite (dense n n (length s) (omega (arith, long)) i i l l))
+  itself : (i j : ℕ) → i < n → j < n → eq (entry s (columns n) i j) (entry s (columns n) i j) ≡ true
+  itself i j li lj = equals-itself _ (finite-no-nan _ (finite-at s _ finite (dense n n (length s) (omega (arith, long)) i j li lj)))
 
   module _ (h : all (λ j. all (λ i. mirrored n s i j) j) n ≡ true) where
     above : (i j : ℕ) → i < j → j < n → mirrored n s i j ≡ true
@@ -94,7 +93,7 @@ module _ (n : ℕ) (s : List Float) (long : length s ≡ n * n) (finite : allFin
         by-order : Dec (i < j) → Dec (j < i) → mirrored n s i j ≡ true
         by-order (yes l) d = above i j l lj
         by-order (no h) (yes l) = eq-turned (entry s (columns n) i j) (entry s (columns n) j i) ∙ above j i l li
-        by-order (no h) (no k) = let e : i ≡ j = omega arith in rw e (diagonal j lj)
+        by-order (no h) (no k) = let e : i ≡ j = omega arith in rw e (itself j j lj lj)
 
   -- the pairs above the diagonal decide
   pub above-decides : symmetric n s ≡ all (λ j. all (λ i. mirrored n s i j) j) n
@@ -105,7 +104,7 @@ module _ (n : ℕ) (s : List Float) (long : length s ≡ n * n) (finite : allFin
 
   -- one whose mirrored entries are the same is symmetric
   pub same-mirrored : ((i j : ℕ) → i < n → j < n → entry s (columns n) i j ≡ entry s (columns n) j i) → symmetric n s ≡ true
-  same-mirrored h = symmetric-of n s (λ i j li lj. rw (h i j li lj) (eq-same _ (finite-at s _ finite (dense n n (length s) (omega (arith, long)) j i lj li))))
+  same-mirrored h = symmetric-of n s (λ i j li lj. rw (h i j li lj) (itself j i lj li))
 
 -- a variance that is made where none is given passes
 pub identity-symmetric : (n : ℕ) → symmetric n (identityOf n) ≡ true

@@ -7,9 +7,9 @@ pub const TOTAL: usize = 32;
 
 pub const FACTORS: usize = 64;
 
-pub const KEYS: usize = 8;
+pub const KEYS: usize = 4;
 
-pub const ROWS: usize = 12;
+pub const ROWS: usize = 6;
 
 // The numbers of a matrix of as many rows and columns.
 pub const SQUARE: usize = ROWS * ROWS;

@@ -17,9 +17,11 @@ fn main() {
     observations(g);
     observation_numbers(g);
     limits(g);
+    widest(g);
     factor_limit();
     forged_variables(g);
     forged_factors(g);
+    forged_widest(g);
 }
 
 fn variables() {
@@ -133,20 +135,7 @@ fn prior_numbers(g: Graph) {
 fn shapes(g: Graph) {
     let one = [1.0];
     let two = [1.0, 1.0];
-    let rows = [1.0; 13];
-    let square = [1.0; 169];
-    observation(
-        b"9 keys",
-        g,
-        &[0, 1, 2, 3, 4, 5, 6, 7, 8],
-        1,
-        &one,
-        &one,
-        &one,
-        8,
-    );
     observation(b"no rows", g, &[0], 0, &one, &one, &one, 8);
-    observation(b"13 rows", g, &[0], 13, &rows, &rows, &square, 8);
     observation(
         b"a variance of 2 rows that isn't symmetric",
         g,
@@ -243,6 +232,31 @@ fn limits(g: Graph) {
     variable(b"a 33rd variable, name taken", full, 97, 31, 1);
 }
 
+// The identity of dimension 6.
+fn identity() -> [f64; 36] {
+    let mut square = [0.0; 36];
+    for i in 0..6 {
+        square[7 * i] = 1.0;
+    }
+    square
+}
+
+// As many keys and rows as an observation may have, and one more.
+fn widest(g: Graph) {
+    let one = [1.0];
+    let six = [1.0; 6];
+    let seven = [1.0; 7];
+    let d = g.add_variable(Symbol(98, 1), 1);
+    let four = d.graph;
+    let e = four.add_variable(Symbol(98, 2), 1);
+    let five = e.graph;
+    observation(b"4 keys", four, &[0, 1, 2, 3], 1, &[1.0; 5], &one, &one, 7);
+    observation(b"5 keys", five, &[0, 1, 2, 3, 4], 1, &six, &one, &one, 8);
+    observation(b"5 keys not there", g, &[9; 5], 1, &one, &one, &one, 8);
+    observation(b"6 rows", g, &[0], 6, &six, &six, &identity(), 48);
+    observation(b"7 rows", g, &[0], 7, &seven, &seven, &[1.0; 49], 63);
+}
+
 // As many factors as there is room for, and one more.
 fn factor_limit() {
     let one = [1.0];
@@ -319,11 +333,11 @@ fn forged_factors(g: Graph) {
     f.keys[2] = 1;
     report::with_factor(b"a spare key", right, f);
     f = right.factors[0];
-    f.rows = 13;
-    report::with_factor(b"13 rows", right, f);
+    f.rows = 7;
+    report::with_factor(b"7 rows", right, f);
     f = right.factors[0];
-    f.touched = 9;
-    report::with_factor(b"9 keys", right, f);
+    f.touched = 5;
+    report::with_factor(b"5 keys", right, f);
     f = right.factors[0];
     f.prior = true;
     report::with_factor(b"a prior with two keys", right, f);
@@ -336,4 +350,19 @@ fn forged_factors(g: Graph) {
     bad.count = 0;
     forged(b"a factor more than counted", bad);
     prior(b"the graph that was not forged", right, 0, &one, &one, 16);
+}
+
+// A first factor with as many keys and rows as there may be, and one row more.
+fn forged_widest(g: Graph) {
+    let one = [1.0];
+    let d = g.add_variable(Symbol(98, 1), 1);
+    let four = d.graph;
+    let mut store = [9.0; 16];
+    let added = four.add_observation(&[0, 1, 2, 3], 1, &[1.0; 5], &one, &one, &mut store);
+    let right = added.graph;
+    let mut f = right.factors[0];
+    f.rows = 6;
+    report::with_factor(b"4 keys and 6 rows", right, f);
+    f.rows = 7;
+    report::with_factor(b"4 keys and 7 rows", right, f);
 }

@@ -1,6 +1,6 @@
 -- No job's text is longer than that of 32 keys, so a buffer of that length is never too short. Assumes nothing.
 use Prim.Native.Nat.{ℕ, _*_, _≤_, _<_}
-use mathlib.Core.Path.{_≡_, ap}
+use mathlib.Core.Path.{_≡_, refl, ap}
 use mathlib.Core.Bool.{true}
 use mathlib.Core.List.{List}
 use native.Mathlib.Omega.{arith}
@@ -32,6 +32,10 @@ use Rattle.job.proofs.Endings.{short-of}
 use Rattle.job.proofs.Refusals.{number-most, Placed, read-fine, Keyed, run-keyed}
 
 -- ---- the bytes that decide
+
+-- the figure of firmware/strips.h
+deciding-figure : deciding-bytes ≡ 19193
+deciding-figure = refl
 
 pub first-bytes-decide : Decide deciding-bytes
 unfolding Decide jobText

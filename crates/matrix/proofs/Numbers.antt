@@ -46,7 +46,7 @@ unfolding sub add neg
 difference-number s m e = sum-number binary64 s (m * up e * down e) (not s) (m * up e * down e) (down e * down e)
 
 -- only a NaN differs from itself
-equals-itself : (x : Float) → isNan x ≡ false → eq x x ≡ true
+pub equals-itself : (x : Float) → isNan x ≡ false → eq x x ≡ true
 unfolding ne isNan
 equals-itself x h = go (eq x x) refl
   where

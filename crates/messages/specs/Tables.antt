@@ -30,7 +30,7 @@ pub record Carriable (g : Graph) (ms : List ClosedFactor) : Type 0 where
   pub tidy : (j : ℕ) → j < length ms → Tidy (g .variables) (factorKeys g) (from 0 (g .count)) ms (at ms j)
   pub older : Older ms
 
--- the lengths of the tables: a head for each slot; eight keys for an original, 32 for a message
+-- the lengths of the tables: a head for each slot; an original has places for the most keys of an observation, a message for all keys
 abbrev pub heads-length : ℕ
 heads-length = head-numbers * (max-factors + 2 * backward-shift)
 

@@ -65,14 +65,26 @@ no-key : ended (0x50 ∷ 0x52 ∷ 0 ∷ []) ≡ Refused NoSuchKey 0
 unfolding computedReading
 no-key = refl
 
--- flag 2 with 9 keys: 8; 9 keys, all cut: 4; keys 9, 9, which aren't there: 3
-bad-flag : ended (0x4F ∷ 0x42 ∷ 9 ∷ 1 ∷ 2 ∷ []) ≡ Refused BadRecord 0
+-- flag 2 with 5 keys: 8; 5 keys, all cut: 4; 4 keys, all cut: 8; so with 7 and 6 rows; keys 9, 9, which aren't there: 3
+bad-flag : ended (0x4F ∷ 0x42 ∷ 5 ∷ 1 ∷ 2 ∷ []) ≡ Refused BadRecord 0
 unfolding computedReading
 bad-flag = refl
 
-nine-keys : ended (0x4F ∷ 0x42 ∷ 9 ∷ 1 ∷ 1 ∷ []) ≡ Refused CountOutside 0
+five-keys : ended (0x4F ∷ 0x42 ∷ 5 ∷ 1 ∷ 1 ∷ []) ≡ Refused CountOutside 0
 unfolding computedReading
-nine-keys = refl
+five-keys = refl
+
+four-keys : ended (0x4F ∷ 0x42 ∷ 4 ∷ 1 ∷ 1 ∷ []) ≡ Refused BadRecord 0
+unfolding computedReading
+four-keys = refl
+
+seven-rows : ended (0x4F ∷ 0x42 ∷ 0 ∷ 7 ∷ 1 ∷ []) ≡ Refused CountOutside 0
+unfolding computedReading
+seven-rows = refl
+
+six-rows : ended (0x4F ∷ 0x42 ∷ 0 ∷ 6 ∷ 1 ∷ []) ≡ Refused BadRecord 0
+unfolding computedReading
+six-rows = refl
 
 keys-not-there : ended (0x4F ∷ 0x42 ∷ 2 ∷ 1 ∷ 1 ∷ 9 ∷ 9 ∷ []) ≡ Refused KeysNotRising 0
 unfolding computedReading

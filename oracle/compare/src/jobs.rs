@@ -6,7 +6,7 @@ use oracle::cases::graphs::{
     Style, any_graph, any_links, chain, close_columns, full_rank_chain, graph, ladder, ring, some_sizes, star, tree,
 };
 use oracle::cases::{Job, Random, symmetry, tolerance, two_to};
-use oracle::job::{FACTORS, KEYS, ROWS, TOTAL_SIZE, VARIABLES};
+use oracle::job::{FACTORS, KEYS, MOST_ROWS, TOTAL_SIZE, VARIABLES};
 
 /// How a job was drawn, for the counts.
 #[derive(Debug, Clone, Copy, PartialEq, Eq, PartialOrd, Ord)]
@@ -26,6 +26,7 @@ pub enum Kind {
     BesideSymmetry,
     WholeNumbers,
     Uneven,
+    Widest,
     Limits,
     FactorStore,
     MessageStore,
@@ -33,10 +34,10 @@ pub enum Kind {
 }
 
 /// Of 100 draws so many are of each kind; the rest are damaged jobs.
-const SHARES: [(Kind, usize); 18] = [
-    (Kind::Chain, 7),
-    (Kind::Tree, 7),
-    (Kind::Loop, 7),
+const SHARES: [(Kind, usize); 19] = [
+    (Kind::Chain, 6),
+    (Kind::Tree, 6),
+    (Kind::Loop, 6),
     (Kind::Star, 7),
     (Kind::Ladder, 5),
     (Kind::Apart, 6),
@@ -49,6 +50,7 @@ const SHARES: [(Kind, usize); 18] = [
     (Kind::BesideSymmetry, 4),
     (Kind::WholeNumbers, 5),
     (Kind::Uneven, 4),
+    (Kind::Widest, 3),
     (Kind::Limits, 2),
     (Kind::FactorStore, 1),
     (Kind::MessageStore, 1),
@@ -70,6 +72,7 @@ pub fn draw(seed: u64, number: u64) -> (Kind, Job) {
 
 fn of_kind(random: &mut Random, kind: Kind) -> Job {
     match kind {
+        Kind::Widest => widest(random),
         Kind::Limits => limits(random),
         Kind::FactorStore => full::factor_store(random),
         Kind::MessageStore => full::message_store(random),
@@ -94,7 +97,7 @@ fn scale(random: &mut Random) -> i64 {
 }
 
 fn style(random: &mut Random) -> Style {
-    let most_rows = [1, 1, 2, 3, 3, 4, 6, 12][random.below(8)];
+    let most_rows = [1, 1, 2, 3, 3, 4, MOST_ROWS, MOST_ROWS][random.below(8)];
     Style { most_rows, priors: [0, 50, 80, 100, 100, 100][random.below(6)], scale: scale(random) }
 }
 
@@ -148,7 +151,7 @@ fn pieces(random: &mut Random, count: usize) -> Vec<Vec<usize>> {
     (parts..count).filter(|_| random.chance(80)).map(|key| vec![key - parts, key]).collect()
 }
 
-/// Observations of up to 8 keys.
+/// Observations of up to as many keys as there may be.
 fn wide(random: &mut Random, count: usize) -> Vec<Vec<usize>> {
     (0..1 + random.below(4)).map(|_| some_keys(random, count, KEYS)).collect()
 }
@@ -229,28 +232,46 @@ fn uneven(random: &mut Random) -> Job {
     job
 }
 
-/// Each limit, at it and one past it, with a job around it.
+/// Each limit of a graph, at it and one past it, with a job around it.
 fn limits(random: &mut Random) -> Job {
     let past = random.below(2);
-    match random.below(5) {
+    match random.below(3) {
         0 => graph_after(random, &vec![1; VARIABLES + past]),
         1 => graph_after(random, &[6, 6, 6, 6, 6, 2 + past]),
-        2 => {
+        _ => {
             let keys = 1 + random.below(3);
             (0..FACTORS + past)
                 .fold(Job::with(&vec![1; keys]), |job, at| oracle::cases::graphs::prior(random, job, at % keys, 0))
         }
-        3 => {
-            let keys: Vec<usize> = (0..KEYS + past).collect();
-            let (job, a) = (Job::with(&[1; 9]), random.numbers(keys.len()));
-            let job = (0..9).fold(job, |job, key| job.plain_prior(key, 1.0 + key as f64));
-            job.unit_observation(&keys, &a, &random.numbers(1))
-        }
-        _ => {
-            let rows = ROWS.end() + past;
-            let (job, a) = (Job::with(&[2, 3]), random.numbers(5 * rows));
-            job.plain_prior(0, 2.0).plain_prior(1, 3.0).unit_observation(&[0, 1], &a, &random.numbers(rows))
-        }
+    }
+}
+
+/// As many keys or rows as an observation may have, or more; also of keys that don't rise or aren't there, and cut.
+fn widest(random: &mut Random) -> Job {
+    let past = |random: &mut Random| [0, 0, 0, 1, 1, 2, 4, 6][random.below(8)];
+    let (count, rows) = match random.below(3) {
+        0 => (KEYS + past(random), 1 + random.below(MOST_ROWS)),
+        1 => (random.below(KEYS + 1), MOST_ROWS + past(random)),
+        _ => (KEYS + past(random), MOST_ROWS + past(random)),
+    };
+    let sizes = sizes(random, count.max(1));
+    let job = (0..sizes.len()).fold(Job::with(&sizes), |job, key| job.plain_prior(key, 1.0 + key as f64));
+    let keys: Vec<usize> = match random.below(12) {
+        0 => vec![0; count],
+        1 => (1..=count).collect(),
+        _ => (0..count).collect(),
+    };
+    let (a, mean) = (random.numbers(rows * job.width(&(0..count).collect::<Vec<_>>())), random.numbers(rows));
+    let job = match random.below(2) {
+        0 => job.unit_observation(&keys, &a, &mean),
+        _ => job.observation(&keys, &a, &mean, &random.variance(rows)),
+    };
+    let length = job.records.last().unwrap().len();
+    match random.below(10) {
+        0 => job.cut(1 + random.below(length - 5)),
+        // Behind the header at most all keys but one are left.
+        1 if count > 0 => job.cut(length - 5 - random.below(count)),
+        _ => job,
     }
 }
 

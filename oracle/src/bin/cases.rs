@@ -40,8 +40,8 @@ case, `<` one record of its job in hexadecimal, `>` one printed line without its
 A case ends where the next begins. The job is the bytes of its `<` lines joined; a case without any is the empty job. A
 case without `>` lines prints nothing.
 
-How it was made: the program `cases` of the crate `oracle` writes each job, by hand or from a random generator with a
-fixed seed, and takes its answer from `strips_expected`: reading and refusals follow document 01, arithmetic, messages
+How it was made: the program `cases` of the crate `oracle` writes each job, by hand or from a random generator that its
+name seeds, and takes its answer from `strips_expected`: reading and refusals follow document 01, arithmetic, messages
 and marginals come from the original compiled over stand-ins for its matrix library. Every job lies in the domain of
 equality: no elimination of theirs reaches the block that the original leaves untransposed.
 

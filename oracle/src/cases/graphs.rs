@@ -1,5 +1,6 @@
 //! Graphs of every form, with numbers of every scale.
 use super::{Cases, Job, Random, identity, succeeds, two_to};
+use crate::job::{KEYS, MOST_ROWS};
 
 pub fn add(cases: &mut Cases) {
     chains(cases);
@@ -149,16 +150,16 @@ fn forms(cases: &mut Cases) {
 
 fn wide(cases: &mut Cases) {
     let all = |count: usize| vec![(0..count).collect::<Vec<usize>>()];
-    for count in [3, 5, 8] {
+    for count in [3, KEYS] {
         let style = Style { priors: 100, most_rows: 2, scale: 0 };
         cases.draw(format!("wide-{count}"), |r| graph(r, &vec![1; count], &all(count), style), succeeds);
     }
-    let tall = Style { priors: 100, most_rows: 8, scale: 0 };
+    let tall = Style { priors: 100, most_rows: MOST_ROWS, scale: 0 };
     cases.draw("wide-3-sizes-2-many-rows", |r| graph(r, &[2; 3], &all(3), tall), succeeds);
     cases.draw("wide-4-sizes-mixed-many-rows", |r| graph(r, &[1, 3, 2, 1], &all(4), tall), succeeds);
     let links = vec![vec![0, 2, 4, 6], vec![1, 2, 3], vec![3, 5, 6, 7]];
     cases.draw("wide-overlapping", |r| graph(r, &[1; 8], &links, PLAIN), succeeds);
-    let without_priors = Style { priors: 0, most_rows: 8, scale: 0 };
+    let without_priors = Style { priors: 0, most_rows: MOST_ROWS, scale: 0 };
     cases.draw("wide-4-one-prior-many-rows", |r| graph(r, &[1; 4], &all(4), without_priors), succeeds);
     let skipping = vec![vec![0, 3], vec![1, 3], vec![2, 3], vec![0, 4], vec![2, 4]];
     cases.draw("many-keys-kept", |r| graph(r, &[1; 5], &skipping, PLAIN), succeeds);
@@ -168,9 +169,17 @@ fn wide(cases: &mut Cases) {
 fn sizes(cases: &mut Cases) {
     for size in 1..=6 {
         cases.draw(format!("size-{size}-prior"), |r| prior(r, Job::with(&[size]), 0, 0), succeeds);
-        let rows = |more: usize| move |r: &mut Random| observation(r, Job::with(&[size]), &[0], size + more, 0);
-        cases.draw(format!("size-{size}-rows-as-many"), rows(0), succeeds);
-        cases.draw(format!("size-{size}-rows-one-more"), rows(1), succeeds);
+        let as_many = |r: &mut Random| observation(r, Job::with(&[size]), &[0], size, 0);
+        cases.draw(format!("size-{size}-rows-as-many"), as_many, succeeds);
+        if size < MOST_ROWS {
+            let one_more = |r: &mut Random| observation(r, Job::with(&[size]), &[0], size + 1, 0);
+            cases.draw(format!("size-{size}-rows-one-more"), one_more, succeeds);
+        }
+        let one_beside = |r: &mut Random| {
+            let job = as_many(r);
+            observation(r, job, &[0], 1, 0)
+        };
+        cases.draw(format!("size-{size}-rows-one-more-in-two"), one_beside, succeeds);
     }
     for rows in 1..=4 {
         let make = |r: &mut Random| {
@@ -180,7 +189,7 @@ fn sizes(cases: &mut Cases) {
         };
         cases.draw(format!("sizes-2-and-3-linked-by-{rows}-rows"), make, succeeds);
     }
-    cases.draw("sizes-6-and-6", |r| graph(r, &[6, 6], &chain(2), Style { most_rows: 7, ..PLAIN }), succeeds);
+    cases.draw("sizes-6-and-6", |r| graph(r, &[6, 6], &chain(2), Style { most_rows: MOST_ROWS, ..PLAIN }), succeeds);
 }
 
 /// A key that gathers a message from each side, and no more rows than it has components.

@@ -32,10 +32,10 @@ impl Case {
     }
 }
 
-/// Cases under way, and the random numbers they draw.
+/// Cases under way.
+#[derive(Default)]
 pub struct Cases {
     all: Vec<Case>,
-    random: Random,
 }
 
 impl Cases {
@@ -47,11 +47,13 @@ impl Cases {
     }
 
     /// The first job drawn that is in the domain and prints what is wanted by the published rule for pivots. So a rule that was
-    /// added by request changes answers, and never which jobs are recorded.
+    /// added by request changes answers, and never which jobs are recorded. Each name has random numbers of its own, so that a job
+    /// drawn otherwise changes no other.
     fn draw(&mut self, name: impl Into<String>, make: impl Fn(&mut Random) -> Job, wanted: impl Fn(&str) -> bool) {
         let name = name.into();
+        let mut random = Random::named(&name);
         for _ in 0..DRAWS {
-            let job = make(&mut self.random);
+            let job = make(&mut random);
             if published(|| expected(&job.bytes())).is_ok_and(|prints| wanted(&prints)) {
                 return self.add(name, job);
             }
@@ -61,7 +63,6 @@ impl Cases {
 }
 
 const DRAWS: usize = 20_000;
-const SEED: u64 = 20_491;
 
 /// Marginals were printed.
 fn succeeds(prints: &str) -> bool {
@@ -70,7 +71,7 @@ fn succeeds(prints: &str) -> bool {
 
 /// Every case, always the same.
 pub fn all() -> Vec<Case> {
-    let mut cases = Cases { all: Vec::new(), random: Random::new(SEED) };
+    let mut cases = Cases::default();
     pairs::add(&mut cases);
     reading::add(&mut cases);
     registration::add(&mut cases);

@@ -12,6 +12,12 @@ impl Random {
         Random(seed)
     }
 
+    /// Seeded by a name: Fowler, Noll and Vo's hash, 1a.
+    pub fn named(name: &str) -> Random {
+        let step = |hash: u64, byte: u8| (hash ^ byte as u64).wrapping_mul(0x0000_0100_0000_01B3);
+        Random(name.bytes().fold(0xCBF2_9CE4_8422_2325, step))
+    }
+
     /// Steele, Lea and Flood's split mix.
     fn next(&mut self) -> u64 {
         self.0 = self.0.wrapping_add(0x9E37_79B9_7F4A_7C15);

@@ -50,18 +50,28 @@ fn priors(cases: &mut Cases) {
 }
 
 fn headers(cases: &mut Cases) {
-    for (name, header) in [("count", &[][..]), ("rows", &[1]), ("flag", &[1, 1]), ("flag-past-a-bad-count", &[9, 0])] {
+    for (name, header) in [("count", &[][..]), ("rows", &[1]), ("flag", &[1, 1]), ("flag-past-a-bad-count", &[5, 0])] {
         cases.add(format!("observation-cut-{name}"), start().raw(&[b"OB", header].concat()));
     }
     for flag in [2, 255] {
         cases.add(format!("observation-flag-{flag}"), start().observed(&[0], 1, flag, &[1.0, 1.0]));
     }
-    cases.add("observation-flag-before-count", start().raw(&[b'O', b'B', 9, 0, 2]));
-    cases.add("observation-count-9-keys-cut", start().raw(&[b'O', b'B', 9, 1, 0]));
+    cases.add("observation-flag-before-count", start().raw(&[b'O', b'B', 5, 0, 2]));
+    cases.add("observation-flag-before-rows", start().raw(&[b'O', b'B', 0, 7, 2]));
+    cases.add("observation-count-4-keys-cut", start().raw(&[b'O', b'B', 4, 1, 0]));
+    cases.add("observation-count-5-keys-cut", start().raw(&[b'O', b'B', 5, 1, 0]));
+    cases.add("observation-count-5-keys-not-rising", start().observed(&[9, 9, 1, 0, 0], 1, 0, &[]));
     cases.add("observation-count-255", start().raw(&[b'O', b'B', 255, 1, 1]));
     cases.add("observation-rows-0", start().observed(&[0], 0, 0, &[]));
     cases.add("observation-rows-0-keys-cut", start().raw(&[b'O', b'B', 2, 0, 0, 0]));
-    cases.add("observation-rows-13-keys-not-rising", start().observed(&[1, 0], 13, 1, &[]));
+    cases.add("observation-rows-6-keys-cut", start().raw(&[b'O', b'B', 2, 6, 1, 0]));
+    cases.add("observation-rows-7-keys-cut", start().raw(&[b'O', b'B', 2, 7, 1, 0]));
+    cases.add("observation-rows-6-keys-not-rising", start().observed(&[1, 0], 6, 1, &[]));
+    cases.add("observation-rows-7-keys-not-rising", start().observed(&[1, 0], 7, 1, &[]));
+    cases.add("observation-rows-6-key-unregistered", start().observed(&[2], 6, 1, &[]));
+    cases.add("observation-rows-7-key-unregistered", start().observed(&[2], 7, 1, &[]));
+    cases.add("observation-rows-6-numbers-cut", start().observed(&[], 6, 0, &[1.0; 6]).cut(1));
+    cases.add("observation-rows-7-numbers-cut", start().observed(&[], 7, 0, &[1.0; 7]).cut(1));
     cases.add("observation-rows-255", start().observed(&[0], 255, 0, &[]));
 }
 

@@ -3,7 +3,7 @@ use std::cmp::Ordering;
 
 use super::limits::filled;
 use super::{Cases, Job, Random, graphs};
-use crate::job::{FACTORS, KEYS, ROWS};
+use crate::job::{FACTORS, KEYS, MOST_ROWS};
 
 /// A variance in which no two entries on one side of the diagonal are equal, and whose pivots are all far above 0.
 fn uneven(size: usize) -> Vec<f64> {
@@ -45,7 +45,7 @@ pub fn add(cases: &mut Cases) {
 
 /// In every pair of a variance in turn the last bit of one entry: above the diagonal in a prior, below it in an observation.
 fn pairs(cases: &mut Cases) {
-    let size = 6;
+    let size = MOST_ROWS;
     cases.add("symmetry-prior-of-size-6", prior(&uneven(size), size));
     cases.add("symmetry-observation-of-6-rows", observation(&uneven(size), size));
     for j in 0..size {
@@ -55,10 +55,8 @@ fn pairs(cases: &mut Cases) {
             cases.add(format!("symmetry-observation-last-bit-{j}-{i}"), below);
         }
     }
-    let most = *ROWS.end();
-    cases.add("symmetry-observation-of-most-rows", observation(&uneven(most), most));
-    let last = nudged(uneven(most), most, most - 2, most - 1);
-    cases.add("symmetry-observation-of-most-rows-last-pair", observation(&last, most));
+    let last = nudged(uneven(size), size, size - 2, size - 1);
+    cases.add("symmetry-observation-of-most-rows-last-pair", observation(&last, MOST_ROWS));
     let diagonal = nudged(uneven(size), size, 5, 5);
     cases.add("symmetry-last-bit-on-the-diagonal", prior(&diagonal, size));
 }

@@ -3,12 +3,13 @@ use super::{chain, count, sizes};
 use oracle::cases::graphs::{Style, graph};
 use oracle::cases::limits::{FULL, ONE_OVER, needing, tangle};
 use oracle::cases::{Job, Random};
-use oracle::job::{self, FACTOR_STORE, MESSAGE_STORE};
+use oracle::job::{self, FACTOR_STORE, MESSAGE_STORE, ROWS};
 
 /// The factor store filled by observations without keys, at the end of which 2 numbers are left; then a prior, which takes
 /// 2, an observation of one key and one row, which takes 3, or both.
 pub fn factor_store(random: &mut Random) -> Job {
-    let keys = count(random, 8);
+    // So few keys that the store is full before there are too many factors.
+    let keys = count(random, 5);
     let mut all = sizes(random, keys);
     all[0] = 1;
     let job = graph(random, &all, &chain(keys), Style { most_rows: 3, priors: 100, scale: 0 });
@@ -27,7 +28,7 @@ fn filled(mut job: Job) -> Job {
         left -= 3;
     }
     while left > 0 {
-        let rows = (1..=12).rev().find(|rows| rows + rows * rows <= left).unwrap();
+        let rows = ROWS.rev().find(|rows| rows + rows * rows <= left).unwrap();
         job = job.unit_observation(&[], &[], &vec![1.0; rows]);
         left -= rows + rows * rows;
     }
