@@ -9,6 +9,7 @@ import struct
 from itertools import combinations
 
 KEYS, ROWS, SIZE, TOTAL, FACTORS, FACTOR_STORE, MESSAGE_STORE = 4, 6, 6, 32, 64, 2048, 3072
+FLAGS = (0.25, None, 1.0)  # what the flag of an observation puts on the diagonal of its variance; None: the variance follows
 
 
 class Refused(Exception):
@@ -118,14 +119,15 @@ class Job:
 
     def observation(self):
         count, rows, flag = self.take(3)
-        refuse(flag > 1, 8)
+        refuse(flag >= len(FLAGS), 8)
         refuse(count > KEYS or not 1 <= rows <= ROWS, 4)
         keys = tuple(self.take(count))
         refuse(any(a >= b for a, b in zip(keys, keys[1:])), 3)
         refuse(any(key >= len(self.sizes) for key in keys), 11)
         a, mean = self.matrix(rows, sum(self.sizes[key] for key in keys)), self.matrix(rows, 1)
-        unit = [[float(i == j) for j in range(rows)] for i in range(rows)]
-        self.register(keys, rows, a, mean, self.matrix(rows, rows) if flag else unit)
+        x = FLAGS[flag]
+        made = [[x if i == j else 0.0 for j in range(rows)] for i in range(rows)]
+        self.register(keys, rows, a, mean, self.matrix(rows, rows) if x is None else made)
 
     def register(self, keys, rows, a, mean, variance):
         need = sum(map(len, a)) + len(mean) + len(mean) ** 2

@@ -14,6 +14,21 @@ pub const KEYS: usize = 4;
 pub const ROWS: std::ops::RangeInclusive<usize> = 1..=MOST_ROWS;
 pub const MOST_ROWS: usize = 6;
 
+/// What an observation says of its variance: this on the diagonal and 0 elsewhere, or numbers that follow.
+#[derive(Clone, Copy, PartialEq)]
+enum Variance {
+    Diagonal(f64),
+    Given,
+}
+
+/// By its flag (C-14); 8 refuses any other.
+const FLAGS: [Variance; 3] = [Variance::Diagonal(0.25), Variance::Given, Variance::Diagonal(1.0)];
+
+/// The flags by name.
+pub const QUARTER: u8 = 0;
+pub const GIVEN: u8 = 1;
+pub const IDENTITY: u8 = 2;
+
 /// The stores of the program `strips`, in numbers.
 pub const FACTOR_STORE: usize = 2048;
 pub const MESSAGE_STORE: usize = 3072;
@@ -94,24 +109,25 @@ fn prior(graph: &mut FactorGraph<f64>, bytes: &mut Bytes) -> Result<(), Reason> 
 fn observation(graph: &mut FactorGraph<f64>, bytes: &mut Bytes) -> Result<(), Reason> {
     let header = bytes.take(3)?;
     let (count, rows, flag) = (header[0] as usize, header[1] as usize, header[2]);
-    check(flag <= 1, Reason::Malformed)?;
+    let meaning = *FLAGS.get(flag as usize).ok_or(Reason::Malformed)?;
     check(count <= KEYS && ROWS.contains(&rows), Reason::Count)?;
     let keys: Vec<usize> = bytes.take(count)?.iter().map(|&key| key as usize).collect();
     check(keys.windows(2).all(|pair| pair[0] < pair[1]), Reason::KeysNotRising)?;
     check(keys.iter().all(|&key| graph.has_key(key)), Reason::NoSuchKey)?;
     let width: usize = keys.iter().map(|&key| graph.size(key).unwrap()).sum();
-    let with_variance = if flag == 1 { rows * rows } else { 0 };
+    let with_variance = if meaning == Variance::Given { rows * rows } else { 0 };
     let given = bytes.numbers(rows * width + rows + with_variance)?;
     check_factor(graph, rows * width + rows + rows * rows, &given)?;
     let (a, rest) = given.split_at(rows * width);
     let (mean, variance) = rest.split_at(rows);
-    check(flag == 0 || symmetric(rows, variance), Reason::NotSymmetric)?;
+    let variance = match meaning {
+        Variance::Given => variance.to_vec(),
+        Variance::Diagonal(x) => (0..rows * rows).map(|at| if at % rows == at / rows { x } else { 0.0 }).collect(),
+    };
+    check(symmetric(rows, &variance), Reason::NotSymmetric)?;
     let a = DMatrix::from_column_slice(rows, width, a);
     let mean = DVector::from_column_slice(mean);
-    let variance = match flag {
-        1 => DMatrix::from_column_slice(rows, rows, variance),
-        _ => DMatrix::identity(rows, rows),
-    };
+    let variance = DMatrix::from_column_slice(rows, rows, &variance);
     graph.add_observation(keys, a, mean, variance).map_err(|_| Reason::VariancePivot)?;
     check_computed(graph)
 }

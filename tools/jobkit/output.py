@@ -22,7 +22,7 @@ MEANINGS = {
     4: "an observation has more than 4 keys, or rows outside 1 to 6",
     6: "a number given, or computed from those given, isn't finite",
     7: "a variance isn't positive definite, or hardly: a pivot is refused",
-    8: "the mark is unknown, the flag isn't 0 or 1, or the record is cut short",
+    8: "the mark is unknown, the flag is above 2, or the record is cut short",
     10: "the name of the variable is taken",
     11: "the record names a key that no record above it registers",
     12: "more than 32 variables, a total size above 32, or more than 64 factors",

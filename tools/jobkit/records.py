@@ -4,18 +4,18 @@ import struct
 from collections import namedtuple
 
 Variable = namedtuple("Variable", "letter index size")
-Factor = namedtuple("Factor", "kind keys rows parts")  # parts: name to numbers, as in shapes
+Factor = namedtuple("Factor", "kind keys rows flag parts")  # parts: name to numbers, as in shapes
 Raw = namedtuple("Raw", "data")
 
 VARIABLE, PRIOR, OBSERVATION = b"VA", b"PR", b"OB"
-OMITTED, GIVEN = 0, 1  # flag of an observation: is there a variance?
+OMITTED, GIVEN, IDENTITY = FLAGS = 0, 1, 2  # of an observation: no variance (a quarter), one that follows, or the identity
 
 
-def shapes(kind, rows, width):
-    """The matrices of a factor in the order of the file, each with its rows and columns."""
-    if kind == PRIOR:
-        return {"mean": (1, width), "variance": (width, width)}
-    return {"A": (rows, width), "mean": (1, rows), "variance": (rows, rows)}
+def shapes(kind, rows, flag, width):
+    """The matrices of a factor in the order of the file, each with its rows and columns. A prior has flag GIVEN."""
+    found = {"mean": (1, width)} if kind == PRIOR else {"A": (rows, width), "mean": (1, rows)}
+    size = found["mean"][1]
+    return {**found, "variance": (size, size)} if flag == GIVEN else found
 
 
 def encode(record):
@@ -23,9 +23,9 @@ def encode(record):
         return record.data
     if isinstance(record, Variable):
         return VARIABLE + struct.pack("<IIB", *record)
-    kind, keys, rows, parts = record
+    kind, keys, rows, flag, parts = record
     numbers = [bits for part in parts.values() for bits in part]
-    head = [] if kind == PRIOR else [len(keys), rows, GIVEN if "variance" in parts else OMITTED]
+    head = [] if kind == PRIOR else [len(keys), rows, flag]
     return kind + bytes(head + keys) + struct.pack(f"<{len(numbers)}Q", *numbers)
 
 
@@ -53,12 +53,10 @@ class Decoder:
     def factor(self, kind):
         count, rows, flag = (1, 0, GIVEN) if kind == PRIOR else self.take("<3B")
         keys = self.take(f"<{count}B")
-        if flag not in (OMITTED, GIVEN) or max(keys, default=-1) >= len(self.sizes):
+        if flag not in FLAGS or max(keys, default=-1) >= len(self.sizes):
             raise Unreadable
-        parts = shapes(kind, rows, sum(self.sizes[key] for key in keys))
-        if flag == OMITTED:
-            del parts["variance"]
-        return Factor(kind, keys, rows, {name: self.take(f"<{down * across}Q") for name, (down, across) in parts.items()})
+        parts = shapes(kind, rows, flag, sum(self.sizes[key] for key in keys))
+        return Factor(kind, keys, rows, flag, {name: self.take(f"<{down * across}Q") for name, (down, across) in parts.items()})
 
     def record(self):
         mark = bytes(self.take("<2B"))

@@ -3,7 +3,7 @@
 import re
 
 from . import Wrong, floats
-from .records import OBSERVATION, PRIOR, Factor, Raw, Variable, only, shapes
+from .records import GIVEN, IDENTITY, OBSERVATION, OMITTED, PRIOR, Factor, Raw, Variable, only, shapes
 
 SYMBOL = re.compile(r"([^0-9])([0-9]{1,10})")
 WHOLE = re.compile(r"[0-9]{1,10}")
@@ -122,21 +122,22 @@ class Parser:
         found = self.sections(words, ("mean", "variance"))
         if len(found[""]) != 1:
             self.fail(found[""], "one key", f"{len(found[''])} words")
-        return self.factor(PRIOR, found, 0)
+        if found.get("variance") == ["identity"]:
+            self.fail(found["variance"], "the numbers of a prior's variance (the word identity is for observations)")
+        return self.factor(PRIOR, found, 0, GIVEN)
 
     def observation(self, words):
         found = self.sections(words, ("rows", "A", "mean", "variance"))
         if len(found[""]) > 255:
             self.fail(found[""], "at most 255 keys", len(found[""]))
-        return self.factor(OBSERVATION, found, self.whole(found.get("rows", []), "a section rows", 255))
+        flag = OMITTED if "variance" not in found else IDENTITY if found["variance"] == ["identity"] else GIVEN
+        return self.factor(OBSERVATION, found, self.whole(found.get("rows", []), "a section rows", 255), flag)
 
-    def factor(self, kind, found, rows):
+    def factor(self, kind, found, rows, flag):
         keys = [self.key(word) for word in found[""]]
         widths = [self.sizes[key] for key in keys]
-        parts = shapes(kind, rows, sum(widths))
-        if kind == OBSERVATION and "variance" not in found:
-            del parts["variance"]
-        return Factor(kind, keys, rows, {
+        parts = shapes(kind, rows, flag, sum(widths))
+        return Factor(kind, keys, rows, flag, {
             name: self.matrix(found.get(name, []), *shape, name, edges(widths) if name == "A" else ())
             for name, shape in parts.items()})
 
@@ -185,13 +186,12 @@ def matrix(entries, rows, columns, bars):
 
 
 def factor_words(factor, sizes, called):
-    kind, keys, rows, parts = factor
+    kind, keys, rows, flag, parts = factor
     widths = [sizes[key] for key in keys]
     words = [CALLED[kind], *(called[key] for key in keys), *(["rows", str(rows)] if kind == OBSERVATION else [])]
-    for name, shape in shapes(kind, rows, sum(widths)).items():
-        if name in parts:
-            words += [name, *matrix(parts[name], *shape, edges(widths) if name == "A" else ())]
-    return words
+    for name, shape in shapes(kind, rows, flag, sum(widths)).items():
+        words += [name, *matrix(parts[name], *shape, edges(widths) if name == "A" else ())]
+    return words + (["variance", "identity"] if flag == IDENTITY else [])
 
 
 def show(records):

@@ -20,8 +20,9 @@ use Rattle.matrix.specs.Stores.{steps}
 use Rattle.matrix.specs.Finite.{isFinite}
 use Rattle.matrix.specs.declared.View.{View}
 use Rattle.matrix.proofs.Entries.{steps-length}
+use Rattle.matrix.proofs.Diagonal.{same-place, other-place}
 use Rattle.cholesky.specs.Solve.{solvedRow, solveLower, solveUpper, solved}
-use Rattle.cholesky.proofs.Identity.{Identity, unit-same, unit-other, turned}
+use Rattle.cholesky.proofs.Identity.{Identity, turned}
 
 -- ---- a number that the format holds is not lost by rounding
 
@@ -212,9 +213,9 @@ module _ (l : List Float) (lv : View) (n : ℕ) (I : Identity lv n l) (xv : View
   unfolding solvedRow deductOf Identity AllPlain Plain
   row-plain x inside A i lo m hi hm off =
       let y = takes-off (entry x xv i c) (λ k. terms l lv i x xv c (lo + k)) m (A (place xv i c) (inside i hi))
-      (λ k h. rw (I i (lo + k) hi (omega arith) ∙ unit-other i (lo + k) (off k h))
+      (λ k h. rw (I i (lo + k) hi (omega arith) ∙ other-place one i (lo + k) (off k h))
       (zero-times (entry x xv (lo + k) c) (A (place xv (lo + k) c) (inside (lo + k) (omega arith))))) in
-      (div-fits binary64 _ _, rw (I i i hi hi ∙ unit-same i) (by-one _ y))
+      (div-fits binary64 _ _, rw (I i i hi hi ∙ same-place one i) (by-one _ y))
 
   lower-plain : (x : List Float) → ((i : ℕ) → i < n → place xv i c < length x) → AllPlain x → AllPlain (solveLower l lv xv c x n)
   unfolding solveLower

@@ -1,15 +1,16 @@
--- How an exchange ends, how long what it leaves is, and that an identity passes. Assumes nothing.
+-- How an exchange ends, how long what it leaves is, and that a diagonal and an identity pass. Assumes nothing.
 use Prim.Native.Nat.{ℕ, _*_}
 use mathlib.Core.Path.{_≡_, refl, sym, _∙_}
 use mathlib.Core.Bool.{Bool, true, false, cond}
 use mathlib.Core.List.{List}
+use mathlib.Core.Logic.{_≢_}
 use native.Mathlib.Omega.{arith}
 use lib.Ieee.{Float}
 use lib.ListN.{length, replicate, length-replicate}
 use Rattle.matrix.specs.Views.{columns}
 use Rattle.matrix.specs.Sums.{plus-zero}
+use Rattle.matrix.specs.Triangles.{diagonalOf}
 use Rattle.matrix.specs.Finite.{allFinite}
-use Rattle.matrix.specs.Triangles.{identityOf}
 use Rattle.matrix.specs.declared.View.{View}
 use Rattle.matrix.proofs.Entries.{steps-length, sweep-length}
 use Rattle.cholesky.specs.Factor.{Left, whole, stuck, factor}
@@ -18,7 +19,8 @@ use Rattle.cholesky.specs.Forms.{form, pivot, notFinite, finiteForm, exc
 use Rattle.cholesky.specs.declared.Factored.{Factored}
 use Rattle.cholesky.specs.declared.Factored.the-variants as factored
 use Rattle.cholesky.specs.declared.exchange.Exchanged.the-variants.{Done, Pivot, NotFinite}
-use Rattle.cholesky.proofs.Identity.{identity-factor, identity-solve, identity-inverse, identity-finite, zeros-finite}
+use Rattle.cholesky.proofs.Diagonal.{Rooted, diagonal-factor}
+use Rattle.cholesky.proofs.Identity.{identityOf, identity-factor, identity-solve, identity-inverse, identity-finite, zeros-finite}
 use Rattle.cholesky.specs.Answers.{factoredAs, listOf, told}
 
 -- ---- the ways out
@@ -90,6 +92,25 @@ module _ (n : ℕ) (x y z : List Float) where
 pub exchanged-long : (n : ℕ) (x m y z : List Float) → exchanged n x m ≡ form y z → (length y ≡ length x) × (length z ≡ n * n)
 unfolding exchanged
 exchanged-long n x m y z e = by-long n x y z (factor (columns n) n m n) e
+
+-- ---- a diagonal of a number that has a root is never refused a pivot
+
+form-or-not : (x m : List Float) → finiteForm x m ≢ pivot
+unfolding finiteForm
+form-or-not x m = by (allFinite x) (allFinite m)
+  where
+    by : (b c : Bool) → cond b (cond c (form x m) notFinite) notFinite ≢ pivot
+    by true true e = absurd (let z : _≡_ {A = ℕ} 0 1 = cc in omega arith)
+    by true false e = absurd (let z : _≡_ {A = ℕ} 0 1 = cc in omega arith)
+    by false c e = absurd (let z : _≡_ {A = ℕ} 0 1 = cc in omega arith)
+
+whole-passes : (n : ℕ) (v l : List Float) → exchangedBy n v (whole l) ≢ pivot
+unfolding exchangedBy
+whole-passes n v l = form-or-not (solved l (columns n) n (columns n) 0 v) (inverted l (columns n) n (columns n) (replicate (n * n) plus-zero) n)
+
+pub diagonal-passes : (x r : Float) → Rooted x r → (n : ℕ) (v : List Float) → exchanged n v (diagonalOf x n) ≢ pivot
+unfolding exchanged
+diagonal-passes x r ok n v e = whole-passes n v (diagonalOf r n) (rw (diagonal-factor x r ok n) at e)
 
 -- ---- a vector of zeros and the identity are exchanged at every size: no pivot is refused, and all numbers are finite
 

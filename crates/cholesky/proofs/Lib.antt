@@ -4,6 +4,7 @@ pub mod Turns
 pub mod Equations
 pub mod LowerOnly
 pub mod OneList
+pub mod Diagonal
 pub mod Identity
 pub mod FiniteSolve
 pub mod Forms

@@ -10,10 +10,10 @@ use lib.Ieee.{Float, nan, inf, fin, up, down, level, eq, ne, isNan}
 use lib.ListN.{length, getD}
 use Rattle.matrix.specs.Views.{entry, columns}
 use Rattle.matrix.specs.Finite.{isFinite, allFinite}
-use Rattle.matrix.specs.Triangles.{identityOf}
+use Rattle.matrix.specs.Triangles.{diagonalOf}
 use Rattle.matrix.proofs.Dense.{dense}
 use Rattle.matrix.proofs.Numbers.{equals-itself}
-use Rattle.cholesky.proofs.Identity.{unit-turned, identity-length, identity-is, identity-finite, Identity}
+use Rattle.matrix.proofs.Diagonal.{turned-place, diagonal-length, diagonal-entry, diagonal-finite}
 use Rattle.factor.specs.Counting.{all}
 use Rattle.factor.specs.Factor.{mirrored, symmetric}
 use Rattle.factor.proofs.Counting.{and-left, and-right, same-truth, all-at, all-of}
@@ -107,7 +107,6 @@ module _ (n : ℕ) (s : List Float) (long : length s ≡ n * n) (finite : allFin
   same-mirrored h = symmetric-of n s (λ i j li lj. rw (h i j li lj) (itself j i lj li))
 
 -- a variance that is made where none is given passes
-pub identity-symmetric : (n : ℕ) → symmetric n (identityOf n) ≡ true
-unfolding Identity
-identity-symmetric n = same-mirrored n (identityOf n) (identity-length n) (identity-finite n)
-    (λ i j li lj. identity-is n i j li lj ∙ unit-turned i j ∙ sym (identity-is n j i lj li))
+pub diagonal-symmetric : (x : Float) (n : ℕ) → isFinite x ≡ true → symmetric n (diagonalOf x n) ≡ true
+diagonal-symmetric x n h = same-mirrored n (diagonalOf x n) (diagonal-length x n) (diagonal-finite x n h)
+    (λ i j li lj. diagonal-entry x n i j li lj ∙ turned-place x i j ∙ sym (diagonal-entry x n j i lj li))

@@ -145,15 +145,15 @@ module _ (g : Graph) (f : Factor) (a mean variance store : List Float) where
   weighs p = rw (p .lengths, lt-ltb _ _ (p .few), le-leb _ _ (p .room), p .finite, p .triangles)
 
   module _ (P : FactorVerdict → Type 0) where
-    weighed-ways : (v : Form) → P (refuse VariancePivot) → P (refuse NotFinite) → ((xi w : List Float) → v ≡ form xi w → P (accept (a ++ xi ++ w)))
-        → P (weighedVerdict a v)
+    weighed-ways : (v : Form) → (v ≡ pivot → P (refuse VariancePivot)) → P (refuse NotFinite)
+        → ((xi w : List Float) → v ≡ form xi w → P (accept (a ++ xi ++ w))) → P (weighedVerdict a v)
     weighed-ways (form xi w) r7 r6 taken = taken xi w refl
-    weighed-ways pivot r7 r6 taken = r7
+    weighed-ways pivot r7 r6 taken = r7 refl
     weighed-ways notFinite r7 r6 taken = r6
 
     -- each way out; all others follow from this
     pub factor-ways : P (refuse LengthUnlike) → P (refuse PastLimit) → P (refuse FactorStoreShort) → P (refuse NotFinite)
-        → (symmetric (f .rows) variance ≡ false → P (refuse NotSymmetric)) → P (refuse VariancePivot)
+        → (symmetric (f .rows) variance ≡ false → P (refuse NotSymmetric)) → (exchanged (f .rows) mean variance ≡ pivot → P (refuse VariancePivot))
         → (Passed g f a mean variance store → (xi w : List Float) → exchanged (f .rows) mean variance ≡ form xi w → P (accept (a ++ xi ++ w)))
         → P checks
     factor-ways r5 r12 r13 r6 r20 r7 taken =
@@ -175,7 +175,7 @@ module _ (g : Graph) (f : Factor) (a mean variance store : List Float) where
     pub factor-cases : ((why : Refusal) → P (refuse why))
         → (Passed g f a mean variance store → (xi w : List Float) → exchanged (f .rows) mean variance ≡ form xi w → P (accept (a ++ xi ++ w)))
         → P checks
-    factor-cases back taken = factor-ways (back _) (back _) (back _) (back _) (λ h. back _) (back _) taken
+    factor-cases back taken = factor-ways (back _) (back _) (back _) (back _) (λ h. back _) (λ h. back _) taken
 
 -- the lengths are those that the factor's record asks for
 module _ (g : Graph) (f : Factor) (a mean variance : ℕ) (h : lengthsFit (g .sizes) f a mean variance ≡ true) where

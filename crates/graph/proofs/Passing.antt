@@ -7,15 +7,15 @@ use native.Mathlib.Omega.{arith}
 use borrow.Author.Tests.{eq-eqb, le-leb}
 use lib.Ieee.{Float}
 use lib.ListN.{length, replicate, length-replicate}
-use Rattle.matrix.specs.Sums.{plus-zero}
-use Rattle.matrix.specs.Triangles.{identityOf}
+use Rattle.matrix.specs.Sums.{plus-zero, one}
 use Rattle.matrix.specs.Finite.{allFinite}
-use Rattle.cholesky.proofs.Identity.{identity-length, identity-finite, zeros-finite}
+use Rattle.matrix.proofs.Diagonal.{diagonal-length}
+use Rattle.cholesky.proofs.Identity.{identityOf, identity-finite, zeros-finite}
 use Rattle.factor.specs.Limits.{max-factors, max-keys, max-rows}
 use Rattle.factor.specs.Factor.{rising, known, priorOf, observationOf, aNumbers, numbers, lengthsFit, givenFinite}
 use Rattle.factor.specs.declared.Factor.{Factor}
 use Rattle.factor.proofs.Counting.{every-3}
-use Rattle.factor.proofs.Symmetry.{identity-symmetric}
+use Rattle.factor.proofs.Symmetry.{diagonal-symmetric}
 use Rattle.cholesky.proofs.Forms.{identity-exchanged}
 use Rattle.graph.specs.Record.{sizeAt, offset, valid}
 use Rattle.graph.specs.Registration.{withVariable, FactorVerdict, accept, withFactor, settle, weighedVerdict, factorVerdict, priorVerdict, addPrior}
@@ -41,7 +41,7 @@ module _ (g : Graph) (f : Factor) (h12 : g .count < max-factors) (a : List Float
   lengths : lengthsFit (g .sizes) f (length a) (length (zeros (f .rows))) (length (identityOf (f .rows))) ≡ true
   unfolding lengthsFit
   lengths =
-      every-3 _ _ _ (eq-eqb _ _ long) (eq-eqb _ _ (length-replicate (f .rows) plus-zero)) (eq-eqb _ _ (identity-length (f .rows)))
+      every-3 _ _ _ (eq-eqb _ _ long) (eq-eqb _ _ (length-replicate (f .rows) plus-zero)) (eq-eqb _ _ (diagonal-length one (f .rows)))
 
   given : givenFinite a (zeros (f .rows)) (identityOf (f .rows)) ≡ true
   unfolding givenFinite
@@ -51,7 +51,7 @@ module _ (g : Graph) (f : Factor) (h12 : g .count < max-factors) (a : List Float
   factor-passes =
       let l : offset g (g .count) + numbers (g .sizes) f ≤ length (room g f) = omega
       (arith, length-replicate (offset g (g .count) + numbers (g .sizes) f) plus-zero) in
-      weighs g f a _ _ _ (record { lengths = lengths; few = h12; room = l; finite = given; triangles = identity-symmetric (f .rows) })
+      weighs g f a _ _ _ (record { lengths = lengths; few = h12; room = l; finite = given; triangles = diagonal-symmetric one (f .rows) refl })
       ∙ ap (weighedVerdict a) (identity-exchanged (f .rows))
 
 -- ---- a prior

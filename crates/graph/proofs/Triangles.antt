@@ -1,4 +1,5 @@
--- A factor whose variance is symmetric is never refused with 20; so none is for whose variance the identity is taken. Assumes nothing.
+-- A factor whose variance is symmetric is never refused with 20, nor with 7 if its pivots have roots. So none is whose variance is a diagonal of one
+-- number that is finite and has a root. Assumes nothing.
 use Prim.Native.Nat.{ℕ}
 use mathlib.Core.Path.{_≡_, ap, sym, _∙_}
 use mathlib.Core.Bool.{true, true≢false}
@@ -6,14 +7,18 @@ use mathlib.Core.List.{List}
 use mathlib.Core.Logic.{_≢_}
 use native.Mathlib.Omega.{arith}
 use lib.Ieee.{Float}
-use Rattle.matrix.specs.Triangles.{identityOf}
+use Rattle.matrix.specs.Triangles.{diagonalOf}
+use Rattle.matrix.specs.Finite.{isFinite}
+use Rattle.cholesky.specs.Forms.{pivot, exchanged}
+use Rattle.cholesky.proofs.Diagonal.{Rooted}
+use Rattle.cholesky.proofs.Forms.{diagonal-passes}
 use Rattle.factor.specs.Factor.{symmetric}
 use Rattle.factor.specs.declared.Factor.{Factor}
-use Rattle.factor.proofs.Symmetry.{identity-symmetric}
+use Rattle.factor.proofs.Symmetry.{diagonal-symmetric}
 use Rattle.graph.specs.Refusals.{refusalNumber}
 use Rattle.graph.specs.Registration.{FactorVerdict, accept, refuse, factorVerdict}
 use Rattle.graph.specs.declared.Graph.{Graph}
-use Rattle.graph.specs.declared.refusal.Refusal.the-variants.{NotSymmetric}
+use Rattle.graph.specs.declared.refusal.Refusal.the-variants.{VariancePivot, NotSymmetric}
 use Rattle.graph.proofs.Checking.{factor-ways}
 
 -- the number of a refusal, and 0
@@ -31,8 +36,25 @@ module _ (g : Graph) (f : Factor) (a mean variance store : List Float) where
       (λ e. omega (arith, ap number e))
       (λ e. omega (arith, ap number e))
       (λ no e. true≢false (sym h ∙ no))
-      (λ e. omega (arith, ap number e))
+      (λ q e. omega (arith, ap number e))
       (λ p xi w q e. omega (arith, ap number e))
 
-pub identity-never : (g : Graph) (f : Factor) (a mean store : List Float) → factorVerdict g f a mean (identityOf (f .rows)) store ≢ refuse NotSymmetric
-identity-never g f a mean store = never-asymmetric g f a mean (identityOf (f .rows)) store (identity-symmetric (f .rows))
+  never-pivot : exchanged (f .rows) mean variance ≢ pivot → factorVerdict g f a mean variance store ≢ refuse VariancePivot
+  unfolding number
+  never-pivot h =
+      factor-ways g f a mean variance store (λ v. v ≢ refuse VariancePivot)
+      (λ e. omega (arith, ap number e))
+      (λ e. omega (arith, ap number e))
+      (λ e. omega (arith, ap number e))
+      (λ e. omega (arith, ap number e))
+      (λ no e. omega (arith, ap number e))
+      (λ q e. h q)
+      (λ p xi w q e. omega (arith, ap number e))
+
+-- a diagonal of one number that is finite and has a root
+module _ (g : Graph) (f : Factor) (a mean store : List Float) (x r : Float) where
+  pub diagonal-symmetry : isFinite x ≡ true → factorVerdict g f a mean (diagonalOf x (f .rows)) store ≢ refuse NotSymmetric
+  diagonal-symmetry h = never-asymmetric g f a mean (diagonalOf x (f .rows)) store (diagonal-symmetric x (f .rows) h)
+
+  pub diagonal-pivots : Rooted x r → factorVerdict g f a mean (diagonalOf x (f .rows)) store ≢ refuse VariancePivot
+  diagonal-pivots ok = never-pivot g f a mean (diagonalOf x (f .rows)) store (diagonal-passes x r ok (f .rows) mean)

@@ -19,7 +19,7 @@ use Rattle.records.specs.Bytes.{float-bytes, byteAt, cut, wordAt, number
 use Rattle.records.specs.Records.{Request, header-bytes, most-given, longest, variableAt, priorNumbers, priorAt, meaning, flagKnown, givenNumbers}
 use Rattle.records.specs.Records.{varianceRead, observedNumbers, observed, observationAt, markOf, marked, recordAt}
 use Rattle.records.specs.declared.kinds.Flag.{Flag}
-use Rattle.records.specs.declared.kinds.Flag.the-variants.{Identity, Given, Unknown}
+use Rattle.records.specs.declared.kinds.Flag.the-variants.{Diagonal, Given, Unknown}
 use Rattle.records.specs.declared.kinds.Mark.{Mark}
 use Rattle.records.specs.declared.kinds.Mark.the-variants as mark
 use Rattle.graph.proofs.Checking.{few-keys, most-rows}
@@ -37,7 +37,7 @@ else-as true s p q r e h = rw (sym e)
 else-as false s p q r e h = rw (sym e) (h refl)
 
 pub given-most : (flag : Flag) (rows : ℕ) → givenNumbers flag rows ≤ rows * rows
-given-most Identity rows = omega arith
+given-most (Diagonal x) rows = omega arith
 given-most Given rows = omega arith
 given-most Unknown rows = omega arith
 
@@ -80,7 +80,7 @@ module _ (b c : List ℕ) (most : ℕ) (same : Agree b c most) where
       prior-numbers-as store (byteAt c at) (sizeAt g (byteAt c at)) (at + 1) (omega (arith, mul-le-mul s s)))))
 
   variance-as : (flag : Flag) (at rows : ℕ) → at + 8 * givenNumbers flag rows ≤ most → varianceRead flag b at rows ≡ varianceRead flag c at rows
-  variance-as Identity at rows l = refl
+  variance-as (Diagonal x) at rows l = refl
   variance-as Given at rows l = numbers-as at (rows * rows) l
   variance-as Unknown at rows l = refl
 

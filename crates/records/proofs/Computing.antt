@@ -2,11 +2,14 @@
 use Prim.Native.Nat.{ℕ}
 use mathlib.Core.List.{List}
 use lib.Ieee.{Float}
+use Rattle.matrix.specs.Stores.{blockColumn, block}
+use Rattle.matrix.specs.Triangles.{diagonalOf}
 use Rattle.graph.proofs.Computing.{computedCall}
 use Rattle.records.specs.Bytes.{wordAt, numberAt, listed}
 use Rattle.records.specs.Records.{variableAt, priorNumbers, priorAt, meaning, observedNumbers, observed, observationAt, markOf, recordAt}
 use Rattle.records.specs.Records.{Reading, readFrom, readAll}
 
 unfoldable pub computedReading : List ℕ → List Float → Reading
-unfolding readAll readFrom recordAt markOf variableAt priorAt priorNumbers observationAt observed observedNumbers meaning wordAt numberAt listed computedCall
+unfolding readAll readFrom recordAt markOf variableAt priorAt priorNumbers observationAt observed observedNumbers meaning wordAt numberAt listed
+    diagonalOf block blockColumn computedCall
 computedReading bytes store = readAll bytes store

@@ -1,8 +1,9 @@
--- Small jobs read by computation: one variable with a prior, and records that are turned back. Assumes nothing.
+-- Small jobs read by computation: one variable with a prior or an observation of each flag, and records that are turned back. Assumes nothing.
 use Prim.Native.Nat.{ℕ}
 use mathlib.Core.Path.{_≡_, refl}
 use mathlib.Core.List.{List, [], _∷_, _++_}
 use lib.Ieee.{Float, nan, binary64, ofBits}
+use Rattle.matrix.specs.Sums.{plus-zero}
 use Rattle.factor.specs.Factor.{priorOf}
 use Rattle.graph.specs.Record.{fresh}
 use Rattle.graph.specs.Registration.{withVariable, withFactor}
@@ -12,7 +13,7 @@ use Rattle.records.specs.declared.answer.Ended.{Ended}
 use Rattle.records.specs.declared.answer.Ended.the-variants.{Done, Refused}
 use Rattle.records.proofs.Computing.{computedReading}
 
--- 2.0 and 4.0 in a job, and 0.5 and 0.25
+-- 2.0 and 4.0 in a job, and the numbers 0.25, 0.5, 1, 2, 4, 8 and 16
 abbrev two-bytes : List ℕ
 two-bytes = 0 ∷ 0 ∷ 0 ∷ 0 ∷ 0 ∷ 0 ∷ 0 ∷ 0x40 ∷ []
 
@@ -25,6 +26,21 @@ half = ofBits binary64 0x3FE0000000000000
 abbrev quarter : Float
 quarter = ofBits binary64 0x3FD0000000000000
 
+abbrev unit : Float
+unit = ofBits binary64 0x3FF0000000000000
+
+abbrev two : Float
+two = ofBits binary64 0x4000000000000000
+
+abbrev four : Float
+four = ofBits binary64 0x4010000000000000
+
+abbrev eight : Float
+eight = ofBits binary64 0x4020000000000000
+
+abbrev sixteen : Float
+sixteen = ofBits binary64 0x4030000000000000
+
 -- a variable of size 1 whose name has the letter a
 abbrev variable-bytes : ℕ → List ℕ
 variable-bytes index = 0x56 ∷ 0x41 ∷ 0x61 ∷ 0 ∷ 0 ∷ 0 ∷ index ∷ 0 ∷ 0 ∷ 0 ∷ 1 ∷ []
@@ -32,6 +48,13 @@ variable-bytes index = 0x56 ∷ 0x41 ∷ 0x61 ∷ 0 ∷ 0 ∷ 0 ∷ index ∷ 0 
 -- a prior on key 0 with mean 2 and variance 4
 abbrev prior-bytes : List ℕ
 prior-bytes = 0x50 ∷ 0x52 ∷ 0 ∷ two-bytes ++ four-bytes
+
+-- an observation of key 0 in one row, with this flag: A is 2 and the mean 4; and one in two rows: A is 4, 4 and the mean 2, 4
+abbrev observation-bytes : ℕ → List ℕ
+observation-bytes flag = 0x4F ∷ 0x42 ∷ 1 ∷ 1 ∷ flag ∷ 0 ∷ two-bytes ++ four-bytes
+
+abbrev two-rows : ℕ → List ℕ
+two-rows flag = 0x4F ∷ 0x42 ∷ 1 ∷ 2 ∷ flag ∷ 0 ∷ four-bytes ++ four-bytes ++ two-bytes ++ four-bytes
 
 -- a job, read into a store of three numbers
 abbrev job : List ℕ → Reading
@@ -65,8 +88,41 @@ no-key : ended (0x50 ∷ 0x52 ∷ 0 ∷ []) ≡ Refused NoSuchKey 0
 unfolding computedReading
 no-key = refl
 
--- flag 2 with 5 keys: 8; 5 keys, all cut: 4; 4 keys, all cut: 8; so with 7 and 6 rows; keys 9, 9, which aren't there: 3
-bad-flag : ended (0x4F ∷ 0x42 ∷ 5 ∷ 1 ∷ 2 ∷ []) ≡ Refused BadRecord 0
+-- Flag 0: the variance is a quarter, so xi is four times the mean and W is 4. Flag 2: it is 1, so xi is the mean and W is 1. A, xi and W are stored.
+flag-zero : job (variable-bytes 0 ++ observation-bytes 0) .store ≡ two ∷ sixteen ∷ four ∷ []
+unfolding computedReading
+flag-zero = refl
+
+flag-two : job (variable-bytes 0 ++ observation-bytes 2) .store ≡ two ∷ four ∷ unit ∷ []
+unfolding computedReading
+flag-two = refl
+
+-- in two rows there are zeros beside the diagonal
+zero-of-two-rows : readAll (variable-bytes 0 ++ two-rows 0) (nan ∷ nan ∷ nan ∷ nan ∷ nan ∷ nan ∷ nan ∷ nan ∷ []) .store
+    ≡ four ∷ four ∷ eight ∷ sixteen ∷ four ∷ plus-zero ∷ plus-zero ∷ four ∷ []
+unfolding computedReading
+zero-of-two-rows = refl
+
+two-of-two-rows : readAll (variable-bytes 0 ++ two-rows 2) (nan ∷ nan ∷ nan ∷ nan ∷ nan ∷ nan ∷ nan ∷ nan ∷ []) .store
+    ≡ four ∷ four ∷ two ∷ four ∷ unit ∷ plus-zero ∷ plus-zero ∷ unit ∷ []
+unfolding computedReading
+two-of-two-rows = refl
+
+-- the same record with flag 1 wants a variance, and with flag 3 or 255 it is none
+flag-one : ended (variable-bytes 0 ++ observation-bytes 1) ≡ Refused BadRecord 1
+unfolding computedReading
+flag-one = refl
+
+flag-three : ended (variable-bytes 0 ++ observation-bytes 3) ≡ Refused BadRecord 1
+unfolding computedReading
+flag-three = refl
+
+flag-most : ended (variable-bytes 0 ++ observation-bytes 255) ≡ Refused BadRecord 1
+unfolding computedReading
+flag-most = refl
+
+-- flag 3 with 5 keys: 8; 5 keys, all cut: 4; 4 keys, all cut: 8; so with 7 and 6 rows; keys 9, 9, which aren't there: 3
+bad-flag : ended (0x4F ∷ 0x42 ∷ 5 ∷ 1 ∷ 3 ∷ []) ≡ Refused BadRecord 0
 unfolding computedReading
 bad-flag = refl
 

@@ -8,5 +8,6 @@ pub mod Agreement
 pub mod Progress
 pub mod StoreLength
 pub mod Prefix
+pub mod Flags
 pub mod Computing
 pub mod Examples

@@ -5,7 +5,7 @@ use Prim.Native.Nat.{ℕ, zero, suc, _+_, _*_, _/_, _%_}
 use lib.Dec.{ltb, eqb}
 use lib.Ieee.{Float, binary64, ofBits}
 use lib.ListN.{length, getD}
-use Rattle.matrix.specs.Sums.{plus-zero, one}
+use Rattle.matrix.specs.Sums.{plus-zero}
 
 -- the bytes of a float
 abbrev pub float-bytes : ℕ
@@ -38,6 +38,6 @@ keysRead bytes at n = listed (λ i. byteAt bytes (at + i)) n
 abbrev pub numbersAt : (bytes : List ℕ) (at n : ℕ) → List Float
 numbersAt bytes at n = listed (λ i. numberAt bytes (at + float-bytes * i)) n
 
--- an entry of the identity of n rows, by its place, column by column
-abbrev pub unitAt : (n i : ℕ) → Float
-unitAt n i = cond (eqb (i % n) (i / n)) one plus-zero
+-- an entry by its place, column by column, of n rows with x on the diagonal and 0 elsewhere
+abbrev pub diagonalAt : (x : Float) (n i : ℕ) → Float
+diagonalAt x n i = cond (eqb (i % n) (i / n)) x plus-zero

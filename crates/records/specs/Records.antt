@@ -1,11 +1,13 @@
 -- What the records of a job ask for, and what reading them all comes to. Definitions only.
 use mathlib.Core.Bool.{Bool, true, false, not, cond, _&&_}
-use mathlib.Core.List.{List, []}
+use mathlib.Core.List.{List, [], _∷_}
 use Prim.Native.Nat.{ℕ, zero, suc, _+_, _*_}
 use lib.Dec.{ltb, eqb}
-use lib.Ieee.{Float}
-use lib.ListN.{length}
-use Rattle.matrix.specs.Triangles.{identityOf}
+use lib.IntN.{negsuc}
+use lib.Ieee.{Float, fin}
+use lib.ListN.{length, getD}
+use Rattle.matrix.specs.Sums.{one}
+use Rattle.matrix.specs.Triangles.{diagonalOf}
 use Rattle.factor.specs.Limits.{max-variables, max-total, max-factors, max-keys, max-rows}
 use Rattle.factor.specs.Factor.{rising, known, observationOf, aNumbers}
 use Rattle.graph.specs.Record.{sizeAt, fresh}
@@ -22,7 +24,7 @@ use Rattle.records.specs.Bytes.{float-bytes, byteAt, cut, wordAt, keysRe
 use Rattle.records.specs.declared.kinds.Mark.{Mark}
 use Rattle.records.specs.declared.kinds.Mark.the-variants as mark
 use Rattle.records.specs.declared.kinds.Flag.{Flag}
-use Rattle.records.specs.declared.kinds.Flag.the-variants.{Identity, Given, Unknown}
+use Rattle.records.specs.declared.kinds.Flag.the-variants.{Diagonal, Given, Unknown}
 use Rattle.records.specs.declared.answer.Next.{Next}
 use Rattle.records.specs.declared.answer.Next.the-variants as next-record
 use Rattle.records.specs.declared.answer.Step.{Step}
@@ -86,23 +88,30 @@ priorAt g store bytes at =
 
 -- ---- an observation: counts of keys and rows, flag, keys, A, means and, if the flag says so, the variance
 
--- what a flag means
+-- a quarter
+abbrev pub quarter : Float
+quarter = fin false 1 (negsuc 1)
+
+-- What flags 0, 1 and 2 say of the variance: a quarter on the diagonal and 0 elsewhere, numbers that follow, the identity. No other flag has a meaning.
+abbrev pub meanings : List Flag
+meanings = Diagonal quarter ∷ Given ∷ Diagonal one ∷ []
+
 unfoldable pub meaning : ℕ → Flag
-meaning flag = cond (eqb flag 0) Identity (cond (eqb flag 1) Given Unknown)
+meaning flag = getD meanings flag Unknown
 
 abbrev pub flagKnown : Flag → Bool
-flagKnown Identity = true
+flagKnown (Diagonal x) = true
 flagKnown Given = true
 flagKnown Unknown = false
 
 -- how many numbers of the variance of y rows follow, and the variance
 abbrev pub givenNumbers : Flag → ℕ → ℕ
-givenNumbers Identity y = 0
+givenNumbers (Diagonal x) y = 0
 givenNumbers Given y = y * y
 givenNumbers Unknown y = 0
 
 abbrev pub varianceRead : Flag → (bytes : List ℕ) (at y : ℕ) → List Float
-varianceRead Identity bytes at y = identityOf y
+varianceRead (Diagonal x) bytes at y = diagonalOf x y
 varianceRead Given bytes at y = numbersAt bytes at (y * y)
 varianceRead Unknown bytes at y = []
 

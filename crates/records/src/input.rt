@@ -6,7 +6,7 @@ ghost use mathlib.Core.List.{_++_};
 ghost use Prim.Native.Nat.{_+_, _*_, _<_, _≤_};
 ghost use lib.Ieee.{binary64, ofBits};
 ghost use lib.ListN.{length, drop};
-ghost use Rattle.matrix.specs.Triangles.{identityOf};
+ghost use Rattle.matrix.specs.Triangles.{diagonalOf};
 ghost use Rattle.factor.specs.Limits.{max-rows};
 ghost use Rattle.records.specs.Bytes as spec;
 
@@ -77,20 +77,20 @@ pub fn keys(bytes: &[u8], at: usize, out: &mut [usize], n: usize)
     }
 }
 
-// An entry of the identity of n rows, by its place.
-fn unit(n: usize, i: usize) -> f64
+// An entry, by its place, of n rows with x on the diagonal and 0 elsewhere.
+fn diagonal_entry(x: f64, n: usize, i: usize) -> f64
     requires { ⌜ 0 < n ⌝ }
-    ensures { λ r. ⌜ r ≡ spec.unitAt n i ⌝ }
+    ensures { λ r. ⌜ r ≡ spec.diagonalAt x n i ⌝ }
 {
-    if i % n == i / n { 1.0 } else { 0.0 }
+    if i % n == i / n { x } else { 0.0 }
 }
 
-// The first numbers of out become the identity of n rows, column by column.
-pub fn identity(out: &mut [f64], n: usize)
+// The first numbers of out become n rows with x on the diagonal and 0 elsewhere, column by column.
+pub fn diagonal(out: &mut [f64], x: f64, n: usize)
     requires { ⌜ (0 < n) × (n ≤ max-rows) × (n * n ≤ length (now out)) ⌝ }
-    ensures { λ _. ⌜ now (out .exit) ≡ identityOf n ++ drop (n * n) (now (out .entry)) ⌝ }
+    ensures { λ _. ⌜ now (out .exit) ≡ diagonalOf x n ++ drop (n * n) (now (out .entry)) ⌝ }
 {
     for i in 0..n * n {
-        out[i] = unit(n, i);
+        out[i] = diagonal_entry(x, n, i);
     }
 }

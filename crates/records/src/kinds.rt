@@ -13,9 +13,9 @@ pub enum Mark {
     Unmarked,
 }
 
-// Where the variance comes from.
+// Where the variance comes from: this on the diagonal and 0 elsewhere, or numbers that follow.
 pub enum Flag {
-    Identity,
+    Diagonal(f64),
     Given,
     Unknown,
 }
@@ -42,25 +42,28 @@ pub fn mark_of(a: usize, b: usize) -> Mark
     Mark::Unmarked
 }
 
-// What the flag of an observation says: 0 the identity as variance, 1 a variance that follows.
+// What the flag of an observation says of its variance; `meanings` in specs/Records.antt is the table.
 pub fn meaning(flag: usize) -> Flag
     ensures { λ r. ⌜ r ≡ spec.meaning flag ⌝ }
 {
     if flag == 0 {
-        return Flag::Identity;
+        return Flag::Diagonal(0.25);
     }
     if flag == 1 {
         return Flag::Given;
     }
+    if flag == 2 {
+        return Flag::Diagonal(1.0);
+    }
     Flag::Unknown
 }
 
-// The flag is one of the two that have a meaning; any other refuses the record.
+// The flag has a meaning; any other refuses the record.
 pub fn flag_known(flag: Flag) -> bool
     ensures { λ r. ⌜ r ≡ spec.flagKnown flag ⌝ }
 {
     match flag {
-        Flag::Identity => true,
+        Flag::Diagonal(_) => true,
         Flag::Given => true,
         Flag::Unknown => false,
     }
@@ -72,7 +75,7 @@ pub fn given(flag: Flag, rows: usize) -> usize
     ensures { λ r. ⌜ (r ≡ spec.givenNumbers flag rows) × (r ≤ max-rows * max-rows) ⌝ }
 {
     match flag {
-        Flag::Identity => 0,
+        Flag::Diagonal(_) => 0,
         Flag::Given => rows * rows,
         Flag::Unknown => 0,
     }

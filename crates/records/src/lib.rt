@@ -135,7 +135,7 @@ fn read_variance(bytes: &[u8], at: usize, flag: Flag, rows: usize, out: &mut [f6
     ensures { λ _. ⌜ now (out .exit) ≡ spec.varianceRead flag (now (bytes .entry)) at rows ++ drop (rows * rows) (now (out .entry)) ⌝ }
 {
     match flag {
-        Flag::Identity => input::identity(out, rows),
+        Flag::Diagonal(x) => input::diagonal(out, x, rows),
         Flag::Given => input::numbers(bytes, at, out, rows * rows),
         Flag::Unknown => {}
     }

@@ -1,12 +1,13 @@
 //! Random jobs of every kind that document 01 speaks of, each from its own number.
 mod damage;
+mod flags;
 mod full;
 
 use oracle::cases::graphs::{
     Style, any_graph, any_links, chain, close_columns, full_rank_chain, graph, ladder, ring, some_sizes, star, tree,
 };
 use oracle::cases::{Job, Random, symmetry, tolerance, two_to};
-use oracle::job::{FACTORS, KEYS, MOST_ROWS, TOTAL_SIZE, VARIABLES};
+use oracle::job::{FACTORS, GIVEN, KEYS, MOST_ROWS, TOTAL_SIZE, VARIABLES};
 
 /// How a job was drawn, for the counts.
 #[derive(Debug, Clone, Copy, PartialEq, Eq, PartialOrd, Ord)]
@@ -27,6 +28,7 @@ pub enum Kind {
     WholeNumbers,
     Uneven,
     Widest,
+    Flags,
     Limits,
     FactorStore,
     MessageStore,
@@ -34,14 +36,14 @@ pub enum Kind {
 }
 
 /// Of 100 draws so many are of each kind; the rest are damaged jobs.
-const SHARES: [(Kind, usize); 19] = [
+const SHARES: [(Kind, usize); 20] = [
     (Kind::Chain, 6),
     (Kind::Tree, 6),
     (Kind::Loop, 6),
-    (Kind::Star, 7),
+    (Kind::Star, 5),
     (Kind::Ladder, 5),
     (Kind::Apart, 6),
-    (Kind::Wide, 8),
+    (Kind::Wide, 6),
     (Kind::ManyPriors, 5),
     (Kind::Any, 8),
     (Kind::Keyless, 4),
@@ -51,10 +53,20 @@ const SHARES: [(Kind, usize); 19] = [
     (Kind::WholeNumbers, 5),
     (Kind::Uneven, 4),
     (Kind::Widest, 3),
+    (Kind::Flags, 4),
     (Kind::Limits, 2),
     (Kind::FactorStore, 1),
     (Kind::MessageStore, 1),
 ];
+
+/// Which of the flags 0, 1, 2 and any other its observations have.
+pub fn flags_in(job: &Job) -> [bool; 4] {
+    let flags = job.records.iter().filter(|record| record.starts_with(b"OB") && record.len() > 4).map(|record| record[4]);
+    flags.fold([false; 4], |mut met, flag| {
+        met[flag.min(3) as usize] = true;
+        met
+    })
+}
 
 /// The job of this number under this seed.
 pub fn draw(seed: u64, number: u64) -> (Kind, Job) {
@@ -71,8 +83,15 @@ pub fn draw(seed: u64, number: u64) -> (Kind, Job) {
 }
 
 fn of_kind(random: &mut Random, kind: Kind) -> Job {
+    let job = made(random, kind);
+    // A pivot beside the tolerance was reckoned with the identity.
+    if kind == Kind::BesideTolerance { job } else { flags::some_quarters(random, job) }
+}
+
+fn made(random: &mut Random, kind: Kind) -> Job {
     match kind {
         Kind::Widest => widest(random),
+        Kind::Flags => flags::any(random),
         Kind::Limits => limits(random),
         Kind::FactorStore => full::factor_store(random),
         Kind::MessageStore => full::message_store(random),
@@ -222,8 +241,12 @@ fn uneven(random: &mut Random) -> Job {
         let at = keys + random.below(job.records.len() - keys);
         let record = &mut job.records[at];
         let from = if record.starts_with(b"PR") { 3 } else { 5 + record[2] as usize };
-        // A variance, which a flag of 1 announces, stays as it is; so does that of a prior.
-        let spare = if record.starts_with(b"PR") { 1 } else { (record[4] * record[3] * record[3]) as usize };
+        // A variance that is given stays as it is; so does that of a prior.
+        let spare = match &record[..] {
+            [b'P', ..] => 1,
+            [_, _, _, rows, flag, ..] if *flag == GIVEN => *rows as usize * *rows as usize,
+            _ => 0,
+        };
         let place = from + 8 * random.below((record.len() - from) / 8 - spare);
         let number = f64::from_le_bytes(record[place..place + 8].try_into().unwrap());
         let far = number * two_to(random.between(300, 1000)) * if random.chance(50) { 1.0 } else { two_to(-1022) };

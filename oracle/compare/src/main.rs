@@ -11,8 +11,9 @@ use compare::outcome::{Outcome, compare};
 use oracle::cases::Job;
 use oracle::tolerance::nearest;
 
-/// The last is how many floats the nearest pivot of a job lay above what it must exceed, where these are few.
-type Counts = BTreeMap<(Outcome, Kind, Option<i64>), u64>;
+/// Beside the outcome and the kind of a job: how many floats its nearest pivot lay above what it must exceed, where these are few, and the
+/// flags of its observations.
+type Counts = BTreeMap<(Outcome, Kind, Option<i64>, [bool; 4]), u64>;
 
 /// Pivots that lie further off are not told apart.
 const NEAR: i64 = 2;
@@ -50,14 +51,14 @@ fn some(seed: u64, first: u64, count: u64, threads: u64, folder: &Path) -> Count
     for number in (first..count).step_by(threads as usize) {
         let (kind, job) = jobs::draw(seed, number);
         nearest();
-        let outcome = compare(&job);
+        let (outcome, flags) = (compare(&job), jobs::flags_in(&job));
         let steps = nearest().filter(|steps| steps.abs() <= NEAR);
         if let Outcome::Differs(how) = &outcome {
             eprintln!("job {number}: {how}");
             let small = reduced(job);
             std::fs::write(folder.join(format!("differs-{number}.job")), small.bytes()).unwrap();
         }
-        *counts.entry((outcome, kind, steps)).or_default() += 1;
+        *counts.entry((outcome, kind, steps, flags)).or_default() += 1;
     }
     counts
 }
@@ -78,7 +79,8 @@ fn report(counts: &Counts) -> ExitCode {
     let mut by_outcome: BTreeMap<String, u64> = BTreeMap::new();
     let mut by_kind: BTreeMap<Kind, [u64; 4]> = BTreeMap::new();
     let mut by_steps: BTreeMap<i64, u64> = BTreeMap::new();
-    for ((outcome, kind, steps), n) in counts {
+    let mut by_flag = [0; 4];
+    for ((outcome, kind, steps, flags), n) in counts {
         let (name, columns): (String, &[usize]) = match outcome {
             Outcome::Same(text) if text == "done" => (format!("same: {text}"), &[0, 1]),
             Outcome::Same(text) => (format!("same: {text}"), &[1]),
@@ -89,12 +91,18 @@ fn report(counts: &Counts) -> ExitCode {
         if let Some(steps) = steps.filter(|_| columns.contains(&1)) {
             *by_steps.entry(steps).or_default() += n;
         }
+        if columns.contains(&1) {
+            by_flag.iter_mut().zip(flags).for_each(|(count, met)| *count += if *met { *n } else { 0 });
+        }
         columns.iter().for_each(|&column| by_kind.entry(*kind).or_default()[column] += n);
     }
     by_outcome.iter().for_each(|(name, n)| println!("{n:>9}  {name}"));
     by_steps
         .iter()
         .for_each(|(steps, n)| println!("{n:>9}  in domain, a pivot {steps:+} floats from what it must exceed"));
+    for (flag, n) in ["flag 0", "flag 1", "flag 2", "a flag above 2"].iter().zip(by_flag) {
+        println!("{n:>9}  in domain, an observation with {flag}");
+    }
     println!("     done in domain   outside  differs  kind");
     by_kind.iter().for_each(|(kind, [done, inside, outside, differs])| {
         println!("{done:>9} {inside:>9} {outside:>9} {differs:>8}  {kind:?}")

@@ -38,7 +38,7 @@ fn factors(cases: &mut Cases) {
     cases.add("factors-65-refused-pivot", full().prior(0, &[0.0], &[0.0]));
     cases.add("factors-65-no-such-key", full().prior(1, &[0.0], &[1.0]));
     cases.add("factors-65-observation", full().unit_observation(&[], &[], &[1.0]));
-    cases.add("factors-65-observation-rows-7", full().observed(&[], 7, 0, &[1.0; 7]));
+    cases.add("factors-65-observation-rows-7", full().observed(&[], 7, 2, &[1.0; 7]));
 }
 
 /// Both sides of the most keys and rows, and what the original takes beyond them: 8 keys and 12 rows were accepted before C-20.

@@ -53,37 +53,37 @@ fn headers(cases: &mut Cases) {
     for (name, header) in [("count", &[][..]), ("rows", &[1]), ("flag", &[1, 1]), ("flag-past-a-bad-count", &[5, 0])] {
         cases.add(format!("observation-cut-{name}"), start().raw(&[b"OB", header].concat()));
     }
-    for flag in [2, 255] {
+    for flag in [3, 255] {
         cases.add(format!("observation-flag-{flag}"), start().observed(&[0], 1, flag, &[1.0, 1.0]));
     }
-    cases.add("observation-flag-before-count", start().raw(&[b'O', b'B', 5, 0, 2]));
-    cases.add("observation-flag-before-rows", start().raw(&[b'O', b'B', 0, 7, 2]));
-    cases.add("observation-count-4-keys-cut", start().raw(&[b'O', b'B', 4, 1, 0]));
-    cases.add("observation-count-5-keys-cut", start().raw(&[b'O', b'B', 5, 1, 0]));
-    cases.add("observation-count-5-keys-not-rising", start().observed(&[9, 9, 1, 0, 0], 1, 0, &[]));
+    cases.add("observation-flag-before-count", start().raw(&[b'O', b'B', 5, 0, 3]));
+    cases.add("observation-flag-before-rows", start().raw(&[b'O', b'B', 0, 7, 3]));
+    cases.add("observation-count-4-keys-cut", start().raw(&[b'O', b'B', 4, 1, 2]));
+    cases.add("observation-count-5-keys-cut", start().raw(&[b'O', b'B', 5, 1, 2]));
+    cases.add("observation-count-5-keys-not-rising", start().observed(&[9, 9, 1, 0, 0], 1, 2, &[]));
     cases.add("observation-count-255", start().raw(&[b'O', b'B', 255, 1, 1]));
-    cases.add("observation-rows-0", start().observed(&[0], 0, 0, &[]));
-    cases.add("observation-rows-0-keys-cut", start().raw(&[b'O', b'B', 2, 0, 0, 0]));
+    cases.add("observation-rows-0", start().observed(&[0], 0, 2, &[]));
+    cases.add("observation-rows-0-keys-cut", start().raw(&[b'O', b'B', 2, 0, 2, 0]));
     cases.add("observation-rows-6-keys-cut", start().raw(&[b'O', b'B', 2, 6, 1, 0]));
     cases.add("observation-rows-7-keys-cut", start().raw(&[b'O', b'B', 2, 7, 1, 0]));
     cases.add("observation-rows-6-keys-not-rising", start().observed(&[1, 0], 6, 1, &[]));
     cases.add("observation-rows-7-keys-not-rising", start().observed(&[1, 0], 7, 1, &[]));
     cases.add("observation-rows-6-key-unregistered", start().observed(&[2], 6, 1, &[]));
     cases.add("observation-rows-7-key-unregistered", start().observed(&[2], 7, 1, &[]));
-    cases.add("observation-rows-6-numbers-cut", start().observed(&[], 6, 0, &[1.0; 6]).cut(1));
-    cases.add("observation-rows-7-numbers-cut", start().observed(&[], 7, 0, &[1.0; 7]).cut(1));
-    cases.add("observation-rows-255", start().observed(&[0], 255, 0, &[]));
+    cases.add("observation-rows-6-numbers-cut", start().observed(&[], 6, 2, &[1.0; 6]).cut(1));
+    cases.add("observation-rows-7-numbers-cut", start().observed(&[], 7, 2, &[1.0; 7]).cut(1));
+    cases.add("observation-rows-255", start().observed(&[0], 255, 2, &[]));
 }
 
 fn observations(cases: &mut Cases) {
-    cases.add("observation-keys-cut", start().raw(&[b'O', b'B', 2, 1, 0, 0]));
-    cases.add("observation-keys-cut-before-order-counts", start().raw(&[b'O', b'B', 3, 1, 0, 1, 0]));
-    cases.add("observation-keys-all-cut", start().raw(&[b'O', b'B', 1, 1, 0]));
-    cases.add("observation-keys-falling", start().observed(&[1, 0], 1, 0, &[1.0, 1.0, 1.0, 1.0]));
-    cases.add("observation-keys-repeated-and-unregistered", start().observed(&[9, 9], 1, 0, &[]));
-    cases.add("observation-keys-rise-then-fall", start().observed(&[0, 1, 0], 1, 0, &[]));
-    cases.add("observation-key-unregistered", start().observed(&[0, 2], 1, 0, &[1.0, 1.0, 1.0]));
-    cases.add("observation-key-unregistered-numbers-cut", start().observed(&[0, 255], 1, 0, &[]));
+    cases.add("observation-keys-cut", start().raw(&[b'O', b'B', 2, 1, 2, 0]));
+    cases.add("observation-keys-cut-before-order-counts", start().raw(&[b'O', b'B', 3, 1, 2, 1, 0]));
+    cases.add("observation-keys-all-cut", start().raw(&[b'O', b'B', 1, 1, 2]));
+    cases.add("observation-keys-falling", start().observed(&[1, 0], 1, 2, &[1.0, 1.0, 1.0, 1.0]));
+    cases.add("observation-keys-repeated-and-unregistered", start().observed(&[9, 9], 1, 2, &[]));
+    cases.add("observation-keys-rise-then-fall", start().observed(&[0, 1, 0], 1, 2, &[]));
+    cases.add("observation-key-unregistered", start().observed(&[0, 2], 1, 2, &[1.0, 1.0, 1.0]));
+    cases.add("observation-key-unregistered-numbers-cut", start().observed(&[0, 255], 1, 2, &[]));
     let whole = || start().observation(&[0, 1], &[1.0; 6], &[1.0, 2.0], &[1.0, 0.0, 0.0, 1.0]);
     for (name, left) in [
         ("a", 96),
@@ -96,10 +96,10 @@ fn observations(cases: &mut Cases) {
     ] {
         cases.add(format!("observation-cut-{name}"), whole().cut(left));
     }
-    cases.add("observation-flag-0-cut", start().unit_observation(&[0], &[1.0], &[1.0]).cut(1));
-    cases.add("observation-flag-0-with-a-variance", start().observed(&[0], 1, 0, &[1.0, 1.0, 1.0]));
+    cases.add("observation-flag-2-cut", start().unit_observation(&[0], &[1.0], &[1.0]).cut(1));
+    cases.add("observation-flag-2-with-a-variance", start().observed(&[0], 1, 2, &[1.0, 1.0, 1.0]));
     cases.add("observation-flag-1-without-a-variance", start().observed(&[0], 1, 1, &[1.0, 1.0]));
-    cases.add("observation-without-keys-cut", start().observed(&[], 2, 0, &[1.0]));
+    cases.add("observation-without-keys-cut", start().observed(&[], 2, 2, &[1.0]));
 }
 
 /// A small job of each kind of record, cut after each of its bytes.

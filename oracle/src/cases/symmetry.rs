@@ -3,7 +3,7 @@ use std::cmp::Ordering;
 
 use super::limits::filled;
 use super::{Cases, Job, Random, graphs};
-use crate::job::{FACTORS, KEYS, MOST_ROWS};
+use crate::job::{FACTORS, GIVEN, KEYS, MOST_ROWS};
 
 /// A variance in which no two entries on one side of the diagonal are equal, and whose pivots are all far above 0.
 fn uneven(size: usize) -> Vec<f64> {
@@ -92,7 +92,7 @@ fn order(cases: &mut Cases) {
     let two = || Job::with(&[2, 1]);
     // Before it: the record (8), the counts (4), the keys (3, 11), the limits (12, 13) and the numbers given (6).
     cases.add("symmetry-after-cut", two().prior(0, &ones, &lopsided).cut(1));
-    cases.add("symmetry-after-flag", two().observed(&[1], 2, 2, &[&ones[..], &ones, &lopsided].concat()));
+    cases.add("symmetry-after-flag", two().observed(&[1], 2, 3, &[&ones[..], &ones, &lopsided].concat()));
     let many: Vec<usize> = (0..=KEYS).collect();
     cases.add("symmetry-after-count", two().observation(&many, &ones, &ones, &lopsided));
     cases.add("symmetry-after-rising", two().observation(&[1, 1], &[1.0; 4], &ones, &lopsided));
@@ -144,7 +144,7 @@ pub fn beside(random: &mut Random) -> Job {
 fn rows_of(record: &[u8]) -> usize {
     match &record[..2] {
         b"PR" => (1..=6).find(|size| 3 + 8 * size * (size + 1) == record.len()).unwrap_or(0),
-        b"OB" if record[4] == 1 => record[3] as usize,
+        b"OB" if record[4] == GIVEN => record[3] as usize,
         _ => 0,
     }
 }

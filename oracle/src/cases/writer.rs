@@ -1,4 +1,5 @@
 //! Writes the records of a job.
+use crate::job::{GIVEN, IDENTITY, QUARTER};
 
 /// A job as its records, so that a recorded case can show one a line.
 #[derive(Clone, Default)]
@@ -57,12 +58,17 @@ impl Job {
 
     /// An observation with its variance.
     pub fn observation(self, keys: &[usize], a: &[f64], mean: &[f64], variance: &[f64]) -> Job {
-        self.observed(keys, mean.len(), 1, &[a, mean, variance].concat())
+        self.observed(keys, mean.len(), GIVEN, &[a, mean, variance].concat())
     }
 
     /// An observation with the identity as its variance.
     pub fn unit_observation(self, keys: &[usize], a: &[f64], mean: &[f64]) -> Job {
-        self.observed(keys, mean.len(), 0, &[a, mean].concat())
+        self.observed(keys, mean.len(), IDENTITY, &[a, mean].concat())
+    }
+
+    /// An observation whose variance is left out: a quarter on the diagonal.
+    pub fn quarter_observation(self, keys: &[usize], a: &[f64], mean: &[f64]) -> Job {
+        self.observed(keys, mean.len(), QUARTER, &[a, mean].concat())
     }
 
     /// An observation whose header and numbers need not fit.

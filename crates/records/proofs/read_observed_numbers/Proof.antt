@@ -15,12 +15,12 @@ use Rattle.graph.specs.Registration.{addObservation, observationStore}
 use Rattle.graph.specs.declared.Graph.{Graph}
 use Rattle.graph.specs.declared.Added.{Added}
 use Rattle.graph.specs.declared.refusal.Refusal.the-variants.{BadRecord}
-use Rattle.cholesky.proofs.Identity.{identity-length}
+use Rattle.matrix.proofs.Diagonal.{diagonal-length}
 use Rattle.records.specs.Bytes.{cut, numberAt, numbersAt}
 use Rattle.records.specs.Records.{refuse, flagKnown, givenNumbers, varianceRead, observedNumbers, wentTo}
 use Rattle.records.specs.declared.answer.Step.{Step}
 use Rattle.records.specs.declared.kinds.Flag.{Flag}
-use Rattle.records.specs.declared.kinds.Flag.the-variants.{Identity, Given, Unknown}
+use Rattle.records.specs.declared.kinds.Flag.the-variants.{Diagonal, Given, Unknown}
 use Rattle.records.proofs.Listing.{listed-length, front}
 use Rattle.records.proofs.Requests.{Meets, turned}
 use borrow.Author.Needs.{needs}
@@ -28,7 +28,7 @@ use Rattle.records.proofs.read_observed_numbers.Statement.{statement}
 use Rattle.records.proofs.read_observed_numbers.Tie as tie
 
 variance-long : (flag : Flag) (bytes : List ℕ) (at rows : ℕ) → flagKnown flag ≡ true → length (varianceRead flag bytes at rows) ≡ rows * rows
-variance-long Identity bytes at rows h = identity-length rows
+variance-long (Diagonal x) bytes at rows h = diagonal-length x rows
 variance-long Given bytes at rows h = listed-length (λ i. numberAt bytes (at + 8 * i)) (rows * rows)
 variance-long Unknown bytes at rows h = cc
 

@@ -73,7 +73,8 @@ fn spoil(random: &mut Random, record: &mut Vec<u8>) {
         return;
     }
     let at = random.below(record.len());
-    match random.below(6) {
+    match random.below(7) {
+        6 if record.len() > 4 && record.starts_with(b"OB") => record[4] = [0, 1, 2, 3, 4, 255][random.below(6)],
         5 if record.len() > 6 && record.starts_with(b"OB") => record[5] = record[6].wrapping_add(random.below(3) as u8),
         0 => record[at] ^= 1 << random.below(8),
         1 => record[at] = random.below(256) as u8,

@@ -3,7 +3,7 @@ use super::{chain, count, sizes};
 use oracle::cases::graphs::{Style, graph};
 use oracle::cases::limits::{FULL, ONE_OVER, needing, tangle};
 use oracle::cases::{Job, Random};
-use oracle::job::{self, FACTOR_STORE, MESSAGE_STORE, ROWS};
+use oracle::job::{self, FACTOR_STORE, IDENTITY, MESSAGE_STORE, ROWS};
 
 /// The factor store filled by observations without keys, at the end of which 2 numbers are left; then a prior, which takes
 /// 2, an observation of one key and one row, which takes 3, or both.
@@ -45,9 +45,9 @@ pub fn message_store(random: &mut Random) -> Job {
     renumbered(random, job)
 }
 
-/// Other numbers in every observation without a variance: its header takes 5 bytes, its keys one each.
+/// Other numbers in every observation whose variance is made: its header takes 5 bytes, its keys one each.
 fn renumbered(random: &mut Random, mut job: Job) -> Job {
-    for record in job.records.iter_mut().filter(|record| record.starts_with(b"OB") && record[4] == 0) {
+    for record in job.records.iter_mut().filter(|record| record.starts_with(b"OB") && record[4] == IDENTITY) {
         let from = 5 + record[2] as usize;
         record[from..].chunks_exact_mut(8).for_each(|number| number.copy_from_slice(&random.number().to_le_bytes()));
     }

@@ -1,20 +1,34 @@
--- `records::kinds::meaning` meets its contract. Assumes nothing.
-use borrow.Author.Tests.{eq-eqb, ne-eqb}
+-- `records::kinds::meaning` meets its contract: the table has three entries. Assumes nothing.
+use Prim.Native.Nat.{ℕ, zero, suc}
+use mathlib.Core.Path.{_≡_, refl, sym}
+use native.Mathlib.Omega.{arith}
+use lib.Ieee.{ofBits}
 use Rattle.records.specs.Records.{meaning}
+use Rattle.records.specs.declared.kinds.Flag.the-variants.{Unknown}
 use Rattle.records.proofs.kinds.meaning.Statement.{statement}
 use Rattle.records.proofs.kinds.meaning.Tie as tie
 
-returns : tie.Need-returns
+past-the-table : (flag : ℕ) → (flag ≡ 0 → ⊥) → (flag ≡ 1 → ⊥) → (flag ≡ 2 → ⊥) → Unknown ≡ meaning flag
 unfolding meaning
-returns c = rw (eq-eqb _ _ (c .if1 .taken))
+past-the-table zero h i j = absurd (h refl)
+past-the-table (suc zero) h i j = absurd (i refl)
+past-the-table (suc (suc zero)) h i j = absurd (j refl)
+past-the-table (suc (suc (suc n))) h i j = refl
+
+returns : tie.Need-returns
+unfolding meaning ofBits
+returns c = rw (c .if1 .taken)
 
 returns-2 : tie.Need-returns-2
 unfolding meaning
-returns-2 c = rw (ne-eqb _ _ (c .before .if1 .left), eq-eqb _ _ (c .if2 .taken))
+returns-2 c = rw (c .if2 .taken)
 
 returns-3 : tie.Need-returns-3
-unfolding meaning
-returns-3 c = rw (ne-eqb _ _ (c .before .if1 .left), ne-eqb _ _ (c .if2 .left))
+unfolding meaning ofBits
+returns-3 c = rw (c .if3 .taken)
+
+returns-4 : tie.Need-returns-4
+returns-4 c = past-the-table _ (c .before .before .if1 .left) (c .before .if2 .left) (c .if3 .left)
 
 pub meaning-spec : {M : Type 1} → statement M
-meaning-spec = tie.close (tie.spec returns returns-2 returns-3)
+meaning-spec = tie.close (tie.spec returns returns-2 returns-3 returns-4)
