@@ -28,7 +28,7 @@ fn names_differ_and_the_file_stays_small() {
     let (text, cases) = (recorded(), read(&recorded()).unwrap());
     let names: BTreeSet<&String> = cases.iter().map(|case| &case.name).collect();
     assert_eq!(names.len(), cases.len());
-    assert!(text.len() < 500_000);
+    assert!(text.len() < 550_000);
 }
 
 #[test]

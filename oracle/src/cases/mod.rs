@@ -2,6 +2,7 @@
 //!
 //! A line begins with what it is: `=` the name of the next case, `<` a record of its job in hexadecimal, `>` a line that is
 //! printed, `#` a remark. A case ends where the next begins.
+mod flags;
 pub mod graphs;
 pub mod limits;
 mod pairs;
@@ -46,6 +47,12 @@ impl Cases {
         self.all.push(Case { name, records: job.records, prints });
     }
 
+    /// The same text for the last two jobs.
+    fn last_two_print_alike(&self) {
+        let [.., one, other] = &self.all[..] else { return };
+        assert_eq!(one.prints, other.prints, "{}", other.name);
+    }
+
     /// The first job drawn that is in the domain and prints what is wanted by the published rule for pivots. So a rule that was
     /// added by request changes answers, and never which jobs are recorded. Each name has random numbers of its own, so that a job
     /// drawn otherwise changes no other.
@@ -80,6 +87,7 @@ pub fn all() -> Vec<Case> {
     refusals::add(&mut cases);
     tolerance::add(&mut cases);
     symmetry::add(&mut cases);
+    flags::add(&mut cases);
     cases.all
 }
 
