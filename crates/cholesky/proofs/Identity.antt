@@ -1,6 +1,6 @@
 -- Cholesky, the solve and the inverse of an identity of any dimension: no pivot is refused, and the numbers are 0.0 and 1.0 throughout. Assumes nothing.
 use Prim.Native.Nat.{ℕ, zero, suc, _+_, _-_, _*_, _≤_, _<_}
-use mathlib.Core.Path.{_≡_, refl, ap, ap₂, _∙_, sym}
+use mathlib.Core.Path.{_≡_, refl, ap, ap₂, _∙_}
 use mathlib.Core.Bool.{Bool, true, false, cond}
 use mathlib.Core.List.{List}
 use mathlib.Core.Logic.{_⊎_, inl, inr}
@@ -9,8 +9,8 @@ use lib.Dec.{eqb}
 use lib.ListN.{getD, length, replicate, length-replicate, getD-replicate}
 use lib.Ieee.{Float, nan, binary64, sub, mul, div}
 use Rattle.matrix.specs.Views.{place, entry, flip, columns}
-use Rattle.matrix.specs.Sums.{plus-zero, one, terms, deduct, deductOf}
-use Rattle.matrix.specs.Stores.{steps, sweep, block, blockColumn}
+use Rattle.matrix.specs.Sums.{plus-zero, one, terms, deductOf}
+use Rattle.matrix.specs.Stores.{sweep, block, blockColumn}
 use Rattle.matrix.specs.Triangles.{diagonalOf}
 use Rattle.matrix.specs.Finite.{isFinite, allFinite}
 use Rattle.matrix.specs.declared.View.{View}
@@ -26,10 +26,6 @@ use Rattle.cholesky.proofs.Diagonal.{nothing-off, idle, one-rooted, dia
 -- one of the two
 pub Bit : Float → Type 0
 Bit x = (x ≡ plus-zero) ⊎ (x ≡ one)
-
-zero-bit : Bit plus-zero
-unfolding Bit
-zero-bit = inl refl
 
 zero-times : (x : Float) → Bit x → mul binary64 plus-zero x ≡ plus-zero
 unfolding Bit mul
@@ -62,16 +58,11 @@ unit-bit i j = go (eqb i j)
 unfoldable pub Identity : View → ℕ → List Float → Type 0
 Identity v n s = (i j : ℕ) → i < n → j < n → entry s v i j ≡ unit i j
 
-module _ (v : View) (n : ℕ) (s : List Float) (I : Identity v n s) where
-  flipped : (k j : ℕ) → k < n → j < n → entry s (flip v) k j ≡ unit j k
-  unfolding Identity
-  flipped k j hk hj = ap (λ (p : ℕ). getD s p nan) (omega arith) ∙ I j k hj hk
-
--- ---- the solves, on a column of 0.0 and 1.0
-
 pub turned : (v : View) (n : ℕ) (s : List Float) → Identity v n s → Identity (flip v) n s
 unfolding Identity
-turned v n s I i j hi hj = flipped v n s I i j hi hj ∙ turned-place one j i
+turned v n s I i j hi hj = ap (λ (p : ℕ). getD s p nan) (omega arith) ∙ I j i hj hi ∙ turned-place one j i
+
+-- ---- the solves, on a column of 0.0 and 1.0
 
 module _ (l : List Float) (lv : View) (n : ℕ) (I : Identity lv n l) (x : List Float) (xv : View) (c : ℕ) (bits : (i : ℕ) → i < n → Bit (entry x xv i c)) where
   -- off the diagonal the row is 0.0, so the entry stays

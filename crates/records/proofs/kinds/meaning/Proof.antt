@@ -1,7 +1,6 @@
 -- `records::kinds::meaning` meets its contract: the table has three entries. Assumes nothing.
 use Prim.Native.Nat.{ℕ, zero, suc}
-use mathlib.Core.Path.{_≡_, refl, sym}
-use native.Mathlib.Omega.{arith}
+use mathlib.Core.Path.{_≡_, refl}
 use lib.Ieee.{ofBits}
 use Rattle.records.specs.Records.{meaning}
 use Rattle.records.specs.declared.kinds.Flag.the-variants.{Unknown}
