@@ -1,6 +1,7 @@
 -- Laws that several proofs cite.
 pub mod Listing
 pub mod Counts
+pub mod Flags
 pub mod Requests
 pub mod Asking
 pub mod Reading
@@ -8,6 +9,5 @@ pub mod Agreement
 pub mod Progress
 pub mod StoreLength
 pub mod Prefix
-pub mod Flags
 pub mod Computing
 pub mod Examples

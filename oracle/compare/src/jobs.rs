@@ -59,12 +59,12 @@ const SHARES: [(Kind, usize); 20] = [
     (Kind::MessageStore, 1),
 ];
 
-/// Which of the flags 0, 1, 2 and any other its observations have.
-pub fn flags_in(job: &Job) -> [bool; 4] {
+/// Which of the flags 0, 1, 2, 3 and any other its observations have.
+pub fn flags_in(job: &Job) -> [bool; 5] {
     let flags =
         job.records.iter().filter(|record| record.starts_with(b"OB") && record.len() > 4).map(|record| record[4]);
-    flags.fold([false; 4], |mut met, flag| {
-        met[flag.min(3) as usize] = true;
+    flags.fold([false; 5], |mut met, flag| {
+        met[flag.min(4) as usize] = true;
         met
     })
 }

@@ -13,7 +13,7 @@ use oracle::tolerance::nearest;
 
 /// Beside the outcome and the kind of a job: how many floats its nearest pivot lay above what it must exceed, where these are few, and the
 /// flags of its observations.
-type Counts = BTreeMap<(Outcome, Kind, Option<i64>, [bool; 4]), u64>;
+type Counts = BTreeMap<(Outcome, Kind, Option<i64>, [bool; 5]), u64>;
 
 /// Pivots that lie further off are not told apart.
 const NEAR: i64 = 2;
@@ -79,7 +79,7 @@ fn report(counts: &Counts) -> ExitCode {
     let mut by_outcome: BTreeMap<String, u64> = BTreeMap::new();
     let mut by_kind: BTreeMap<Kind, [u64; 4]> = BTreeMap::new();
     let mut by_steps: BTreeMap<i64, u64> = BTreeMap::new();
-    let mut by_flag = [0; 4];
+    let mut by_flag = [0; 5];
     for ((outcome, kind, steps, flags), n) in counts {
         let (name, columns): (String, &[usize]) = match outcome {
             Outcome::Same(text) if text == "done" => (format!("same: {text}"), &[0, 1]),
@@ -100,7 +100,7 @@ fn report(counts: &Counts) -> ExitCode {
     by_steps
         .iter()
         .for_each(|(steps, n)| println!("{n:>9}  in domain, a pivot {steps:+} floats from what it must exceed"));
-    for (flag, n) in ["flag 0", "flag 1", "flag 2", "a flag above 2"].iter().zip(by_flag) {
+    for (flag, n) in ["flag 0", "flag 1", "flag 2", "flag 3", "a flag above 3"].iter().zip(by_flag) {
         println!("{n:>9}  in domain, an observation with {flag}");
     }
     println!("     done in domain   outside  differs  kind");
