@@ -52,9 +52,9 @@ module _ (g : Graph) (f : Factor) (a mean variance store : List Float) where
       (λ p xi w q e. omega (arith, ap number e))
 
 -- a diagonal of one number that is finite and has a root
-module _ (g : Graph) (f : Factor) (a mean store : List Float) (x r : Float) where
+module _ (g : Graph) (f : Factor) (a mean store : List Float) (x : Float) where
   pub diagonal-symmetry : isFinite x ≡ true → factorVerdict g f a mean (diagonalOf x (f .rows)) store ≢ refuse NotSymmetric
   diagonal-symmetry h = never-asymmetric g f a mean (diagonalOf x (f .rows)) store (diagonal-symmetric x (f .rows) h)
 
-  pub diagonal-pivots : Rooted x r → factorVerdict g f a mean (diagonalOf x (f .rows)) store ≢ refuse VariancePivot
-  diagonal-pivots ok = never-pivot g f a mean (diagonalOf x (f .rows)) store (diagonal-passes x r ok (f .rows) mean)
+  pub diagonal-pivots : (r : Float) → Rooted x r → factorVerdict g f a mean (diagonalOf x (f .rows)) store ≢ refuse VariancePivot
+  diagonal-pivots r ok = never-pivot g f a mean (diagonalOf x (f .rows)) store (diagonal-passes x r ok (f .rows) mean)

@@ -58,7 +58,7 @@ of-made P p q (suc (suc (suc n))) x e = let d : Unknown ≡ Diagonal x = sym (no
 module _ (g : Graph) (f : Factor) (a mean store : List Float) where
   pub made-symmetry : (flag : ℕ) (x : Float) → meaning flag ≡ Diagonal x → factorVerdict g f a mean (diagonalOf x (f .rows)) store ≢ refuse NotSymmetric
   made-symmetry = of-made (λ x. factorVerdict g f a mean (diagonalOf x (f .rows)) store ≢ refuse NotSymmetric)
-      (diagonal-symmetry g f a mean store quarter half refl) (diagonal-symmetry g f a mean store one one refl)
+      (diagonal-symmetry g f a mean store quarter refl) (diagonal-symmetry g f a mean store one refl)
 
   pub made-pivots : (flag : ℕ) (x : Float) → meaning flag ≡ Diagonal x → factorVerdict g f a mean (diagonalOf x (f .rows)) store ≢ refuse VariancePivot
   made-pivots = of-made (λ x. factorVerdict g f a mean (diagonalOf x (f .rows)) store ≢ refuse VariancePivot)

@@ -58,7 +58,7 @@ pub fn meaning(flag: usize) -> Flag
     Flag::Unknown
 }
 
-// The flag has a meaning; any other refuses the record.
+// Whether the flag has a meaning; one without refuses the record.
 pub fn flag_known(flag: Flag) -> bool
     ensures { λ r. ⌜ r ≡ spec.flagKnown flag ⌝ }
 {
