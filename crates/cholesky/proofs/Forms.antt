@@ -8,11 +8,12 @@ use native.Mathlib.Omega.{arith}
 use lib.Ieee.{Float}
 use lib.ListN.{length, replicate, length-replicate}
 use Rattle.matrix.specs.Views.{columns}
-use Rattle.matrix.specs.Sums.{plus-zero}
+use Rattle.matrix.specs.Sums.{plus-zero, one}
 use Rattle.matrix.specs.Triangles.{diagonalOf}
 use Rattle.matrix.specs.Finite.{allFinite}
 use Rattle.matrix.specs.declared.View.{View}
 use Rattle.matrix.proofs.Entries.{steps-length, sweep-length}
+use Rattle.matrix.proofs.Diagonal.{diagonal-finite}
 use Rattle.cholesky.specs.Factor.{Left, whole, stuck, factor}
 use Rattle.cholesky.specs.Solve.{solveLower, solveUpper, solved, unitColumn, inverted}
 use Rattle.cholesky.specs.Forms.{form, pivot, notFinite, finiteForm, exchangedBy, exchanged}
@@ -20,7 +21,7 @@ use Rattle.cholesky.specs.declared.Factored.{Factored}
 use Rattle.cholesky.specs.declared.Factored.the-variants as factored
 use Rattle.cholesky.specs.declared.exchange.Exchanged.the-variants.{Done, Pivot, NotFinite}
 use Rattle.cholesky.proofs.Diagonal.{Rooted, diagonal-factor}
-use Rattle.cholesky.proofs.Identity.{identityOf, identity-factor, identity-solve, identity-inverse, identity-finite, zeros-finite}
+use Rattle.cholesky.proofs.Identity.{identityOf, identity-factor, identity-solve, identity-inverse, zeros-finite}
 use Rattle.cholesky.specs.Answers.{factoredAs, listOf, told}
 
 -- ---- the ways out
@@ -122,5 +123,5 @@ identity-exchanged n =
       identity-solve n,
       identity-inverse n (replicate (n * n) plus-zero) (length-replicate (n * n) plus-zero),
       zeros-finite n,
-      identity-finite n,
+      diagonal-finite one n refl,
     )

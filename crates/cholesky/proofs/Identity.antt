@@ -16,7 +16,8 @@ use Rattle.matrix.specs.Finite.{isFinite, allFinite}
 use Rattle.matrix.specs.declared.View.{View}
 use Rattle.matrix.proofs.Entries.{steps-at, block-length}
 use Rattle.matrix.proofs.Dense.{dense, fills}
-use Rattle.matrix.proofs.Diagonal.{onDiagonal, same-place, other-place, turned-place, all-finite, diagonal-entry, diagonal-finite}
+use Rattle.matrix.proofs.Diagonal.{onDiagonal, same-place, other-place, turned-place, diagonal-entry}
+use Rattle.matrix.proofs.Numbers.{all-finite}
 use Rattle.cholesky.specs.Factor.{whole, factor}
 use Rattle.cholesky.specs.Solve.{solvedRow, solveLower, solveUpper, solved, unitColumn, inverted}
 use Rattle.cholesky.proofs.Diagonal.{nothing-off, idle, one-rooted, diagonal-factor}
@@ -139,10 +140,7 @@ module _ (n : ℕ) (x : List Float) (long : length x ≡ n * n) where
   identity-inverse = columns-are n (omega arith) ∙ fills n n (λ i j. cond (eqb i j) one plus-zero) x (replicate (n * n) plus-zero) long
       (length-replicate (n * n) plus-zero)
 
--- ---- all of these numbers are finite
+-- ---- zeros are finite
 
 pub zeros-finite : (n : ℕ) → allFinite (replicate n plus-zero) ≡ true
 zeros-finite n = all-finite (replicate n plus-zero) (λ k h. ap isFinite (getD-replicate n k plus-zero nan (omega (arith, length-replicate n plus-zero))))
-
-pub identity-finite : (n : ℕ) → allFinite (identityOf n) ≡ true
-identity-finite n = diagonal-finite one n refl

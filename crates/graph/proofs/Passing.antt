@@ -9,8 +9,8 @@ use lib.Ieee.{Float}
 use lib.ListN.{length, replicate, length-replicate}
 use Rattle.matrix.specs.Sums.{plus-zero, one}
 use Rattle.matrix.specs.Finite.{allFinite}
-use Rattle.matrix.proofs.Diagonal.{diagonal-length}
-use Rattle.cholesky.proofs.Identity.{identityOf, identity-finite, zeros-finite}
+use Rattle.matrix.proofs.Diagonal.{diagonal-length, diagonal-finite}
+use Rattle.cholesky.proofs.Identity.{identityOf, zeros-finite}
 use Rattle.factor.specs.Limits.{max-factors, max-keys, max-rows}
 use Rattle.factor.specs.Factor.{rising, known, priorOf, observationOf, aNumbers, numbers, lengthsFit, givenFinite}
 use Rattle.factor.specs.declared.Factor.{Factor}
@@ -45,7 +45,7 @@ module _ (g : Graph) (f : Factor) (h12 : g .count < max-factors) (a : List Float
 
   given : givenFinite a (zeros (f .rows)) (identityOf (f .rows)) ≡ true
   unfolding givenFinite
-  given = every-3 _ _ _ finite (zeros-finite (f .rows)) (identity-finite (f .rows))
+  given = every-3 _ _ _ finite (zeros-finite (f .rows)) (diagonal-finite one (f .rows) refl)
 
   factor-passes : factorVerdict g f a (zeros (f .rows)) (identityOf (f .rows)) (room g f) ≡ accept (a ++ zeros (f .rows) ++ identityOf (f .rows))
   factor-passes =

@@ -2,7 +2,7 @@
 -- number that is finite and has a root. Assumes nothing.
 use Prim.Native.Nat.{ℕ}
 use mathlib.Core.Path.{_≡_, ap, sym, _∙_}
-use mathlib.Core.Bool.{true, true≢false}
+use mathlib.Core.Bool.{true, false, true≢false}
 use mathlib.Core.List.{List}
 use mathlib.Core.Logic.{_≢_}
 use native.Mathlib.Omega.{arith}
@@ -27,29 +27,28 @@ number (accept numbers) = 0
 number (refuse why) = refusalNumber why
 
 module _ (g : Graph) (f : Factor) (a mean variance store : List Float) where
+  -- 20 is told only where the triangles differ, and 7 only where a pivot is refused
+  reasons : (number (factorVerdict g f a mean variance store) ≡ 20 → symmetric (f .rows) variance ≡ false) ×
+      (number (factorVerdict g f a mean variance store) ≡ 7 → exchanged (f .rows) mean variance ≡ pivot)
+  unfolding number
+  reasons =
+      factor-ways g f a mean variance store
+      (λ v. (number v ≡ 20 → symmetric (f .rows) variance ≡ false) × (number v ≡ 7 → exchanged (f .rows) mean variance ≡ pivot))
+      (λ e. absurd (omega arith), λ e. absurd (omega arith))
+      (λ e. absurd (omega arith), λ e. absurd (omega arith))
+      (λ e. absurd (omega arith), λ e. absurd (omega arith))
+      (λ e. absurd (omega arith), λ e. absurd (omega arith))
+      (λ differ. (λ e. differ, λ e. absurd (omega arith)))
+      (λ stuck. (λ e. absurd (omega arith), λ e. stuck))
+      (λ p xi w q. (λ e. absurd (omega arith), λ e. absurd (omega arith)))
+
   pub never-asymmetric : symmetric (f .rows) variance ≡ true → factorVerdict g f a mean variance store ≢ refuse NotSymmetric
   unfolding number
-  never-asymmetric h =
-      factor-ways g f a mean variance store (λ v. v ≢ refuse NotSymmetric)
-      (λ e. omega (arith, ap number e))
-      (λ e. omega (arith, ap number e))
-      (λ e. omega (arith, ap number e))
-      (λ e. omega (arith, ap number e))
-      (λ no e. true≢false (sym h ∙ no))
-      (λ q e. omega (arith, ap number e))
-      (λ p xi w q e. omega (arith, ap number e))
+  never-asymmetric h e = true≢false (sym h ∙ reasons .0 (ap number e))
 
   never-pivot : exchanged (f .rows) mean variance ≢ pivot → factorVerdict g f a mean variance store ≢ refuse VariancePivot
   unfolding number
-  never-pivot h =
-      factor-ways g f a mean variance store (λ v. v ≢ refuse VariancePivot)
-      (λ e. omega (arith, ap number e))
-      (λ e. omega (arith, ap number e))
-      (λ e. omega (arith, ap number e))
-      (λ e. omega (arith, ap number e))
-      (λ no e. omega (arith, ap number e))
-      (λ q e. h q)
-      (λ p xi w q e. omega (arith, ap number e))
+  never-pivot h e = h (reasons .1 (ap number e))
 
 -- a diagonal of one number that is finite and has a root
 module _ (g : Graph) (f : Factor) (a mean store : List Float) (x : Float) where

@@ -1,8 +1,7 @@
 -- What a diagonal holds, entry by entry: x where the row is the column, and +0.0 elsewhere. Assumes nothing.
-use Prim.Native.Nat.{ℕ, suc, _*_, _/_, _%_, _<_}
+use Prim.Native.Nat.{ℕ, _*_, _/_, _%_, _<_}
 use mathlib.Core.Path.{_≡_, refl, sym, _∙_}
 use mathlib.Core.Bool.{Bool, true, false, cond}
-use mathlib.Core.List.{List, [], _∷_}
 use native.Mathlib.Decide.{ℕ-discrete}
 use native.Mathlib.Omega.{arith}
 use borrow.Author.Tests.{eq-eqb, ne-eqb}
@@ -15,6 +14,7 @@ use Rattle.matrix.specs.Triangles.{diagonalOf}
 use Rattle.matrix.specs.Finite.{isFinite, allFinite}
 use Rattle.matrix.proofs.Entries.{apart, block-length, block-at}
 use Rattle.matrix.proofs.Dense.{dense, whole-at}
+use Rattle.matrix.proofs.Numbers.{all-finite}
 
 -- ---- an entry
 
@@ -45,12 +45,6 @@ finite-place x i j h = go (eqb i j)
     go false = refl
 
 -- ---- the whole
-
--- a list is finite if each of its numbers is
-pub all-finite : (s : List Float) → ((k : ℕ) → k < length s → isFinite (getD s k nan) ≡ true) → allFinite s ≡ true
-unfolding allFinite
-all-finite [] h = refl
-all-finite (x ∷ s) h = rw (h 0 (omega arith), all-finite s (λ k l. h (suc k) (omega arith)))
 
 module _ (x : Float) (n : ℕ) where
   pub diagonal-length : length (diagonalOf x n) ≡ n * n

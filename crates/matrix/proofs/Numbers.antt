@@ -2,7 +2,8 @@
 use Prim.Native.Nat.{ℕ, zero, suc, _+_, _-_, _*_, _/_, _%_, _^_, _≤_, _<_, compare}
 use mathlib.Core.Path.{_≡_, refl, sym, ap, _∙_, subst}
 use mathlib.Core.Bool.{Bool, true, false, not, cond, _&&_, Bool·beq}
-use mathlib.Core.List.{List}
+use mathlib.Core.List.{List, [], _∷_}
+use native.Mathlib.Omega.{arith}
 use native.Mathlib.Numerals.{add-one}
 use lib.Dec.{T, ltb}
 use lib.ListN.{length, getD, drop, drop-of-length-le}
@@ -78,3 +79,11 @@ one-settles s i l e h = e ∙ rw (drop-cons s i nan, h)
 pub none-left : (s : List Float) (i : ℕ) → length s ≤ i → allFinite s ≡ allFinite (drop i s) → allFinite s ≡ true
 unfolding allFinite
 none-left s i l e = e ∙ rw (drop-of-length-le s l)
+
+-- ---- all at once
+
+-- a list is finite if each of its numbers is
+pub all-finite : (s : List Float) → ((k : ℕ) → k < length s → isFinite (getD s k nan) ≡ true) → allFinite s ≡ true
+unfolding allFinite
+all-finite [] h = refl
+all-finite (x ∷ s) h = rw (h 0 (omega arith), all-finite s (λ k l. h (suc k) (omega arith)))

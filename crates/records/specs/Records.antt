@@ -88,7 +88,7 @@ priorAt g store bytes at =
 
 -- ---- an observation: counts of keys and rows, flag, keys, A, means and, if the flag says so, the variance
 
--- a quarter
+-- 0.25
 abbrev pub quarter : Float
 quarter = fin false 1 (negsuc 1)
 
