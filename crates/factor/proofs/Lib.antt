@@ -5,5 +5,7 @@ pub mod Blocks
 pub mod Storing
 pub mod Fitting
 pub mod KeyOrder
+pub mod Lookups
+pub mod Examples
 pub mod Telling
 pub mod Symmetry

@@ -6,6 +6,9 @@ pub mod weighing;
 use limits::KEYS;
 use limits::ROWS;
 use limits::VARIABLES;
+use lists::Place;
+use lists::least;
+use lists::lookup;
 ghost use mathlib.Core.Path.{_≡_};
 ghost use mathlib.Core.Bool.{true};
 ghost use Prim.Native.Nat.{_+_, _*_, _<_, _≤_};
@@ -25,6 +28,12 @@ pub struct Factor {
 pub enum Found {
     Block(usize, usize),
     Absent,
+}
+
+// The answer of `find`: the block, and how many of the factor's keys were read.
+pub struct Lookup {
+    pub found: Found,
+    pub read: usize,
 }
 
 // A byte as an index.
@@ -146,33 +155,47 @@ impl Factor {
         true
     }
 
-    // The total width: the sizes of the keys, added up.
-    pub fn width(self, sizes: [u8; VARIABLES]) -> usize
-        requires { ⌜ self .touched ≤ max-keys ⌝ }
-        ensures { λ r. ⌜ (r ≡ spec.width sizes self) × (r ≤ 255 * max-keys) ⌝ }
+    // The first column of the block at a place: the sizes of the keys before it, added up.
+    fn first_column(self, sizes: [u8; VARIABLES], place: usize) -> usize
+        requires { ⌜ place ≤ max-keys ⌝ }
+        ensures { λ r. ⌜ (r ≡ spec.firstColumn sizes (self .keys) place) × (r ≤ 255 * max-keys) ⌝ }
     {
         let mut sum = 0;
-        for place in 0..wide(self.touched) {
-            sum += size_of(sizes, wide(self.keys[place]));
+        for earlier in 0..place {
+            sum += size_of(sizes, wide(self.keys[earlier]));
         }
         sum
     }
 
-    // The block of a key: looked for among the keys from the first place on.
-    pub fn find(self, sizes: [u8; VARIABLES], key: usize) -> Found
+    // The total width.
+    pub fn width(self, sizes: [u8; VARIABLES]) -> usize
         requires { ⌜ self .touched ≤ max-keys ⌝ }
-        ensures { λ r. ⌜ r ≡ spec.findKey sizes self key ⌝ }
+        ensures { λ r. ⌜ (r ≡ spec.width sizes self) × (r ≤ 255 * max-keys) ⌝ }
     {
-        let mut first = 0;
-        for place in 0..wide(self.touched) {
-            let here = wide(self.keys[place]);
-            let size = size_of(sizes, here);
-            if here == key {
-                return Found::Block(first, size);
-            }
-            first += size;
+        self.first_column(sizes, wide(self.touched))
+    }
+
+    // The block of a key, by the lookup among the factor's keys.
+    pub fn find(self, sizes: [u8; VARIABLES], key: usize) -> Lookup
+        ensures { λ r. ⌜ r ≡ spec.find sizes self key ⌝ }
+    {
+        let keys = self.keys;
+        let used = least(wide(self.touched), KEYS);
+        let looked = lookup(&keys[0..used], key);
+        let read = looked.read;
+        let stands = looked.place;
+        let Place::At(place) = stands else {
+            return Lookup {
+                found: Found::Absent,
+                read: read,
+            };
+        };
+        let first = self.first_column(sizes, place);
+        let size = size_of(sizes, wide(keys[place]));
+        Lookup {
+            found: Found::Block(first, size),
+            read: read,
         }
-        Found::Absent
     }
 
     // How many numbers of A are stored: none for a prior.
@@ -209,10 +232,12 @@ impl Factor {
 
     // The block column of a key: the part of A that begins at its first column, and no numbers where the factor lacks the key.
     pub fn a_from_key<'a>(self, sizes: [u8; VARIABLES], key: usize, a: &'a [f64]) -> &'a [f64]
-        requires { ⌜ (self .touched ≤ max-keys) × (spec.width sizes self * self .rows ≤ length (now a)) ⌝ }
-        ensures { λ r. ⌜ now r ≡ spec.columnsAt (spec.findKey sizes self key) (self .rows) (now (a .entry)) ⌝ }
+        requires { ⌜ spec.width sizes self * self .rows ≤ length (now a) ⌝ }
+        ensures { λ r. ⌜ now r ≡ spec.columnsAt (spec.find sizes self key .found) (self .rows) (now (a .entry)) ⌝ }
     {
-        let Found::Block(first, size) = self.find(sizes, key) else {
+        let looked = self.find(sizes, key);
+        let found = looked.found;
+        let Found::Block(first, size) = found else {
             return &a[0..0];
         };
         let rows = wide(self.rows);

@@ -1,12 +1,15 @@
 -- Inner: a job's factors, eliminated directly, and a job's graph, run several times.
-use Prim.Native.Nat.{ℕ, zero, suc, _+_}
+use Prim.Native.Nat.{ℕ, zero, suc, _+_, _*_}
 use mathlib.Core.List.{List}
 use lib.Ieee.{Float}
-use lib.ListN.{length}
+use lib.ListN.{length, take}
 use Rattle.matrix.specs.Sums.{plus-zero}
 use Rattle.root.specs.declared.Pivot.{Pivot}
 use Rattle.root.specs.declared.Pivot.the-variants as pivot
 use Rattle.workspace.specs.Frames.{work-numbers}
+use Rattle.factor.specs.Factor.{lookup}
+use Rattle.factor.specs.declared.lists.Place.{Place}
+use Rattle.factor.specs.declared.lists.Place.the-variants.{At, Nowhere}
 use Rattle.graph.specs.Refusals.{refusalNumber}
 use Rattle.graph.specs.declared.Graph.{Graph}
 use Rattle.records.specs.Records.{Reading, readAll}
@@ -62,3 +65,16 @@ replanned g (suc n) = length (planned g .plan .forward)
 abbrev pub rootIn : Pivot → Float
 rootIn (pivot.Root r) = r
 rootIn pivot.Refused = plus-zero
+
+-- the number of a place, and 255 for none
+abbrev pub placeNumber : Place → ℕ
+placeNumber (At j) = j
+placeNumber Nowhere = 255
+
+-- bytes that rise are no more than this
+abbrev pub most-rising : ℕ
+most-rising = 256
+
+-- the lookup of a key: how many keys were read, 256 times, and its place. Keys past those that can rise are not looked at.
+unfoldable pub lookupNumber : (keys : List ℕ) (key : ℕ) → ℕ
+lookupNumber keys key = let looked = lookup (take most-rising keys) key in 256 * looked .read + placeNumber (looked .place)

@@ -1,5 +1,8 @@
-// What the comparison with the original and the benchmark call beside `firmware`: reading, runs, plans and roots alone, a direct elimination.
+// What the comparison with the original and the benchmark call beside `firmware`: reading, runs, plans, roots and lookups alone, a direct elimination.
 use direct::Direct;
+use factor::lists::Place;
+use factor::lists::least;
+use factor::lists::lookup;
 use graph::Graph;
 use graph::refusal::code;
 use job::FACTOR_ROOM;
@@ -128,5 +131,23 @@ pub extern "C" fn strips_root(pivot: f64) -> f64
     match root::root(pivot) {
         Pivot::Root(r) => r,
         Pivot::Refused => 0.0,
+    }
+}
+
+// No list of bytes that rises is longer.
+const MOST_RISING: usize = 256;
+
+// The lookup of a key in keys that rise: 256 times the count of keys read, and the key's place, or 255 where it isn't there. Keys past those that
+// can rise are not looked at.
+#[no_mangle]
+pub extern "C" fn strips_lookup(keys: &[u8], key: usize) -> usize
+    ensures { λ r. ⌜ r ≡ spec.lookupNumber (now (keys .entry)) key ⌝ }
+{
+    let looked = lookup(&keys[0..least(MOST_RISING, keys.len())], key);
+    let read = 256 * looked.read;
+    let stands = looked.place;
+    match stands {
+        Place::At(place) => read + place,
+        Place::Nowhere => read + 255,
     }
 }

@@ -1,9 +1,8 @@
 -- Keys that are kept or cleared, each at most once, take no more columns than there are. Assumes nothing.
-use Prim.Native.Nat.{ℕ, zero, suc, _+_, _-_, _*_, _≤_, _<_}
+use Prim.Native.Nat.{ℕ, zero, suc, _+_, _*_, _≤_, _<_}
 use mathlib.Core.Path.{_≡_, refl, ap, sym, _∙_}
 use mathlib.Core.Bool.{Bool, true, false, cond, _||_, false≢true}
 use mathlib.Core.List.{List, [], _∷_}
-use native.Mathlib.Numerals.{add-one}
 use native.Mathlib.Omega.{arith}
 use native.Mathlib.Decide.{decLt}
 use native.Mathlib.Nat.{mul-le-mul}
@@ -12,8 +11,9 @@ use lib.Dec.{ltb, eqb}
 use lib.ListN.{length, getD}
 use Rattle.factor.specs.Limits.{max-variables, max-total}
 use Rattle.factor.specs.Counting.{sum}
-use Rattle.factor.specs.Factor.{above, rising, known, sizeOf}
+use Rattle.factor.specs.Factor.{rising, known, sizeOf}
 use Rattle.factor.proofs.Counting.{all-at, sum-ext, sum-le}
+use Rattle.factor.proofs.KeyOrder.{rising-below}
 use Rattle.graph.specs.Record.{total, valid}
 use Rattle.graph.specs.declared.Graph.{Graph}
 use Rattle.graph.proofs.Validity.{valid-variables, valid-total}
@@ -110,25 +110,6 @@ known-below n l h i b = ltb-true _ _ (all-at (λ j. ltb (getD l j 0) n) (length 
 abbrev Rises : List ℕ → Type 0
 Rises l = (a b : ℕ) → a < b → b < length l → getD l a 0 < getD l b 0
 
-next-above : (l : List ℕ) → rising l ≡ true → (b : ℕ) → b + 1 < length l → getD l b 0 < getD l (b + 1) 0
-unfolding above
-next-above l h b m =
-    let z : (b + 1 ≡ 0 → ⊥) = λ e. omega arith in
-    let d : b + 1 - 1 ≡ b = omega arith in
-    let a : ltb (getD l (b + 1 - 1) 0) (getD l (b + 1) 0) ≡ true = rw (ne-eqb (b + 1) 0 z) at (all-at (λ j. above l j) (length l) (b + 1) h m) in
-    ltb-true _ _ (rw d at a)
-
-rises : (l : List ℕ) → rising l ≡ true → Rises l
-rises l h a zero lt lb = absurd (omega arith)
-rises l h a (suc b) lt lb = go (decLt a b) (λ q. rises l h a b q (omega arith))
-  where
-    step : getD l b 0 < getD l (suc b) 0
-    step = rw add-one at (next-above l h b (omega arith))
-
-    go : Dec (a < b) → (a < b → getD l a 0 < getD l b 0) → getD l a 0 < getD l (suc b) 0
-    go (yes q) ih = omega (arith, ih q, step)
-    go (no q) ih = let e : a ≡ b = omega arith in rw e step
-
 none : (l : List ℕ) (key : ℕ) → ((i : ℕ) → i < length l → getD l i 0 ≡ key → ⊥) → times key l ≡ 0
 none [] key h = refl
 none (j ∷ l) key h = rw (ne-eqb j key (h 0 (omega arith))) (ap (λ (x : ℕ). 0 + x) (none l key (λ i b. h (suc i) (omega arith))))
@@ -164,5 +145,5 @@ module _ (n : ℕ) (cleared kept : List ℕ) (rc : rising cleared ≡ true) (rk 
       absent m i b e = false≢true (sym (rw e at (apart i b)) ∙ m)
 
       go : (b : Bool) → member key cleared ≡ b → times key cleared + times key kept ≤ 1
-      go true m = omega (arith, single cleared (rises cleared rc) key, none kept key (absent m))
-      go false m = omega (arith, times-member cleared key m, single kept (rises kept rk) key)
+      go true m = omega (arith, single cleared (rising-below cleared rc) key, none kept key (absent m))
+      go false m = omega (arith, times-member cleared key m, single kept (rising-below kept rk) key)

@@ -27,6 +27,7 @@ unsafe extern "C" {
     );
     fn strips_plan(job: *const u8, job_length: usize, times: usize) -> usize;
     fn strips_root(pivot: f64) -> f64;
+    fn strips_lookup(keys: *const u8, key_count: usize, key: usize) -> usize;
 }
 
 /// Room for the longest text.
@@ -73,6 +74,12 @@ pub fn plan(job: &[u8], times: usize) -> usize {
 pub fn root(pivot: f64) -> f64 {
     // A number in, a number out.
     unsafe { strips_root(pivot) }
+}
+
+/// The lookup of a key: 256 times the keys read, and its place, or 255 where it isn't there.
+pub fn lookup(keys: &[u8], key: usize) -> usize {
+    // The keys are lent whole, with their own length.
+    unsafe { strips_lookup(keys.as_ptr(), keys.len(), key) }
 }
 
 /// The mark of a refusal among the answers of `eliminate`.

@@ -1,73 +1,94 @@
--- `factor::Factor::find` meets its contract. The loop's invariant: the key is at no place passed, so the places that are left decide. Assumes nothing.
-use Prim.Native.Nat.{_*_, _+_, _-_, _≤_, ℕ}
+-- `factor::Factor::find` meets its contract: the block at the place that the lookup tells. Assumes nothing.
+use Prim.Native.Nat.{_-_, _<_, min, ℕ}
+use mathlib.Core.List.{List}
 use mathlib.Core.Path.{_∙_, _≡_, ap, sym}
 use native.Mathlib.Omega.{arith}
 use borrow.Author.Needs.{needs}
-use Rattle.factor.proofs.Blocks.{find-begun, find-here, find-none, find-past, first-more, first-none}
-use Rattle.factor.specs.Factor.{findKey, findFrom, firstColumn}
+use lib.ListN.{getD, length, length-take, take}
+use Rattle.factor.proofs.Lookups.{take-least, place-has}
+use Rattle.factor.specs.Factor.{find, firstColumn, lookup, sizeOf}
+use Rattle.factor.specs.Limits.{max-keys}
+use Rattle.factor.specs.declared.Factor.{Factor}
+use Rattle.factor.specs.declared.Found.the-variants.{Absent, Block}
+use Rattle.factor.specs.declared.Lookup.{Lookup}
+use Rattle.factor.specs.declared.lists.Looked.{Looked}
+use Rattle.factor.specs.declared.lists.Place.the-variants.{At, Nowhere}
 use Rattle.factor.proofs.Factor.find.Statement.{statement}
 use Rattle.factor.proofs.Factor.find.Tie as tie
 
-abbrev Inv-loop : tie.InvT-loop
-Inv-loop sizes key self first₀ place₀ place-end first place = (place ≤ place-end) × (place-end ≡ self .touched) × (first ≤ 255 * place) ×
-    (first ≡ firstColumn sizes (self .keys) place) × (findKey sizes self key ≡ findFrom sizes (self .keys) key place (self .touched - place))
+-- over plain values: the places lent are those of the factor's keys
+module _ (sizes : List ℕ) (f : Factor) (key touched used : ℕ) (r : Looked) (long : length (f .keys) ≡ max-keys) (et : touched ≡ f .touched)
+    (eu : used ≡ min touched max-keys) (er : r ≡ lookup (take (used - 0) (f .keys)) key) where
+  of-keys : r ≡ lookup (take (f .touched) (f .keys)) key
+  of-keys =
+      let d : used - 0 ≡ min (f .touched) (length (f .keys)) = rw (sym et, long) (omega arith) in
+      er ∙ ap (λ (l : List ℕ). lookup l key) (rw d (take-least (f .touched) (f .keys)))
 
-abbrev μ-loop : tie.MeasureT-loop
-μ-loop sizes key self first₀ place₀ place-end first place = place-end - place
+  absent : r .place ≡ Nowhere → _≡_ {A = Lookup} (record { found = Absent; read = r .read }) (find sizes f key)
+  absent n = rw (sym of-keys, n)
 
-loop-holds : tie.Need-loop-holds Inv-loop μ-loop
-loop-holds c =
-    let args = c .before .args in (
-      search needs,
-      c .wide .ensures,
-      search needs,
-      sym (first-none _ _),
-      find-begun (args .sizes) (args .t1 .keys) (args .key) (args .t1 .touched),
-    )
+  module _ (j : ℕ) (at : r .place ≡ At j) where
+    within : j < max-keys
+    within = omega (arith, place-has (take (f .touched) (f .keys)) key j (rw (sym of-keys) at) .0, length-take (f .touched) (f .keys))
 
-returns : tie.Need-returns Inv-loop μ-loop
+    present : (first here size : ℕ) → first ≡ firstColumn sizes (f .keys) j → here ≡ getD (f .keys) j 0 → size ≡ sizeOf sizes here
+        → _≡_ {A = Lookup} (record { found = Block first size; read = r .read }) (find sizes f key)
+    present first here size ef eh es = rw (sym of-keys, at, ef, es, eh)
+
+part-lookup-end : tie.Need-part-lookup-end
+part-lookup-end c =
+    let long : length (c .before .before .before .before .args .self .keys) ≡ max-keys = search needs in omega (arith, c .before .least .ensures)
+
+returns : tie.Need-returns
 returns c =
-    let wide2 = c .before .before .wide2 in
-    let args = c .before .before .before .before .before .before .before .args in
-    let loop = c .before .before .before .before .before .loop in
-    find-here (args .sizes) (args .t1 .keys) (args .key) (loop .place) (args .t1 .touched) (loop .first) (wide2 .result) (c .before .size-of .result)
-    _ (omega (arith, loop .inv .1)) (wide2 .ensures) (c .before .size-of .ensures .0) (loop .inv .3) (c .if1 .taken) (loop .inv .4)
+    let least = c .before .before .before .before .before .least in
+    let lookup = c .before .before .lookup in
+    let args = c .before .before .before .before .before .before .before .before .args in
+    absent (args .sizes) (args .self) (args .key) _ (least .result) (lookup .result) (search needs)
+    (c .before .before .before .before .before .before .wide .ensures) (least .ensures) (lookup .ensures)
+    (c .enum-told .given .1)
 
-add-first : tie.Need-add-first Inv-loop μ-loop
-add-first c =
-    let loop = c .before .before .before .before .before .loop in
-    omega (arith, c .before .size-of .ensures .1, loop .inv .2, loop .inv .1, c .before .before .before .before .before .before .before .pre)
+first-column-requires : tie.Need-first-column-requires
+first-column-requires c κs =
+    let lookup = c .before .before .before .lookup in
+    let least = c .before .before .before .before .before .before .least in
+    let args = c .before .before .before .before .before .before .before .before .before .args in
+    let l : c .before .stands .given .0 .0 < max-keys = within (args .sizes) (args .self) (args .key) _ (least .result) (lookup .result)
+    (search needs) (c .before .before .before .before .before .before .before .wide .ensures) (least .ensures) (lookup .ensures) _
+    (c .before .stands .given .1) in
+    omega arith
 
-loop-again : tie.Need-loop-again Inv-loop μ-loop
-loop-again c =
-    let args = c .before .before .before .before .before .before .before .args in
-    let loop = c .before .before .before .before .before .loop in
-    let wide2 = c .before .before .wide2 in
-    let size-of = c .before .size-of in (
-      omega arith,
-      loop .inv .1,
-      omega (arith, size-of .ensures .1, loop .inv .2),
-      ap (λ (x : ℕ). x + size-of .result) (loop .inv .3) ∙ sym (first-more (args .sizes) (args .t1 .keys) (loop .place) (wide2 .result) (size-of .result)
-          (wide2 .ensures) (size-of .ensures .0)),
-      find-past (args .sizes) (args .t1 .keys) (args .key) (loop .place) (args .t1 .touched) (wide2 .result) _ (omega (arith, loop .inv .1))
-          (wide2 .ensures) (c .if1 .left) (loop .inv .4),
-    )
+array-read-wide : tie.Need-array-read-wide
+array-read-wide c =
+    let lookup = c .before .before .before .before .lookup in
+    let least = c .before .before .before .before .before .before .before .least in
+    let args = c .before .before .before .before .before .before .before .before .before .before .args in
+    within (args .sizes) (args .self) (args .key) _ (least .result) (lookup .result) (search needs)
+    (c .before .before .before .before .before .before .before .before .wide .ensures) (least .ensures) (lookup .ensures) _
+    (c .before .before .stands .given .1)
 
-returns-2 : tie.Need-returns-2 Inv-loop μ-loop
+returns-2 : tie.Need-returns-2
 returns-2 c =
-    let loop = c .before .loop in
-    let args = c .before .before .before .args in
-    find-none (args .sizes) (args .t1 .keys) (args .key) (loop .place) (args .t1 .touched) _ (omega (arith, loop .inv .1)) (loop .inv .4)
+    let lookup = c .before .before .before .before .before .before .lookup in
+    let least = c .before .before .before .before .before .before .before .before .before .least in
+    let args = c .before .before .before .before .before .before .before .before .before .before .before .before .args in
+    present (args .sizes) (args .self) (args .key) _ (least .result) (lookup .result) (search needs)
+    (c .before .before .before .before .before .before .before .before .before .before .wide .ensures) (least .ensures) (lookup .ensures) _
+    (c .before .before .before .before .stands .given .1) _ (c .before .wide2 .result) _ (c .before .before .first-column .ensures .0)
+    (c .before .wide2 .ensures) (c .size-of .ensures .0)
 
 pub find-spec : {M : Type 1} → statement M
 find-spec =
-    tie.close (tie.spec Inv-loop μ-loop
+    tie.close (tie.spec
     (λ c κs. search needs)  -- wide-requires
-    loop-holds
-    (λ c. omega (arith, c .before .loop .inv .1, c .before .before .before .pre))  -- element-copy-out-wide
+    (λ c κs. search needs)  -- least-requires
+    (λ c. search needs)  -- sub-lookup
+    (λ c. search needs)  -- part-lookup-start
+    part-lookup-end
+    (λ c κs. search needs)  -- lookup-requires
+    (λ c. search needs)  -- enum-known-stands
+    (λ c. search needs)  -- enum-told
+    returns first-column-requires array-read-wide
     (λ c κs. search needs)  -- wide-requires-2
     (λ c κs. search needs)  -- size-of-requires
-    returns add-first
-    (λ c. search needs)  -- add-place
-    (λ c. search needs)  -- loop-less
-    loop-again returns-2)
+    returns-2)
