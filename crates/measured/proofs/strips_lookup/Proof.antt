@@ -31,6 +31,32 @@ module _ (keys : List ℕ) (key used : ℕ) (r : Looked) (eu : used ≡ min most
   unfolding lookupNumber
   told p e = rw (sym of-rising, e)
 
+-- the same where the lookup has answered
+few : (c : tie.After-struct-known) → c .before .lookup .result .read ≤ most-rising
+few c =
+    let least = c .before .before .before .least in
+    let args = c .before .before .before .before .before .args in
+    read-few (args .keys .now) (args .key) (least .result) (c .before .lookup .result) (least .ensures) (c .before .lookup .ensures)
+
+number : (c : tie.After-struct-known) (p : Place) → c .before .lookup .result .place ≡ p → 256 * c .before .lookup .result .read + placeNumber p
+    ≡ lookupNumber (c .before .before .before .before .before .args .keys .now) (c .before .before .before .before .before .args .key)
+number c =
+    let least = c .before .before .before .least in
+    let args = c .before .before .before .before .before .args in
+    told (args .keys .now) (args .key) (least .result) (c .before .lookup .result) (least .ensures) (c .before .lookup .ensures)
+
+add-result : tie.Need-add-result
+add-result c =
+    let known = c .before .before .before in
+    let least = known .before .before .before .least in
+    let args = known .before .before .before .before .before .args in
+    omega (
+      arith,
+      few known,
+      place-few (args .keys .now) (args .key) (least .result) (known .before .lookup .result) (least .ensures) (known .before .lookup .ensures)
+          (c .before .stands .given .0 .0) (c .before .stands .given .1),
+    )
+
 pub strips-lookup-spec : {M : Type 1} → statement M
 strips-lookup-spec =
     tie.close (tie.spec
@@ -39,10 +65,10 @@ strips-lookup-spec =
     (λ c. search needs)  -- part-lookup-start
     (λ c. search needs)  -- part-lookup-end
     (λ c κs. search needs)  -- lookup-requires
-    (λ c. ?)  -- mul-read
+    (λ c. omega (arith, few c))  -- mul-read
     (λ c. search needs)  -- enum-known-stands
-    (λ c. ?)  -- add-result
+    add-result
     (λ c. search needs)  -- enum-told
-    (λ c. ?)  -- add-result-2
-    (λ c. ?)  -- returns
-    (λ c. ?))  -- returns-2
+    (λ c. omega (arith, few (c .before .before)))  -- add-result-2
+    (λ c. number (c .before .before .before) _ (c .before .stands .given .1))  -- returns
+    (λ c. number (c .before .before) _ (c .enum-told .given .1)))  -- returns-2

@@ -27,8 +27,8 @@ returns-2 c =
     let wide = c .before .before .wide in
     let loop = c .before .before .before .before .before .loop in
     let args = c .before .before .before .before .before .before .before .args in
-    found-here (args .keys .now) (args .key) (loop .place) (wide .result) (loop .inv .2) (wide .ensures) (omega (arith, loop .inv .1)) (c .before .if1 .taken)
-    (c .if2 .left)
+    found-here (args .keys .now) (args .key) (loop .place) (wide .result) (loop .inv .2) (wide .ensures) (omega (arith, loop .inv .1))
+    (omega (arith, c .before .if1 .taken)) (c .if2 .left)
 
 loop-again : tie.Need-loop-again Inv-loop μ-loop
 loop-again c =
@@ -37,7 +37,8 @@ loop-again c =
     let args = c .before .before .before .before .before .before .args in (
       omega arith,
       loop .inv .1,
-      passed (args .keys .now) (args .key) (loop .place) (wide .result) (loop .inv .2) (wide .ensures) (omega (arith, loop .inv .1)) (c .if1 .left),
+      passed (args .keys .now) (args .key) (loop .place) (wide .result) (loop .inv .2) (wide .ensures) (omega (arith, loop .inv .1))
+          (omega (arith, c .if1 .left)),
     )
 
 returns-3 : tie.Need-returns-3 Inv-loop μ-loop
