@@ -70,7 +70,7 @@ pub struct Looked {
     pub read: usize,
 }
 
-// Looks for a key in a list of keys that rises: the first key that isn't below it ends the search.
+// Looks for a key in keys that rise: the first that isn't below it ends the search.
 pub fn lookup(keys: &[u8], key: usize) -> Looked
     ensures { λ r. ⌜ r ≡ spec.lookup (now (keys .entry)) key ⌝ }
 {

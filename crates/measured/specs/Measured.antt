@@ -1,4 +1,4 @@
--- Inner: a job's factors, eliminated directly, and a job's graph, run several times.
+-- Inner: a job's factors, eliminated directly, and a job's graph, run several times; roots and lookups as numbers.
 use Prim.Native.Nat.{ℕ, zero, suc, _+_, _*_}
 use mathlib.Core.List.{List}
 use lib.Ieee.{Float}
