@@ -1,23 +1,26 @@
 -- The lookup of a key, and what it answers where keys rise: the same as a search through all of them, and how many keys were read. Assumes nothing.
-use Prim.Native.Nat.{ℕ, zero, suc, _+_, _<_, _≤_, min}
+use Prim.Native.Nat.{ℕ, zero, suc, _+_, _-_, _<_, _≤_, min}
 use mathlib.Core.Path.{_≡_, refl, sym, ap, _∙_}
 use mathlib.Core.Bool.{Bool, true, false, cond}
 use mathlib.Core.List.{List, [], _∷_}
-use native.Mathlib.Nat.{min-le-left, min-eq-left, min-eq-right}
+use native.Mathlib.Nat.{min-eq-left, min-eq-right}
 use native.Mathlib.Omega.{arith}
 use native.Mathlib.Decide.{decLt}
 use borrow.Author.Tests.{ltb-true, ltb-false, lt-ltb, le-ltb, eq-eqb, eqb-true, ne-eqb}
 use lib.Dec.{ltb, eqb}
 use lib.ListN.{getD, length, take, length-take}
 use lib.Seq.{length-take-le, getD-take, take-all, take-length}
+use Rattle.factor.specs.Limits.{max-keys}
 use Rattle.factor.specs.Counting.{sum}
-use Rattle.factor.specs.Factor.{rising, below, looked, lookup, keyAt, sizeOf, firstColumn, width, blockAt, find, findKey}
+use Rattle.factor.specs.Factor.{rising, below, looked, lookup, keyAt, sizeOf, fits, firstColumn, width, blockAt, find, findKey}
 use Rattle.factor.specs.declared.Factor.{Factor}
 use Rattle.factor.specs.declared.Found.the-variants.{Block}
 use Rattle.factor.specs.declared.lists.Place.{Place}
 use Rattle.factor.specs.declared.lists.Place.the-variants.{At, Nowhere}
+use Rattle.factor.specs.declared.lists.Looked.{Looked}
 use Rattle.factor.proofs.Counting.{sum-ext, sum-ones, sum-stop}
 use Rattle.factor.proofs.Blocks.{block-ends}
+use Rattle.factor.proofs.Fitting.{fits-touched, touches-rising}
 use Rattle.factor.proofs.KeyOrder.{rising-below, find-first, find-absent}
 
 -- ---- the keys before the end of the search
@@ -163,26 +166,35 @@ module _ (keys : List ℕ) (key : ℕ) where
     pub read-counted : let n = sum (λ i. cond (ltb (getD keys i 0) key) 1 0) (length keys) in lookup keys key .read ≡ n + cond (ltb n (length keys)) 1 0
     read-counted = rw below-counted read-is
 
--- ---- of a factor
+-- ---- among the first n keys, or all where there are fewer
 
--- no more keys can be taken than there are
-pub take-least : (n : ℕ) (l : List ℕ) → take (min n (length l)) l ≡ take n l
+take-least : (n : ℕ) (l : List ℕ) → take (min n (length l)) l ≡ take n l
 take-least n l = go (decLt n (length l))
   where
     go : Dec (n < length l) → take (min n (length l)) l ≡ take n l
     go (yes q) = let h : n ≤ length l = omega arith in ap (λ (m : ℕ). take m l) (min-eq-left h)
     go (no q) = let h : length l ≤ n = omega arith in ap (λ (m : ℕ). take m l) (min-eq-right h) ∙ take-length l ∙ sym (take-all n l h)
 
+module _ (l : List ℕ) (key n : ℕ) where
+  -- as many as there are were lent
+  pub lent : (used : ℕ) (r : Looked) → used ≡ min n (length l) → r ≡ lookup (take (used - 0) l) key → r ≡ lookup (take n l) key
+  lent used r eu er = let d : used - 0 ≡ min n (length l) = omega arith in er ∙ ap (λ (k : List ℕ). lookup k key) (rw d (take-least n l))
+
+  pub place-within : (j : ℕ) → lookup (take n l) key .place ≡ At j → (j < n) × (j < length l)
+  place-within j h = let b : j < length (take n l) = place-has (take n l) key j h .0 in (omega (arith, length-take n l), omega (arith, length-take n l))
+
+  pub few-read : lookup (take n l) key .read ≤ n
+  few-read = omega (arith, read-within (take n l) key, length-take n l)
+
+-- ---- of a factor
+
 module _ (sizes : List ℕ) (f : Factor) (key : ℕ) where
   -- the keys that it touches
   abbrev keys : List ℕ
   keys = take (f .touched) (f .keys)
 
-  within : length keys ≤ f .touched
-  within = rw (length-take (f .touched) (f .keys)) (min-le-left (f .touched) (length (f .keys)))
-
   told-within : (j : ℕ) → lookup keys key .place ≡ At j → j < f .touched
-  told-within j h = omega (arith, place-has keys key j h .0, within)
+  told-within j h = place-within (f .keys) key (f .touched) j h .0
 
   -- a block that is found ends within the width
   pub found-ends : (first size : ℕ) → find sizes f key .found ≡ Block first size → first + size ≤ width sizes f
@@ -221,3 +233,7 @@ module _ (sizes : List ℕ) (f : Factor) (key : ℕ) where
         let s : sum (λ i. cond (ltb (getD keys i 0) key) 1 0) (f .touched) ≡ sum (λ i. cond (ltb (keyAt f i) key) 1 0) (f .touched) =
         sum-ext _ _ (f .touched) (λ i l. rw (getD-take (f .touched) (f .keys) i 0 l)) in
         rw (sym s) (rw long at (read-counted keys key up))
+
+  -- a record that a registering call makes has such keys
+  pub find-registered : (variables : ℕ) → length (f .keys) ≡ max-keys → fits sizes variables f ≡ true → find sizes f key .found ≡ findKey sizes f key
+  find-registered variables long h = find-as-before (omega (arith, fits-touched sizes variables f h)) (touches-rising sizes variables f long h)

@@ -1,11 +1,11 @@
 -- `factor::Factor::find` meets its contract: the block at the place that the lookup tells. Assumes nothing.
-use Prim.Native.Nat.{_-_, _<_, min, ℕ}
+use Prim.Native.Nat.{_<_, ℕ}
 use mathlib.Core.List.{List}
-use mathlib.Core.Path.{_∙_, _≡_, ap, sym}
+use mathlib.Core.Path.{_≡_, sym}
 use native.Mathlib.Omega.{arith}
 use borrow.Author.Needs.{needs}
-use lib.ListN.{getD, length, length-take, take}
-use Rattle.factor.proofs.Lookups.{take-least, place-has}
+use lib.ListN.{getD, length, take}
+use Rattle.factor.proofs.Lookups.{lent, place-within}
 use Rattle.factor.specs.Factor.{find, firstColumn, lookup, sizeOf}
 use Rattle.factor.specs.Limits.{max-keys}
 use Rattle.factor.specs.declared.Factor.{Factor}
@@ -16,24 +16,31 @@ use Rattle.factor.specs.declared.lists.Place.the-variants.{At, Nowhere}
 use Rattle.factor.proofs.Factor.find.Statement.{statement}
 use Rattle.factor.proofs.Factor.find.Tie as tie
 
--- over plain values: the places lent are those of the factor's keys
-module _ (sizes : List ℕ) (f : Factor) (key touched used : ℕ) (r : Looked) (long : length (f .keys) ≡ max-keys) (et : touched ≡ f .touched)
-    (eu : used ≡ min touched max-keys) (er : r ≡ lookup (take (used - 0) (f .keys)) key) where
-  of-keys : r ≡ lookup (take (f .touched) (f .keys)) key
-  of-keys =
-      let d : used - 0 ≡ min (f .touched) (length (f .keys)) = rw (sym et, long) (omega arith) in
-      er ∙ ap (λ (l : List ℕ). lookup l key) (rw d (take-least (f .touched) (f .keys)))
-
+-- over plain values: the two ways out
+module _ (sizes : List ℕ) (f : Factor) (key : ℕ) (r : Looked) (e : r ≡ lookup (take (f .touched) (f .keys)) key) where
   absent : r .place ≡ Nowhere → _≡_ {A = Lookup} (record { found = Absent; read = r .read }) (find sizes f key)
-  absent n = rw (sym of-keys, n)
+  absent n = rw (sym e, n)
 
-  module _ (j : ℕ) (at : r .place ≡ At j) where
-    within : j < max-keys
-    within = omega (arith, place-has (take (f .touched) (f .keys)) key j (rw (sym of-keys) at) .0, length-take (f .touched) (f .keys))
+  present : (j first here size : ℕ) → r .place ≡ At j → first ≡ firstColumn sizes (f .keys) j → here ≡ getD (f .keys) j 0 → size ≡ sizeOf sizes here
+      → _≡_ {A = Lookup} (record { found = Block first size; read = r .read }) (find sizes f key)
+  present j first here size at ef eh es = rw (sym e, at, ef, es, eh)
 
-    present : (first here size : ℕ) → first ≡ firstColumn sizes (f .keys) j → here ≡ getD (f .keys) j 0 → size ≡ sizeOf sizes here
-        → _≡_ {A = Lookup} (record { found = Block first size; read = r .read }) (find sizes f key)
-    present first here size ef eh es = rw (sym of-keys, at, ef, es, eh)
+  within : (j : ℕ) → r .place ≡ At j → j < length (f .keys)
+  within j at = place-within (f .keys) key (f .touched) j (rw (sym e) at) .1
+
+abbrev entry : tie.After-lookup → tie.Start
+entry c = c .before .before .before .before .before .before
+
+full : (c : tie.After-lookup) → length (entry c .args .self .keys) ≡ max-keys
+full c = search needs
+
+-- the places lent are those of the factor's keys
+of-keys : (c : tie.After-lookup) → c .lookup .result ≡ lookup (take (entry c .args .self .touched) (entry c .args .self .keys)) (entry c .args .key)
+of-keys c =
+    let args = entry c .args in
+    let least = c .before .before .before .least in
+    lent (args .self .keys) (args .key) (args .self .touched) (least .result) (c .lookup .result)
+    (omega (arith, least .ensures, c .before .before .before .before .wide .ensures, full c)) (c .lookup .ensures)
 
 part-lookup-end : tie.Need-part-lookup-end
 part-lookup-end c =
@@ -41,41 +48,32 @@ part-lookup-end c =
 
 returns : tie.Need-returns
 returns c =
-    let least = c .before .before .before .before .before .least in
-    let lookup = c .before .before .lookup in
-    let args = c .before .before .before .before .before .before .before .before .args in
-    absent (args .sizes) (args .self) (args .key) _ (least .result) (lookup .result) (search needs)
-    (c .before .before .before .before .before .before .wide .ensures) (least .ensures) (lookup .ensures)
-    (c .enum-told .given .1)
+    let at = c .before .before in
+    absent (entry at .args .sizes) (entry at .args .self) (entry at .args .key) (at .lookup .result) (of-keys at) (c .enum-told .given .1)
 
 first-column-requires : tie.Need-first-column-requires
 first-column-requires c κs =
-    let lookup = c .before .before .before .lookup in
-    let least = c .before .before .before .before .before .before .least in
-    let args = c .before .before .before .before .before .before .before .before .before .args in
-    let l : c .before .stands .given .0 .0 < max-keys = within (args .sizes) (args .self) (args .key) _ (least .result) (lookup .result)
-    (search needs) (c .before .before .before .before .before .before .before .wide .ensures) (least .ensures) (lookup .ensures) _
-    (c .before .stands .given .1) in
-    omega arith
+    let at = c .before .before .before in
+    let args = entry at .args in
+    omega (
+      arith,
+      full at,
+      within (args .sizes) (args .self) (args .key) (at .lookup .result) (of-keys at) (c .before .stands .given .0 .0)
+          (c .before .stands .given .1),
+    )
 
 array-read-wide : tie.Need-array-read-wide
 array-read-wide c =
-    let lookup = c .before .before .before .before .lookup in
-    let least = c .before .before .before .before .before .before .before .least in
-    let args = c .before .before .before .before .before .before .before .before .before .before .args in
-    within (args .sizes) (args .self) (args .key) _ (least .result) (lookup .result) (search needs)
-    (c .before .before .before .before .before .before .before .before .wide .ensures) (least .ensures) (lookup .ensures) _
-    (c .before .before .stands .given .1)
+    let at = c .before .before .before .before in
+    let args = entry at .args in
+    rw (sym (full at)) (within (args .sizes) (args .self) (args .key) (at .lookup .result) (of-keys at) _ (c .before .before .stands .given .1))
 
 returns-2 : tie.Need-returns-2
 returns-2 c =
-    let lookup = c .before .before .before .before .before .before .lookup in
-    let least = c .before .before .before .before .before .before .before .before .before .least in
-    let args = c .before .before .before .before .before .before .before .before .before .before .before .before .args in
-    present (args .sizes) (args .self) (args .key) _ (least .result) (lookup .result) (search needs)
-    (c .before .before .before .before .before .before .before .before .before .before .wide .ensures) (least .ensures) (lookup .ensures) _
-    (c .before .before .before .before .stands .given .1) _ (c .before .wide2 .result) _ (c .before .before .first-column .ensures .0)
-    (c .before .wide2 .ensures) (c .size-of .ensures .0)
+    let at = c .before .before .before .before .before .before in
+    let args = entry at .args in
+    present (args .sizes) (args .self) (args .key) (at .lookup .result) (of-keys at) _ _ (c .before .wide2 .result) _
+    (c .before .before .before .before .stands .given .1) (c .before .before .first-column .ensures .0) (c .before .wide2 .ensures) (c .size-of .ensures .0)
 
 pub find-spec : {M : Type 1} → statement M
 find-spec =
