@@ -11,7 +11,7 @@ use lib.ListN.{length, getD, set, replicate, take, length-replicate, length-appe
 use lib.Seq.{getD-set-other, getD-append-add, getD-take, length-take-le, ext-getD}
 use Rattle.factor.specs.Limits.{max-keys, max-rows}
 use Rattle.factor.specs.Counting.{every}
-use Rattle.factor.specs.Factor.{keyAt, sizeOf, above, rising, known, noFactor, priorOf, observationOf, keyFits, rowsFit, fits, isClear}
+use Rattle.factor.specs.Factor.{keyAt, sizeOf, above, rising, known, noFactor, priorOf, observationOf, withLive, keyFits, rowsFit, fits, isClear}
 use Rattle.factor.specs.declared.Factor.{Factor}
 use Rattle.factor.proofs.Counting.{every-at, every-2, every-3, pick-true, pick-false, by-test, all-at, all-of}
 
@@ -162,27 +162,33 @@ module _ (keys : List ℕ) where
         every-3 _ _ _ (le-leb _ _ few) (every-2 _ _ (le-leb _ _ some) (le-leb _ _ most))
         (all-of (λ j. keyFits n (observationOf keys y) j) max-keys (λ j m. observation-key j))
 
--- ---- a record that fits is one that a call makes
+-- ---- a record that fits is, but for its live state, one that a call makes
 
 pub clear-is : (f : Factor) → length (f .keys) ≡ max-keys → isClear f ≡ true → f ≡ noFactor
 unfolding isClear
 clear-is f n e =
     let p : f .prior ≡ false = not-true (f .prior) (every-at _ 0 e) in
-    let t : f .touched ≡ 0 = eqb-true (f .touched) 0 (every-at _ 1 e) in
-    let r : f .rows ≡ 0 = eqb-true (f .rows) 0 (every-at _ 2 e) in
+    let a : f .live ≡ false = not-true (f .live) (every-at _ 1 e) in
+    let t : f .touched ≡ 0 = eqb-true (f .touched) 0 (every-at _ 2 e) in
+    let r : f .rows ≡ 0 = eqb-true (f .rows) 0 (every-at _ 3 e) in
     let k : f .keys ≡ replicate max-keys 0 =
     ext-getD 0 (f .keys) (replicate max-keys 0) n (λ j l. eqb-true (keyAt f j) 0
-    (all-at (λ i. eqb (keyAt f i) 0) max-keys j (every-at _ 3 e) (omega arith)) ∙ sym (zeros max-keys j)) in
-    λ i. record { prior = p i; touched = t i; rows = r i; keys = k i }
+    (all-at (λ i. eqb (keyAt f i) 0) max-keys j (every-at _ 4 e) (omega arith)) ∙ sym (zeros max-keys j)) in
+    λ i. record { prior = p i; touched = t i; rows = r i; keys = k i; live = a i }
+
+-- fitting doesn't look at the live state
+pub fits-live : (sizes : List ℕ) (n : ℕ) (f : Factor) (b : Bool) → fits sizes n (withLive f b) ≡ fits sizes n f
+unfolding fits rowsFit keyFits
+fits-live sizes n f b = refl
 
 module _ (sizes : List ℕ) (n : ℕ) (f : Factor) (long : length (f .keys) ≡ max-keys) (h : fits sizes n f ≡ true) where
-  pub prior-is : f .prior ≡ true → f ≡ priorOf (keyAt f 0) (sizeOf sizes (keyAt f 0))
+  pub prior-is : f .prior ≡ true → withLive f true ≡ priorOf (keyAt f 0) (sizeOf sizes (keyAt f 0))
   prior-is p =
       let t : f .touched ≡ 1 = prior-touched sizes n f h p in
       let r : f .rows ≡ sizeOf sizes (keyAt f 0) = prior-rows sizes n f h p in
       let k : f .keys ≡ set (replicate max-keys 0) 0 (keyAt f 0) = ext-getD 0 (f .keys) (set (replicate max-keys 0) 0 (keyAt f 0)) long
       (λ j l. go j (omega arith) t) in
-      λ i. record { prior = p i; touched = t i; rows = r i; keys = k i }
+      λ i. record { prior = p i; touched = t i; rows = r i; keys = k i; live = true }
     where
       go : (j : ℕ) → j < max-keys → f .touched ≡ 1 → keyAt f j ≡ getD (set (replicate max-keys 0) 0 (keyAt f 0)) j 0
       go zero l t = refl
@@ -215,13 +221,13 @@ module _ (sizes : List ℕ) (n : ℕ) (f : Factor) (long : length (f .keys) ≡ 
       there : (j : ℕ) → j < f .touched → ltb (getD touches j 0) n ≡ true
       there j l = ap (λ (x : ℕ). ltb x n) (touches-at j l) ∙ lt-ltb _ _ (fits-key sizes n f h j l)
 
-  pub observation-is : f .prior ≡ false → f ≡ observationOf touches (f .rows)
+  pub observation-is : f .prior ≡ false → withLive f true ≡ observationOf touches (f .rows)
   observation-is p =
       let few : length touches ≤ max-keys = omega (arith, touches-long, fits-touched sizes n f h) in
       let k : f .keys ≡ touches ++ replicate (max-keys - length touches) 0 =
       ext-getD 0 (f .keys) (touches ++ replicate (max-keys - length touches) 0) (long ∙ sym (observation-long touches few))
       (λ j l. go j (omega arith) (decLt j (f .touched))) in
-      λ i. record { prior = p i; touched = sym touches-long i; rows = f .rows; keys = k i }
+      λ i. record { prior = p i; touched = sym touches-long i; rows = f .rows; keys = k i; live = true }
     where
       go : (j : ℕ) → j < max-keys → Dec (j < f .touched) → keyAt f j ≡ getD (touches ++ replicate (max-keys - length touches) 0) j 0
       go j l (yes m) = sym (key-in touches (max-keys - length touches) j (omega (arith, touches-long)) ∙ touches-at j m)

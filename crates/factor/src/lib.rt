@@ -17,11 +17,13 @@ ghost use Rattle.factor.specs.Limits.{max-keys, max-variables, most-numb
 ghost use Rattle.factor.specs.Factor as spec;
 
 // A prior or an observation: its keys stand in the first places, rising, and unused places are 0. A prior has one key and that key's size as rows.
+// It is live until another factor supersedes it.
 pub struct Factor {
     pub prior: bool,
     pub touched: u8,
     pub rows: u8,
     pub keys: [u8; KEYS],
+    pub live: bool,
 }
 
 // The block of a key: its first column and its size.
@@ -62,6 +64,7 @@ pub fn prior_of(key: usize, size: usize) -> Factor
         touched: 1,
         rows: size as u8,
         keys: keys,
+        live: true,
     }
 }
 
@@ -79,6 +82,7 @@ pub fn observation_of(keys: &[usize], rows: usize) -> Factor
         touched: keys.len() as u8,
         rows: rows as u8,
         keys: packed,
+        live: true,
     }
 }
 
@@ -139,6 +143,9 @@ impl Factor {
         ensures { λ r. ⌜ (r ≡ spec.isClear self) × (length (self .keys) ≡ max-keys) ⌝ }
     {
         if self.prior {
+            return false;
+        }
+        if self.live {
             return false;
         }
         if self.touched != 0 {

@@ -1,6 +1,6 @@
 -- `factor::observation_of` meets its contract. The loop's invariant: the keys passed stand in the first places, and the others hold 0. Assumes nothing.
 use Prim.Native.Nat.{_+_, _-_, _<_, _≤_, suc, ℕ}
-use mathlib.Core.Bool.{false}
+use mathlib.Core.Bool.{false, true}
 use mathlib.Core.List.{List, _++_}
 use mathlib.Core.Path.{_∙_, _≡_, ap, refl, sym}
 use native.Mathlib.Numerals.{add-one}
@@ -59,7 +59,7 @@ returns : tie.Need-returns Inv-loop μ-loop
 returns c =
     let args = c .before .before .args in
     let loop = c .before .loop in
-    ap (λ (k : List ℕ). record { prior = false; touched = length (args .keys .now); rows = args .rows; keys = k })
+    ap (λ (k : List ℕ). record { prior = false; touched = length (args .keys .now); rows = args .rows; keys = k; live = true })
     (pack-done (args .keys .now) (loop .packed) (loop .place) max-keys (omega (arith, loop .inv .1)) (loop .inv .2))
 
 pub observation-of-spec : {M : Type 1} → statement M
