@@ -27,7 +27,7 @@ use Rattle.graph.specs.declared.refusal.Refusal.the-variants.{NotALetter
 use Rattle.graph.specs.declared.refusal.Refusal.the-variants.{VariancePivot, NameTaken, NoSuchKey, PastLimit, FactorStoreShort, NotSymmetric, NoSuchGraph}
 
 -- a check passes or fails
-by : (b : Bool) {P : Type 0} → (b ≡ true → P) → (b ≡ false → P) → P
+pub by : (b : Bool) {P : Type 0} → (b ≡ true → P) → (b ≡ false → P) → P
 by true f h = f refl
 by false f h = h refl
 
@@ -191,10 +191,11 @@ module _ (g : Graph) (f : Factor) (a mean variance : ℕ) (h : lengthsFit (g .si
   unfolding lengthsFit
   variance-long = eqb-true _ _ (every-at _ 2 h)
 
--- a factor that is taken: its record fits, all checks passed, and it is stored as A, xi and W
+-- a factor that is taken: its record fits and is live, all checks passed, and it is stored as A, xi and W
 pub record Taken (g : Graph) (f : Factor) (a mean variance store xi w : List Float) : Type 0 where
   pub fit : fits (g .sizes) (g .variables) f ≡ true
   pub long : length (f .keys) ≡ max-keys
+  pub alive : f .live ≡ true
   pub passed : Passed g f a mean variance store
   pub weighing : exchanged (f .rows) mean variance ≡ form xi w
 
@@ -222,7 +223,7 @@ module _ (g : Graph) (key : ℕ) (mean variance store : List Float) where
       (λ h30. by-lt key (g .variables)
       (λ l. rw (prior-as h30 l)
       (factor-cases g (priorOf key (sizeAt g key)) [] mean variance store P back
-      (λ p xi w e. taken xi w (record { fit = prior-fits (g .sizes) (g .variables) key l; long = refl; passed = p; weighing = e }))))
+      (λ p xi w e. taken xi w (record { fit = prior-fits (g .sizes) (g .variables) key l; long = refl; alive = refl; passed = p; weighing = e }))))
       (λ l. rw (no-key h30 l) (back _)))
       (λ h. rw (no-graph-prior h) (back _))
 
@@ -284,7 +285,13 @@ module _ (g : Graph) (keys : List ℕ) (rows : ℕ) (a mean variance store : Lis
       (λ h3. by (known (g .variables) keys)
       (λ h11. rw (observation-as h30 h4 h3 h11)
       (factor-cases g (observationOf keys rows) a mean variance store P back
-      (λ p xi w e. taken xi w (record { fit = counted-fits g keys rows h4 h3 h11; long = observation-long keys (few-keys _ _ h4); passed = p; weighing = e }))))
+      (λ p xi w e. taken xi w (record {
+        fit = counted-fits g keys rows h4 h3 h11;
+        long = observation-long keys (few-keys _ _ h4);
+        alive = refl;
+        passed = p;
+        weighing = e;
+      }))))
       (λ h. rw (not-known h30 h4 h3 h) (back _)))
       (λ h. rw (not-rising h30 h4 h) (back _)))
       (λ h. rw (outside h30 h) (back _)))

@@ -5,9 +5,11 @@ use mathlib.Core.Path.{_≡_, refl, ap}
 use mathlib.Core.Bool.{true}
 use mathlib.Core.List.{[], _∷_}
 use lib.Ieee.{Float, nan, inf, binary64, ofBits}
-use Rattle.factor.specs.Factor.{observationOf}
+use lib.ListN.{replicate}
+use Rattle.factor.specs.Limits.{max-factors}
+use Rattle.factor.specs.Factor.{noFactor, observationOf}
 use Rattle.factor.specs.Told.{value, refusal}
-use Rattle.graph.specs.Record.{fresh}
+use Rattle.graph.specs.Record.{noName, fresh}
 use Rattle.graph.specs.Registration.{refused, settle, FactorVerdict, accept, refuse, addVariable, priorVerdict, addPrior, priorStore, observationVerdict}
 use Rattle.graph.specs.Registration.{addObservation, observationStore}
 use Rattle.graph.specs.Told.{callTold}
@@ -40,7 +42,19 @@ minus-one = float 0xBFF0000000000000
 -- keys 0 and 1 of size 1
 unfoldable pair : Graph
 unfolding computedCall
-pair = addVariable (addVariable fresh (97, 0) 1 .graph) (97, 1) 1 .graph
+pair =
+    record {
+      symbols = (97, 0) ∷ (97, 1) ∷ replicate 30 noName;
+      sizes = 1 ∷ 1 ∷ replicate 30 0;
+      variables = 2;
+      factors = replicate max-factors noFactor;
+      count = 0;
+    }
+
+-- two calls yield it
+pair-yielded : addVariable (addVariable fresh (97, 0) 1 .graph) (97, 1) 1 .graph ≡ pair
+unfolding pair
+pair-yielded = refl
 
 -- the second variable's key is 1, and its name is then taken
 key-told : callTold (addVariable (addVariable fresh (97, 0) 1 .graph) (97, 1) 1 .outcome) ≡ value (1 ∷ [])

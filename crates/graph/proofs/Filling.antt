@@ -1,12 +1,16 @@
--- The first k elements of a list, with one value in the other places. Assumes nothing.
+-- The first k elements of a list, with one value in the other places; and the length of a list that is mapped. Assumes nothing.
 use Prim.Native.Nat.{ℕ, suc, _+_, _-_, _<_, _≤_}
 use mathlib.Core.Path.{_≡_, sym, ap, _∙_}
-use mathlib.Core.List.{List, _++_}
+use mathlib.Core.List.{List, _++_, map}
 use native.Mathlib.Numerals.{add-one}
 use native.Mathlib.Omega.{arith}
 use native.Mathlib.Decide.{decLt}
-use lib.ListN.{length, getD, set, replicate, take, length-replicate, getD-replicate, length-append, List·getD-append}
+use lib.ListN.{length, getD, set, replicate, take, length-replicate, getD-replicate, length-append, length-map, List·getD-append}
 use lib.Seq.{getD-append-add, getD-take, length-take-le, take-suc, set-at, append-snoc, ext-getD}
+
+-- the elements of a list that is mapped are as many
+pub unmapped : (X Y : Type 0) (f : X → Y) (l : List X) (n : ℕ) → length (map f l) ≡ n → length l ≡ n
+unmapped X Y f l n e = sym (length-map l f) ∙ e
 
 module _ {A : Type 0} (l : List A) (n : ℕ) (long : length l ≡ n) (z d : A) where
   abbrev pub fill : ℕ → List A
@@ -32,7 +36,7 @@ module _ {A : Type 0} (l : List A) (n : ℕ) (long : length l ≡ n) (z d : A) w
       let e : i ≡ length (take k l) + (i - k) = omega (arith, front k (omega arith)) in
       ap (λ (j : ℕ). getD (fill k) j d) e ∙ getD-append-add (take k l) (replicate (n - k) z) (i - k) d ∙ getD-replicate (n - k) (i - k) z d (omega arith)
 
-  fill-length : (k : ℕ) → k ≤ n → length (fill k) ≡ n
+  pub fill-length : (k : ℕ) → k ≤ n → length (fill k) ≡ n
   fill-length k h = length-append (take k l) (replicate (n - k) z) ∙ omega (arith, front k h, length-replicate (n - k) z)
 
   -- where the other places hold that value already, nothing changes

@@ -1,30 +1,32 @@
 -- Each registering call keeps a record valid, whether it refuses or not. Assumes nothing.
-use Prim.Native.Nat.{ℕ, _+_, _<_, _≤_}
+use Prim.Native.Nat.{ℕ, _+_, _-_, _<_, _≤_}
 use mathlib.Core.Path.{_≡_, refl, sym, ap, _∙_}
-use mathlib.Core.Bool.{true, not}
+use mathlib.Core.Bool.{true, false, not}
 use mathlib.Core.List.{List, [], _∷_}
 use native.Mathlib.Omega.{arith}
-use native.Mathlib.Decide.{decLt}
-use borrow.Author.Tests.{ltb-true, ltb-false, eqb-true, le-leb}
+use native.Mathlib.Decide.{ℕ-discrete, decLt}
+use borrow.Author.Tests.{ltb-true, ltb-false, eqb-true, eqb-false, le-leb}
+use lib.Dec.{eqb}
 use lib.Ieee.{Float}
 use lib.ListN.{length, getD-replicate, length-set}
 use lib.Seq.{getD-set-same, getD-set-other}
 use Rattle.factor.specs.Limits.{max-variables, max-total, max-factors, max-keys}
 use Rattle.factor.specs.Counting.{every, all, sum}
-use Rattle.factor.specs.Factor.{noFactor, absent, fits, isClear}
+use Rattle.factor.specs.Factor.{noFactor, absent, withLive, fits, isClear}
 use Rattle.factor.specs.declared.Factor.{Factor}
-use Rattle.factor.proofs.Counting.{every-at, every-3, every-5, by-test, all-of, all-ext, sum-put}
-use Rattle.factor.proofs.Fitting.{fits-more}
+use Rattle.factor.proofs.Counting.{every-at, every-3, every-6, by-test, all-of, all-ext, sum-put}
+use Rattle.factor.proofs.Fitting.{fits-more, fits-live}
 use Rattle.graph.specs.Record.{noName, nameAt, sizeAt, factorAt, fresh, scalar, sizeFits, same, free, total, registered, clear, variablePlace}
-use Rattle.graph.specs.Record.{variablesFit, factorPlace, factorsFit, valid}
-use Rattle.graph.specs.Registration.{withVariable, withFactor}
+use Rattle.graph.specs.Record.{variablesFit, factorPlace, factorsFit, liveAt, lastLive, valid}
+use Rattle.graph.specs.Registration.{withVariable, withFactor, retired}
 use Rattle.graph.specs.Reached.{Call, graphAfter, yields, Reached}
 use Rattle.graph.specs.declared.Symbol.{Symbol}
 use Rattle.graph.specs.declared.Graph.{Graph}
 use Rattle.graph.specs.declared.Added.{Added}
-use Rattle.graph.proofs.Checking.{Named}
-use Rattle.graph.proofs.Calls.{Comes, turned, named, taken, comes}
-use Rattle.graph.proofs.Validity.{valid-variables, valid-count, valid-total, valid-registered, valid-clear, valid-factor, valid-no-factor}
+use Rattle.graph.proofs.Checking.{Named, Taken}
+use Rattle.graph.proofs.Calls.{Comes, turned, named, taken, replaced, comes}
+use Rattle.graph.proofs.Validity.{valid-variables, valid-count, valid-total, valid-registered, valid-clear, valid-factor, valid-no-factor, valid-last}
+use Rattle.graph.proofs.Validity.{live-below, live-of}
 
 -- the arrays have the lengths that the struct declares
 pub record Shaped (g : Graph) : Type 0 where
@@ -42,6 +44,7 @@ pub record Sound (g : Graph) : Type 0 where
   pub room : total g ≤ max-total
   pub good : (i : ℕ) → i < g .count → fits (g .sizes) (g .variables) (factorAt g i) ≡ true
   pub none : (i : ℕ) → g .count ≤ i → i < max-factors → isClear (factorAt g i) ≡ true
+  pub last : (i : ℕ) → i + 1 ≡ g .count → factorAt g i .live ≡ true
 
 pub sound-of : (g : Graph) → valid g ≡ true → Sound g
 sound-of g v =
@@ -53,17 +56,22 @@ sound-of g v =
       room = valid-total g v;
       good = valid-factor g v;
       none = valid-no-factor g v;
+      last = valid-last g v;
     }
 
 valid-of : (g : Graph) → Sound g → valid g ≡ true
-unfolding valid variablesFit factorsFit variablePlace factorPlace
+unfolding valid variablesFit factorsFit variablePlace factorPlace lastLive
 valid-of g s =
-    every-5 _ _ _ _ _
+    every-6 _ _ _ _ _ _
     (le-leb _ _ (s .few))
     (le-leb _ _ (s .few-factors))
     (all-of (λ i. variablePlace g i) max-variables (λ i l. by-test _ _ _ (λ t. s .used i (ltb-true _ _ t)) (λ t. s .unused i (ltb-false _ _ t) l)))
     (le-leb _ _ (s .room))
     (all-of (λ i. factorPlace g i) max-factors (λ i l. by-test _ _ _ (λ t. s .good i (ltb-true _ _ t)) (λ t. s .none i (ltb-false _ _ t) l)))
+    (by-test (eqb (g .count) 0) _ _ (λ _. refl) (λ t. last (eqb-false _ _ t)))
+  where
+    last : (g .count ≡ 0 → ⊥) → liveAt g (g .count - 1) ≡ true
+    last d = live-of g (g .count - 1) (omega arith) (s .last (g .count - 1) (omega arith))
 
 -- ---- what a place of the variables looks at
 
@@ -145,6 +153,7 @@ module _ (g : Graph) (sh : Shaped g) (so : Sound g) (name : Symbol) (size : ℕ)
         good = λ i l. fits-more (g .sizes) (h .sizes) (g .variables) (h .variables) (omega arith) (λ j k. sym (size-else j (λ x. omega arith)))
             (factorAt g i) (so .good i l);
         none = so .none;
+        last = so .last;
       }
 
   variable-shaped : Shaped h
@@ -159,7 +168,7 @@ module _ (g : Graph) (sh : Shaped g) (so : Sound g) (name : Symbol) (size : ℕ)
 -- ---- a factor more
 
 module _ (g : Graph) (sh : Shaped g) (so : Sound g) (f : Factor) (h12 : g .count < max-factors) (fit : fits (g .sizes) (g .variables) f ≡ true)
-    (long : length (f .keys) ≡ max-keys) where
+    (long : length (f .keys) ≡ max-keys) (alive : f .live ≡ true) where
   factor-at : factorAt (withFactor g f) (g .count) ≡ f
   factor-at = getD-set-same (g .factors) (g .count) f absent (omega (arith, sh .factors))
 
@@ -184,6 +193,7 @@ module _ (g : Graph) (sh : Shaped g) (so : Sound g) (f : Factor) (h12 : g .count
         room = so .room;
         good = good-more;
         none = λ i l m. ap isClear (factor-else i (λ x. omega arith)) ∙ so .none i (omega arith) m;
+        last = λ i e. let at : i ≡ g .count = omega arith in rw (at, factor-at) alive;
       }
 
   keys-more : (i : ℕ) → i < max-factors → Dec (i < g .count) → Dec (g .count < i) → length (factorAt (withFactor g f) i .keys) ≡ max-keys
@@ -202,6 +212,48 @@ module _ (g : Graph) (sh : Shaped g) (so : Sound g) (f : Factor) (h12 : g .count
         keys = λ i l. keys-more i l (decLt i (g .count)) (decLt (g .count) i);
       }
 
+-- ---- a factor retired that isn't the last
+
+module _ (g : Graph) (sh : Shaped g) (so : Sound g) (j : ℕ) (l : j + 1 < g .count) where
+  retired-at : factorAt (retired g j) j ≡ withLive (factorAt g j) false
+  retired-at = let m : g .count ≤ max-factors = so .few-factors in
+      getD-set-same (g .factors) j (withLive (factorAt g j) false) absent (omega (arith, sh .factors))
+
+  retired-else : (i : ℕ) → (i ≡ j → ⊥) → factorAt (retired g j) i ≡ factorAt g i
+  retired-else i d = getD-set-other (g .factors) j i (withLive (factorAt g j) false) absent d
+
+  -- what doesn't look at the live state stays as it was
+  retired-as : (P : Factor → Type 0) → (P (factorAt g j) → P (withLive (factorAt g j) false)) → (i : ℕ) → P (factorAt g i) → P (factorAt (retired g j) i)
+  retired-as P h i p = go (ℕ-discrete i j)
+    where
+      go : Dec (i ≡ j) → P (factorAt (retired g j) i)
+      go (yes e) = let q : P (factorAt g j) = rw e at p in rw (e, retired-at) (h q)
+      go (no d) = rw (retired-else i d) p
+
+  retired-sound : Sound (retired g j)
+  unfolding total
+  retired-sound =
+      record {
+        few = so .few;
+        few-factors = so .few-factors;
+        used = λ i k. registered-ext (retired g j) g i (λ _ _. refl) refl ∙ so .used i k;
+        unused = λ i k m. clear-ext (retired g j) g i refl refl ∙ so .unused i k m;
+        room = so .room;
+        good = λ i k. retired-as (λ f. fits (g .sizes) (g .variables) f ≡ true) (λ p. fits-live (g .sizes) (g .variables) (factorAt g j) false ∙ p) i
+            (so .good i k);
+        none = λ i k m. ap isClear (retired-else i (λ x. omega arith)) ∙ so .none i k m;
+        last = λ i e. ap (λ (f : Factor). f .live) (retired-else i (λ x. omega arith)) ∙ so .last i e;
+      }
+
+  retired-shaped : Shaped (retired g j)
+  retired-shaped =
+      record {
+        symbols = sh .symbols;
+        sizes = sh .sizes;
+        factors = length-set (g .factors) j (withLive (factorAt g j) false) ∙ sh .factors;
+        keys = λ i k. retired-as (λ f. length (f .keys) ≡ max-keys) (λ p. p) i (sh .keys i k);
+      }
+
 -- ---- each call
 
 abbrev pub Good : Graph → Type 0
@@ -211,15 +263,24 @@ module _ (g : Graph) (ok : Good g) where
   abbrev so : Sound g
   so = sound-of g (ok .1)
 
+  taken-shaped : (f : Factor) {a mean variance store xi w : List Float} → Taken g f a mean variance store xi w → Shaped (withFactor g f)
+  taken-shaped f t = factor-shaped g (ok .0) so f (t .passed .few) (t .fit) (t .long) (t .alive)
+
+  taken-sound : (f : Factor) {a mean variance store xi w : List Float} → Taken g f a mean variance store xi w → Sound (withFactor g f)
+  taken-sound f t = factor-sound g (ok .0) so f (t .passed .few) (t .fit) (t .long) (t .alive)
+
   comes-good : {keys : List ℕ} {store s : List Float} {x : Added} → Comes g keys store x s → Good (x .graph)
   comes-good (turned why) = ok
   comes-good (named name size n) = (variable-shaped g (ok .0) so name size n, valid-of _ (variable-sound g (ok .0) so name size n))
-  comes-good (taken f a mean variance xi w t e) =
-      let few = t .passed .few in
-      (factor-shaped g (ok .0) so f few (t .fit) (t .long), valid-of _ (factor-sound g (ok .0) so f few (t .fit) (t .long)))
+  comes-good (taken f a mean variance xi w t e) = (taken-shaped f t, valid-of _ (taken-sound f t))
+  comes-good (replaced j h f a mean variance xi w t e) =
+      let l : j + 1 < g .count + 1 = omega (arith, live-below g j h) in (
+        retired-shaped (withFactor g f) (taken-shaped f t) (taken-sound f t) j l,
+        valid-of _ (retired-sound (withFactor g f) (taken-shaped f t) (taken-sound f t) j l),
+      )
 
 fresh-good : Good fresh
-unfolding valid variablesFit factorsFit every all variablePlace clear same factorPlace isClear total sum
+unfolding valid variablesFit factorsFit every all variablePlace clear same factorPlace isClear total sum lastLive
 fresh-good = (
   record {
     symbols = refl;

@@ -8,7 +8,7 @@ use Rattle.graph.specs.declared.refusal.Refusal.{Refusal}
 use Rattle.graph.specs.declared.refusal.Refusal.the-variants.{NeitherKeptNorCleared, NotALetter, SizeOutside, KeysNotRising, CountOutside}
 use Rattle.graph.specs.declared.refusal.Refusal.the-variants.{LengthUnlike, NotFinite, VariancePivot, BadRecord, KeptAndCleared, NameTaken}
 use Rattle.graph.specs.declared.refusal.Refusal.the-variants.{NoSuchKey, PastLimit, FactorStoreShort, StoreShort, ClearedPivot, MarginalPivot}
-use Rattle.graph.specs.declared.refusal.Refusal.the-variants.{ResultNotFinite, CountedTwice, NotSymmetric, NoSuchGraph}
+use Rattle.graph.specs.declared.refusal.Refusal.the-variants.{ResultNotFinite, CountedTwice, NotLive, NotSymmetric, NoSuchGraph}
 
 -- the refusal of a number: 0 to 20 in their order, and 30 is past them; 19 is none, so anything may stand there
 abbrev named : ℕ → Refusal
@@ -33,7 +33,7 @@ named n =
     ∷ MarginalPivot
     ∷ ResultNotFinite
     ∷ CountedTwice
-    ∷ NoSuchGraph
+    ∷ NotLive
     ∷ NotSymmetric
     ∷ [])
     n
@@ -59,6 +59,7 @@ back ClearedPivot = refl
 back MarginalPivot = refl
 back ResultNotFinite = refl
 back CountedTwice = refl
+back NotLive = refl
 back NotSymmetric = refl
 back NoSuchGraph = refl
 

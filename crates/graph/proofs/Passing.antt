@@ -20,10 +20,11 @@ use Rattle.cholesky.proofs.Forms.{identity-exchanged}
 use Rattle.graph.specs.Record.{sizeAt, offset, valid}
 use Rattle.graph.specs.Registration.{withVariable, FactorVerdict, accept, withFactor, settle, weighedVerdict, factorVerdict, priorVerdict, addPrior}
 use Rattle.graph.specs.Registration.{countsFit, observationVerdict, addObservation}
-use Rattle.graph.specs.Reached.{Call, prior, observation, variable, register, graphAfter}
+use Rattle.graph.specs.Reached.{Exposure, prior, observation, variable, entered, graphAfter}
 use Rattle.graph.specs.declared.Symbol.{Symbol}
 use Rattle.graph.specs.declared.Graph.{Graph}
 use Rattle.graph.specs.declared.Added.{Added}
+use Rattle.graph.specs.declared.Outcome.the-variants.{Number}
 use Rattle.graph.proofs.Checking.{Named, named, weighs, prior-as, observation-as}
 
 pub variable-taken : (g : Graph) (name : Symbol) (size : ℕ) → Named g name size → graphAfter g (variable name size) ≡ withVariable g name size
@@ -34,8 +35,12 @@ abbrev zeros : ℕ → List Float
 zeros n = replicate n plus-zero
 
 -- a store that is just long enough for one factor more
-abbrev room : Graph → Factor → List Float
+abbrev pub room : Graph → Factor → List Float
 room g f = zeros (offset g (g .count) + numbers (g .sizes) f)
+
+-- the plain call is answered with the next number, and the graph has the factor
+abbrev pub EntersAs : Graph → Exposure → Factor → Type 0
+EntersAs g exposure f = entered g exposure (room g f) ≡ record { graph = withFactor g f; outcome = Number (g .count) }
 
 module _ (g : Graph) (f : Factor) (h12 : g .count < max-factors) (a : List Float) (long : length a ≡ aNumbers (g .sizes) f) (finite : allFinite a ≡ true) where
   lengths : lengthsFit (g .sizes) f (length a) (length (zeros (f .rows))) (length (identityOf (f .rows))) ≡ true
@@ -56,8 +61,8 @@ module _ (g : Graph) (f : Factor) (h12 : g .count < max-factors) (a : List Float
 
 -- ---- a prior
 
-abbrev pub prior-call : Graph → ℕ → Call
-prior-call g key = register (prior key (zeros (sizeAt g key)) (identityOf (sizeAt g key))) (room g (priorOf key (sizeAt g key)))
+abbrev pub plain-prior : Graph → ℕ → Exposure
+plain-prior g key = prior key (zeros (sizeAt g key)) (identityOf (sizeAt g key))
 
 module _ (g : Graph) (h30 : valid g ≡ true) (h12 : g .count < max-factors) (key : ℕ) (h11 : key < g .variables) where
   prior-passes : priorVerdict g key (zeros (sizeAt g key)) (identityOf (sizeAt g key)) (room g (priorOf key (sizeAt g key)))
@@ -65,15 +70,14 @@ module _ (g : Graph) (h30 : valid g ≡ true) (h12 : g .count < max-factors) (ke
   unfolding aNumbers allFinite
   prior-passes = prior-as g key _ _ _ h30 h11 ∙ factor-passes g (priorOf key (sizeAt g key)) h12 [] refl refl
 
-  pub prior-taken : graphAfter g (prior-call g key) ≡ withFactor g (priorOf key (sizeAt g key))
+  pub prior-taken : EntersAs g (plain-prior g key) (priorOf key (sizeAt g key))
   unfolding addPrior
-  prior-taken = ap (λ (v : FactorVerdict). settle g (priorOf key (sizeAt g key)) v .graph) prior-passes
+  prior-taken = ap (settle g (priorOf key (sizeAt g key))) prior-passes
 
 -- ---- an observation
 
-abbrev pub observation-call : Graph → List ℕ → ℕ → Call
-observation-call g keys y = register (observation keys y (zeros (aNumbers (g .sizes) (observationOf keys y))) (zeros y) (identityOf y))
-    (room g (observationOf keys y))
+abbrev pub plain-observation : Graph → List ℕ → ℕ → Exposure
+plain-observation g keys y = observation keys y (zeros (aNumbers (g .sizes) (observationOf keys y))) (zeros y) (identityOf y)
 
 module _ (g : Graph) (h30 : valid g ≡ true) (h12 : g .count < max-factors) (keys : List ℕ) (y : ℕ) (few : length keys ≤ max-keys) (some : 1 ≤ y)
     (most : y ≤ max-rows)
@@ -90,6 +94,6 @@ module _ (g : Graph) (h30 : valid g ≡ true) (h12 : g .count < max-factors) (ke
       ∙ factor-passes g (observationOf keys y) h12 a (length-replicate (aNumbers (g .sizes) (observationOf keys y)) plus-zero)
       (zeros-finite (aNumbers (g .sizes) (observationOf keys y)))
 
-  pub observation-taken : graphAfter g (observation-call g keys y) ≡ withFactor g (observationOf keys y)
+  pub observation-taken : EntersAs g (plain-observation g keys y) (observationOf keys y)
   unfolding addObservation
-  observation-taken = ap (λ (v : FactorVerdict). settle g (observationOf keys y) v .graph) observation-passes
+  observation-taken = ap (settle g (observationOf keys y)) observation-passes

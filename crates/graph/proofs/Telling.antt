@@ -9,11 +9,12 @@ use Rattle.factor.specs.Told.{weightTold}
 use Rattle.factor.specs.declared.Factor.{Factor}
 use Rattle.graph.specs.Record.{sizeAt}
 use Rattle.graph.specs.Registration.{FactorVerdict, accept, refuse, settle, weighedVerdict, addVariable, priorVerdict, addPrior, priorStore}
-use Rattle.graph.specs.Registration.{observationVerdict, addObservation, observationStore}
+use Rattle.graph.specs.Registration.{observationVerdict, addObservation, observationStore, superseding, supersedingStore}
 use Rattle.graph.specs.Told.{callTold, factorVerdictTold}
 use Rattle.graph.specs.declared.Symbol.{Symbol}
 use Rattle.graph.specs.declared.Graph.{Graph}
 use Rattle.graph.specs.declared.Added.{Added}
+use Rattle.graph.proofs.Calls.{Superseded}
 
 pub variable-tells : (g : Graph) (name : Symbol) (size : ℕ) (r : Added) → r ≡ addVariable g name size
     → (r ≡ addVariable g name size) × (callTold (r .outcome) ≡ callTold (addVariable g name size .outcome))
@@ -26,6 +27,11 @@ settled g f v r e = ap (λ (a : Added). callTold (a .outcome)) e ∙ go v
     go : (v : FactorVerdict) → callTold (settle g f v .outcome) ≡ factorVerdictTold g v
     go (accept numbers) = refl
     go (refuse why) = refl
+
+-- a superseding call's answer with the store, and what the answer tells
+pub superseding-tells : (g : Graph) (j : ℕ) (plain : Added) (store s t : List Float) (r : Added) → Superseded g j plain store s r t
+    → (r ≡ superseding g j plain) × ((t ≡ supersedingStore g j store s) × (callTold (r .outcome) ≡ callTold (superseding g j plain .outcome)))
+superseding-tells g j plain store s t r (e, h) = (e, (h, ap (λ (a : Added). callTold (a .outcome)) e))
 
 -- a prior's and an observation's answer with the store, and what the answer tells
 pub prior-tells : (g : Graph) (key : ℕ) (mean variance store s : List Float) (r : Added)

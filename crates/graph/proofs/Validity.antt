@@ -1,22 +1,38 @@
 -- What a valid record tells. Assumes nothing.
-use Prim.Native.Nat.{ℕ, _+_, _<_, _≤_}
-use mathlib.Core.Path.{_≡_, refl}
+use Prim.Native.Nat.{ℕ, _+_, _-_, _<_, _≤_}
+use mathlib.Core.Path.{_≡_, refl, ap, _∙_}
 use mathlib.Core.Bool.{Bool, true, false}
 use native.Mathlib.Omega.{arith}
-use borrow.Author.Tests.{leb-true, lt-ltb, le-ltb}
+use borrow.Author.Tests.{leb-true, ltb-true, lt-ltb, le-ltb, ne-eqb}
 use Rattle.factor.specs.Limits.{max-variables, max-size, max-total, max-factors, max-keys, max-rows}
 use Rattle.factor.specs.Factor.{keyAt, fits, isClear, width, numbers}
-use Rattle.factor.proofs.Counting.{every-at, all-at, pick-true, pick-false, sum-more, sum-le}
+use Rattle.factor.proofs.Counting.{every-at, every-2, all-at, pick-true, pick-false, sum-more, sum-le}
 use Rattle.factor.specs.declared.Factor.{Factor}
 use Rattle.factor.proofs.Fitting.{fits-touched, fits-key, prior-touched, prior-rows, few-rows}
 use Rattle.factor.proofs.KeyOrder.{width-within}
-use Rattle.graph.specs.Record.{sizeAt, factorAt, sizeFits, registered, clear, variablePlace, variablesFit, factorPlace, factorsFit, offset, total, valid}
+use Rattle.graph.specs.Record.{sizeAt, factorAt, sizeFits, registered, clear, variablePlace, variablesFit, factorPlace, factorsFit, offset, total}
+use Rattle.graph.specs.Record.{liveAt, lastLive, valid}
 use Rattle.graph.specs.declared.Graph.{Graph}
 
 -- a size is within the limit
 pub size-most : (s : ℕ) → sizeFits s ≡ true → s ≤ max-size
 unfolding sizeFits
 size-most s h = leb-true _ _ (every-at _ 1 h)
+
+-- a live factor has a number below the count, and its record says that it is live
+module _ (g : Graph) (j : ℕ) (h : liveAt g j ≡ true) where
+  pub live-below : j < g .count
+  unfolding liveAt
+  live-below = ltb-true _ _ (every-at _ 0 h)
+
+  pub live-told : factorAt g j .live ≡ true
+  unfolding liveAt
+  live-told = every-at _ 1 h
+
+-- and a number below the count whose record says so is that of a live factor
+pub live-of : (g : Graph) (j : ℕ) → j < g .count → factorAt g j .live ≡ true → liveAt g j ≡ true
+unfolding liveAt
+live-of g j l e = every-2 _ _ (lt-ltb _ _ l) e
 
 module _ (g : Graph) (v : valid g ≡ true) where
   pub valid-variables : g .variables ≤ max-variables
@@ -60,6 +76,14 @@ module _ (g : Graph) (v : valid g ≡ true) where
   pub valid-no-factor : (i : ℕ) → g .count ≤ i → i < max-factors → isClear (factorAt g i) ≡ true
   unfolding factorPlace
   valid-no-factor i l m = pick-false (fits (g .sizes) (g .variables) (factorAt g i)) (isClear (factorAt g i)) (le-ltb _ _ l) (valid-factor-place i m)
+
+  -- the last factor is live
+  pub valid-last : (i : ℕ) → i + 1 ≡ g .count → factorAt g i .live ≡ true
+  unfolding valid lastLive
+  valid-last i e =
+      let at : i ≡ g .count - 1 = omega arith in
+      ap (λ (j : ℕ). factorAt g j .live) at
+      ∙ live-told g (g .count - 1) (pick-false true _ (ne-eqb (g .count) 0 (λ z. omega arith)) (every-at _ 5 v))
 
   pub valid-touched : (i : ℕ) → i < g .count → factorAt g i .touched ≤ max-keys
   valid-touched i l = fits-touched (g .sizes) (g .variables) (factorAt g i) (valid-factor i l)

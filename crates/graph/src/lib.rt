@@ -116,6 +116,7 @@ impl Graph {
             touched: 0,
             rows: 0,
             keys: [0; KEYS],
+            live: false,
         };
         Graph {
             symbols: [Symbol(0, 0); VARIABLES],
@@ -184,6 +185,20 @@ impl Graph {
         true
     }
 
+    // There is such a factor, and no other has superseded it.
+    pub fn is_live(self, number: usize) -> bool
+        ensures { λ r. ⌜ r ≡ spec.liveAt self number ⌝ }
+    {
+        if self.count <= number {
+            return false;
+        }
+        if FACTORS <= number {
+            return false;
+        }
+        let f = self.factors[number];
+        f.live
+    }
+
     // The record is one that some list of registering calls yields.
     pub fn valid(self) -> bool
         ensures { λ r. ⌜ (r ≡ spec.valid self) × ((r ≡ true) ↔ Reached self) ⌝ }
@@ -200,7 +215,14 @@ impl Graph {
         if TOTAL < self.total() {
             return false;
         }
-        self.factors_fit()
+        if !self.factors_fit() {
+            return false;
+        }
+        let count = self.count;
+        if count == 0 {
+            return true;
+        }
+        self.is_live(count - 1)
     }
 
     // Where the numbers of a factor begin in the factor store; at the count of factors, where the next one's will.
@@ -403,5 +425,87 @@ impl Graph {
             return self.refused(Refusal::NoSuchGraph);
         }
         self.enter_observation(keys, rows, a, mean, variance, store)
+    }
+
+    // The factor is no longer live; it keeps its number and its numbers.
+    pub fn retire(mut self, number: usize) -> Graph
+        requires { ⌜ number < max-factors ⌝ }
+        ensures { λ r. ⌜ r ≡ calls.retired self number ⌝ }
+    {
+        let mut f = self.factors[number];
+        f.live = false;
+        self.factors[number] = f;
+        self
+    }
+
+    // A prior in place of a live factor, which is retired if the prior is accepted.
+    pub fn supersede_prior(
+        mut self,
+        number: usize,
+        key: usize,
+        mean: &[f64],
+        variance: &[f64],
+        store: &mut [f64],
+    ) -> Added
+        ensures { λ r. ⌜ r ≡
+            calls.superseding self number (calls.addPrior self key (now (mean .entry)) (now (variance .entry)) (now (store .entry))) ⌝ }
+        ensures { λ _. ⌜ now (store .exit) ≡ calls.supersedingStore self number (now (store .entry))
+            (calls.priorStore self key (now (mean .entry)) (now (variance .entry)) (now (store .entry))) ⌝ }
+        ensures { λ r. ⌜ callTold (r .outcome) ≡ callTold
+            (calls.superseding self number (calls.addPrior self key (now (mean .entry)) (now (variance .entry)) (now (store .entry))) .outcome) ⌝ }
+    {
+        if !self.valid() {
+            return self.refused(Refusal::NoSuchGraph);
+        }
+        if !self.is_live(number) {
+            return self.refused(Refusal::NotLive);
+        }
+        let added = self.enter_prior(key, mean, variance, store);
+        replace(added, number)
+    }
+
+    // An observation in place of a live factor, which is retired if the observation is accepted.
+    pub fn supersede_observation(
+        mut self,
+        number: usize,
+        keys: &[usize],
+        rows: usize,
+        a: &[f64],
+        mean: &[f64],
+        variance: &[f64],
+        store: &mut [f64],
+    ) -> Added
+        ensures { λ r. ⌜ r ≡ calls.superseding self number
+            (calls.addObservation self (now (keys .entry)) rows (now (a .entry)) (now (mean .entry)) (now (variance .entry)) (now (store .entry))) ⌝ }
+        ensures { λ _. ⌜ now (store .exit) ≡ calls.supersedingStore self number (now (store .entry))
+            (calls.observationStore self (now (keys .entry)) rows (now (a .entry)) (now (mean .entry)) (now (variance .entry)) (now (store .entry))) ⌝ }
+        ensures { λ r. ⌜ callTold (r .outcome) ≡ callTold (calls.superseding self number
+            (calls.addObservation self (now (keys .entry)) rows (now (a .entry)) (now (mean .entry)) (now (variance .entry)) (now (store .entry))) .outcome) ⌝ }
+    {
+        if !self.valid() {
+            return self.refused(Refusal::NoSuchGraph);
+        }
+        if !self.is_live(number) {
+            return self.refused(Refusal::NotLive);
+        }
+        let added = self.enter_observation(keys, rows, a, mean, variance, store);
+        replace(added, number)
+    }
+}
+
+// What a plain call answered, for a call that supersedes: a new factor retires the old one, and a refusal retires none.
+fn replace(added: Added, number: usize) -> Added
+    requires { ⌜ number < max-factors ⌝ }
+    ensures { λ r. ⌜ r ≡ calls.replacing (added .graph) number (added .outcome) ⌝ }
+{
+    let graph = added.graph;
+    let outcome = added.outcome;
+    match outcome {
+        Outcome::Key(_) => added,
+        Outcome::Number(_) => Added {
+            graph: graph.retire(number),
+            outcome: outcome,
+        },
+        Outcome::Refused(_) => added,
     }
 }

@@ -22,6 +22,7 @@ pub enum Refusal {
     MarginalPivot,
     ResultNotFinite,
     CountedTwice,
+    NotLive,
     NotSymmetric,
     NoSuchGraph,
 }
@@ -50,6 +51,7 @@ pub fn code(why: Refusal) -> usize
         Refusal::MarginalPivot => 16,
         Refusal::ResultNotFinite => 17,
         Refusal::CountedTwice => 18,
+        Refusal::NotLive => 19,
         Refusal::NotSymmetric => 20,
         Refusal::NoSuchGraph => 30,
     }

@@ -34,7 +34,7 @@ use Rattle.job.proofs.Refusals.{number-most, Placed, read-fine, Keyed, 
 -- ---- the bytes that decide
 
 -- the figure of firmware/strips.h
-deciding-figure : deciding-bytes ≡ 19193
+deciding-figure : deciding-bytes ≡ 19388
 deciding-figure = refl
 
 pub first-bytes-decide : Decide deciding-bytes

@@ -10,16 +10,16 @@ use Rattle.matrix.specs.Sums.{one}
 use Rattle.matrix.specs.Triangles.{diagonalOf}
 use Rattle.factor.specs.Limits.{max-variables, max-total, max-factors, max-keys, max-rows}
 use Rattle.factor.specs.Factor.{rising, known, observationOf, aNumbers}
-use Rattle.graph.specs.Record.{sizeAt, fresh}
+use Rattle.graph.specs.Record.{sizeAt, liveAt, fresh}
 use Rattle.graph.specs.Registration.{countsFit}
 use Rattle.graph.specs.Reached as calls
-use Rattle.graph.specs.Reached.{Call, prior, observation, variable, register, answered}
+use Rattle.graph.specs.Reached.{Call, prior, observation, variable, register, supersede, answered}
 use Rattle.graph.specs.declared.Graph.{Graph}
 use Rattle.graph.specs.declared.Added.{Added}
 use Rattle.graph.specs.declared.Outcome.{Outcome}
 use Rattle.graph.specs.declared.Outcome.the-variants as outcome
 use Rattle.graph.specs.declared.refusal.Refusal.{Refusal}
-use Rattle.graph.specs.declared.refusal.Refusal.the-variants.{KeysNotRising, CountOutside, BadRecord, NoSuchKey}
+use Rattle.graph.specs.declared.refusal.Refusal.the-variants.{KeysNotRising, CountOutside, BadRecord, NoSuchKey, NotLive}
 use Rattle.records.specs.Bytes.{float-bytes, byteAt, cut, wordAt, keysRead, numbersAt}
 use Rattle.records.specs.declared.kinds.Mark.{Mark}
 use Rattle.records.specs.declared.kinds.Mark.the-variants as mark
@@ -37,7 +37,7 @@ pub data Request : Type 0 where
   ask : Call → ℕ → Request
   refuse : Refusal → Request
 
--- the bytes of a mark, of a variable after its mark, and of an observation's counts and flag
+-- the bytes of a mark, of a variable after its mark, of an observation's counts and flag, and of the number of a factor to be superseded
 abbrev pub mark-bytes : ℕ
 mark-bytes = 2
 
@@ -47,12 +47,15 @@ variable-bytes = 9
 abbrev pub header-bytes : ℕ
 header-bytes = 3
 
--- the bytes of a variable's record, and at most of a factor's beside its numbers
+abbrev pub number-bytes : ℕ
+number-bytes = 1
+
+-- the bytes of a variable's record, and at most of a factor's beside its numbers: a factor that supersedes another has its own mark within
 abbrev pub variable-record : ℕ
 variable-record = mark-bytes + variable-bytes
 
 abbrev pub factor-frame : ℕ
-factor-frame = mark-bytes + header-bytes + max-keys
+factor-frame = mark-bytes + number-bytes + mark-bytes + header-bytes + max-keys
 
 -- the numbers of an observation at most, those of A, mean and variance, and the bytes of the longest record
 abbrev pub most-given : ℕ
@@ -143,17 +146,49 @@ observationAt g store bytes at =
 
 -- ---- a record: a mark, then its kind
 
--- VA, PR and OB in ASCII
+-- VA, PR, OB and SU in ASCII
 unfoldable pub markOf : ℕ → ℕ → Mark
 markOf a b =
     cond (eqb a 0x56 && eqb b 0x41) mark.Variable
     (cond (eqb a 0x50 && eqb b 0x52) mark.Prior
-    (cond (eqb a 0x4F && eqb b 0x42) mark.Observation mark.Unmarked))
+    (cond (eqb a 0x4F && eqb b 0x42) mark.Observation
+    (cond (eqb a 0x53 && eqb b 0x55) mark.Superseding mark.Unmarked)))
+
+-- a factor's record within one that supersedes: a prior's or an observation's
+abbrev pub markedWithin : Mark → (g : Graph) (store : List Float) (bytes : List ℕ) (at : ℕ) → Request
+markedWithin mark.Variable g store bytes at = refuse BadRecord
+markedWithin mark.Prior g store bytes at = priorAt g store bytes at
+markedWithin mark.Observation g store bytes at = observationAt g store bytes at
+markedWithin mark.Superseding g store bytes at = refuse BadRecord
+markedWithin mark.Unmarked g store bytes at = refuse BadRecord
+
+unfoldable pub withinAt : (g : Graph) (store : List Float) (bytes : List ℕ) (at : ℕ) → Request
+withinAt g store bytes at =
+    cond (cut bytes at mark-bytes) (refuse BadRecord)
+    (markedWithin (markOf (byteAt bytes at) (byteAt bytes (at + 1))) g store bytes (at + mark-bytes))
+
+-- what it asks for, in place of factor j
+abbrev pub inPlace : ℕ → Call → Call
+inPlace j (variable name size) = variable name size
+inPlace j (register exposure store) = supersede j exposure store
+inPlace j (supersede i exposure store) = supersede i exposure store
+
+abbrev pub askInPlace : ℕ → Request → Request
+askInPlace j (ask call next) = ask (inPlace j call) next
+askInPlace j (refuse why) = refuse why
+
+-- the number of the factor to be superseded, then the record within
+unfoldable pub supersedingAt : (g : Graph) (store : List Float) (bytes : List ℕ) (at : ℕ) → Request
+supersedingAt g store bytes at =
+    cond (cut bytes at number-bytes) (refuse BadRecord)
+    (cond (not (liveAt g (byteAt bytes at))) (refuse NotLive)
+    (askInPlace (byteAt bytes at) (withinAt g store bytes (at + number-bytes))))
 
 abbrev pub marked : Mark → (g : Graph) (store : List Float) (bytes : List ℕ) (at : ℕ) → Request
 marked mark.Variable g store bytes at = variableAt bytes at
 marked mark.Prior g store bytes at = priorAt g store bytes at
 marked mark.Observation g store bytes at = observationAt g store bytes at
+marked mark.Superseding g store bytes at = supersedingAt g store bytes at
 marked mark.Unmarked g store bytes at = refuse BadRecord
 
 unfoldable pub recordAt : (g : Graph) (store : List Float) (bytes : List ℕ) (at : ℕ) → Request

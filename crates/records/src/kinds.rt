@@ -10,6 +10,7 @@ pub enum Mark {
     Variable,
     Prior,
     Observation,
+    Superseding,
     Unmarked,
 }
 
@@ -38,6 +39,9 @@ pub fn mark_of(a: usize, b: usize) -> Mark
     }
     if both(a, b, 0x4F, 0x42) {
         return Mark::Observation;
+    }
+    if both(a, b, 0x53, 0x55) {
+        return Mark::Superseding;
     }
     Mark::Unmarked
 }

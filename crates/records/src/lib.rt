@@ -11,6 +11,7 @@ use answer::Step;
 use bytes::FLOAT_BYTES;
 use bytes::HEADER_BYTES;
 use bytes::MARK_BYTES;
+use bytes::NUMBER_BYTES;
 use bytes::VARIABLE_BYTES;
 use factor::limits::KEYS;
 use factor::limits::ROWS;
@@ -249,6 +250,52 @@ fn read_observation(g: Graph, bytes: &[u8], at: usize, store: &mut [f64]) -> Ste
     )
 }
 
+// A factor's record within one that supersedes, from its mark on: a prior's or an observation's.
+fn read_within(g: Graph, bytes: &[u8], at: usize, store: &mut [f64]) -> Step
+    requires { ⌜ (valid g ≡ true) × (at ≤ length (now bytes)) ⌝ }
+    ensures { λ r. ⌜ r ≡ spec.stepOf g (spec.withinAt g (now (store .entry)) (now (bytes .entry)) at) ⌝ }
+    ensures { λ _. ⌜ now (store .exit) ≡ spec.requestStore g (now (store .entry)) (spec.withinAt g (now (store .entry)) (now (bytes .entry)) at) ⌝ }
+{
+    if cut(bytes, at, MARK_BYTES) {
+        return stop(g, Refusal::BadRecord);
+    }
+    let mark = kinds::mark_of(byte(bytes, at), byte(bytes, at + 1));
+    match mark {
+        Mark::Variable => stop(g, Refusal::BadRecord),
+        Mark::Prior => read_prior(g, bytes, at + MARK_BYTES, store),
+        Mark::Observation => read_observation(g, bytes, at + MARK_BYTES, store),
+        Mark::Superseding => stop(g, Refusal::BadRecord),
+        Mark::Unmarked => stop(g, Refusal::BadRecord),
+    }
+}
+
+// A factor that supersedes another, from the number of that one on. The old factor is retired once the new one is registered.
+fn read_superseding(g: Graph, bytes: &[u8], at: usize, store: &mut [f64]) -> Step
+    requires { ⌜ (valid g ≡ true) × (at ≤ length (now bytes)) ⌝ }
+    ensures { λ r. ⌜ r ≡ spec.stepOf g (spec.supersedingAt g (now (store .entry)) (now (bytes .entry)) at) ⌝ }
+    ensures { λ _. ⌜ now (store .exit) ≡ spec.requestStore g (now (store .entry)) (spec.supersedingAt g (now (store .entry)) (now (bytes .entry)) at) ⌝ }
+{
+    if cut(bytes, at, NUMBER_BYTES) {
+        return stop(g, Refusal::BadRecord);
+    }
+    let number = byte(bytes, at);
+    if !g.is_live(number) {
+        return stop(g, Refusal::NotLive);
+    }
+    let step = read_within(g, bytes, at + NUMBER_BYTES, store);
+    let next = step.next;
+    match next {
+        Next::At(_) => {
+            let registered = step.graph;
+            Step {
+                graph: registered.retire(number),
+                next: next,
+            }
+        }
+        Next::Refused(_) => step,
+    }
+}
+
 // A record, from its mark on.
 fn read_record(g: Graph, bytes: &[u8], at: usize, store: &mut [f64]) -> Step
     requires { ⌜ (valid g ≡ true) × (at ≤ length (now bytes)) ⌝ }
@@ -263,6 +310,7 @@ fn read_record(g: Graph, bytes: &[u8], at: usize, store: &mut [f64]) -> Step
         Mark::Variable => read_variable(g, bytes, at + MARK_BYTES),
         Mark::Prior => read_prior(g, bytes, at + MARK_BYTES, store),
         Mark::Observation => read_observation(g, bytes, at + MARK_BYTES, store),
+        Mark::Superseding => read_superseding(g, bytes, at + MARK_BYTES, store),
         Mark::Unmarked => stop(g, Refusal::BadRecord),
     }
 }
