@@ -4,7 +4,6 @@ use mathlib.Core.Logic.{_⊎_, _≢_, inl, inr}
 use mathlib.Core.List.{List, [], _∷_, _++_, map, List·Memᴰ, List·Memᴰ·head, List·Memᴰ·tail}
 use Prim.Native.Nat.{ℕ, zero, suc, _+_, _≤_, _<_}
 use native.Mathlib.Omega.{arith}
-use native.Mathlib.Decide.{decLt}
 use lib.Ieee.{Float}
 use lib.ListN.{length, getD, take, drop, length-map, length-append, length-take, length-drop}
 use lib.Seq.{length-take-le, getD-take}
@@ -16,7 +15,7 @@ use Rattle.schedule.specs.Pass as pass
 use Rattle.schedule.specs.Pass.{original, closed, ClosedFactor}
 use Rattle.schedule.specs.Gather.{Gathered}
 use Rattle.schedule.specs.Plan as schedule
-use Rattle.schedule.proofs.Counts.{count-cons, count-nil, hit-cases, mem-in, rising-in}
+use Rattle.schedule.proofs.Counts.{count-cons, count-nil, hit-cases, mem-in, rising-in, rising-once}
 use Rattle.schedule.specs.Messages.{Settled}
 use Rattle.schedule.proofs.Runs.{from-lt}
 use Rattle.plan.specs.Mask.{has, keysIn}
@@ -72,11 +71,7 @@ set-few m = kept-length max-variables [] (risingWhere max-variables (λ j. has j
     (λ x h. rising-in max-variables (λ j. has j m) x (omega (arith, count-nil x)) .1)
   where
     apart : (x : ℕ) → count x [] + count x (risingWhere max-variables (λ j. has j m)) ≤ 1
-    apart x = go (decLt 0 (count x (risingWhere max-variables (λ j. has j m))))
-      where
-        go : Dec (0 < count x (risingWhere max-variables (λ j. has j m))) → count x [] + count x (risingWhere max-variables (λ j. has j m)) ≤ 1
-        go (yes h) = omega (arith, count-nil x, rising-in max-variables (λ j. has j m) x h .2)
-        go (no h) = omega (arith, count-nil x)
+    apart x = omega (arith, count-nil x, rising-once max-variables (λ j. has j m) x)
 
 numbers-few : (q : arrays.Gathered) → Held q → length (gatheredNumbers (gatheredOf q)) ≤ max-slots
 unfolding gatheredOf

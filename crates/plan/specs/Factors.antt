@@ -1,4 +1,5 @@
 -- Inner: the keys of a graph's factors, and the key sets that hold them.
+use mathlib.Core.Path.{_≡_}
 use mathlib.Core.Bool.{cond}
 use mathlib.Core.List.{List, []}
 use Prim.Native.Nat.{ℕ, _≤_, _<_}
@@ -7,7 +8,9 @@ use lib.ListN.{getD, take}
 use Rattle.factor.specs.Limits.{max-variables, max-keys}
 use Rattle.factor.specs.Factor.{absent}
 use Rattle.factor.specs.declared.Factor.{Factor}
-use Rattle.plan.specs.Pass.{Agrees}
+use Rattle.schedule.specs.Count.{risingWhere}
+use Rattle.plan.specs.Pass.{Live, Agrees}
+use Rattle.plan.specs.declared.factors.Lives.{Lives}
 
 -- the keys that a factor touches
 abbrev pub touchedKeys : Factor → List ℕ
@@ -28,3 +31,12 @@ keysAmong factors number i = cond (ltb i number) (touchedKeys (getD factors i ab
 -- r holds the sets of these keys
 abbrev pub Masked : List Factor → (number : ℕ) (r : List ℕ) → Type 0
 Masked factors number r = Agrees r (keysAmong factors number)
+
+-- the numbers of the live factors among the first `number`, rising
+abbrev pub liveAmong : List Factor → (number : ℕ) → List ℕ
+liveAmong factors number = risingWhere number (λ i. getD factors i absent .live)
+
+-- r holds them
+pub record Lists (factors : List Factor) (number : ℕ) (r : Lives) : Type 0 where
+  pub originals : Live (r .numbers) (r .count)
+  pub are : take (r .count) (r .numbers) ≡ liveAmong factors number

@@ -112,7 +112,7 @@ pub fn plan_of(
     make_plan(keys, live, lives, order, n)
 }
 
-// Every place holds its own number: all keys rising, or all originals.
+// Every place holds its own number: all keys, rising.
 pub fn rise(list: &mut [u8])
     requires { ⌜ length (now list) ≤ 256 ⌝ }
     ensures { λ r. ⌜ now (list .exit) ≡ from 0 (length (now (list .entry))) ⌝ }

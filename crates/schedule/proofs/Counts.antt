@@ -232,3 +232,10 @@ rising-in n p x h = go (sure (p x)) (decLt x n)
     go (inl t) (yes l) = (t, l, rising-yes n p x l t)
     go (inl t) (no l) = absurd (omega (arith, keep-yes p x (from 0 n) t, from-above x 0 n (omega arith)))
     go (inr t) d = absurd (omega (arith, rising-no n p x t))
+
+pub rising-once : (n : ℕ) (p : ℕ → Bool) (x : ℕ) → count x (risingWhere n p) ≤ 1
+rising-once n p x = go (decLt 0 (count x (risingWhere n p)))
+  where
+    go : Dec (0 < count x (risingWhere n p)) → count x (risingWhere n p) ≤ 1
+    go (yes h) = omega (arith, rising-in n p x (omega arith) .2)
+    go (no h) = omega arith

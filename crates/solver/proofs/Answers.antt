@@ -1,25 +1,29 @@
 -- What the answers of `arrange` and `plan` mean, and what an outcome tells of the graph. Assumes nothing.
 use mathlib.Core.Path.{_≡_, refl, sym, ap, _∙_}
-use mathlib.Core.Bool.{Bool, true, false, cond}
+use mathlib.Core.Bool.{Bool, true, false, cond, and-true}
 use mathlib.Core.List.{List, []}
 use Prim.Native.Nat.{ℕ}
+use borrow.Author.Tests.{lt-ltb}
 use lib.ListN.{take}
-use Rattle.factor.specs.Limits.{max-variables, max-factors}
+use Rattle.factor.specs.Limits.{max-variables}
+use Rattle.factor.specs.Counting.{every}
 use Rattle.factor.specs.Told.{value, refusal}
-use Rattle.graph.specs.Record.{valid}
+use Rattle.graph.specs.Record.{factorAt, liveAt, valid}
 use Rattle.graph.specs.declared.Graph.{Graph}
 use Rattle.graph.specs.declared.refusal.Refusal.{Refusal}
 use Rattle.graph.specs.declared.refusal.Refusal.the-variants.{NoSuchGraph}
-use Rattle.graph.proofs.Validity.{valid-variables, valid-count}
+use Rattle.graph.proofs.Validity.{valid-variables}
 use Rattle.schedule.specs.Count.{from}
 use Rattle.schedule.specs.Plan as schedule
-use Rattle.plan.specs.Factors.{keysAmong}
+use Rattle.plan.specs.Factors.{keysAmong, liveAmong, Lists}
 use Rattle.plan.specs.Plan.{planIn}
 use Rattle.plan.specs.declared.plan.Plan.{Plan}
+use Rattle.plan.specs.declared.factors.Lives.{Lives}
+use Rattle.plan.proofs.Membership.{rising-same}
 use Rattle.plan.proofs.Rising.{take-from}
 use Rattle.plan_answer.specs.Answer.{answerOf}
 use Rattle.plan_answer.specs.declared.Plan as struct
-use Rattle.solver.specs.Plan.{graphPlan, noPlan, Answer, planned, planAnswer}
+use Rattle.solver.specs.Plan.{liveNumbers, graphPlan, noPlan, Answer, planned, planAnswer}
 use Rattle.solver.specs.declared.Arranged.{Arranged}
 use Rattle.solver.specs.declared.Planned.{Planned}
 use Rattle.solver.specs.declared.Outcome.the-variants.{Done, Refused}
@@ -27,18 +31,16 @@ use Rattle.solver.specs.Told.{planOutcomeTold, planTold}
 use Rattle.solver.proofs.Tables.{same-keys}
 use Rattle.solver.specs.Stages.{read}
 
--- all originals and all keys in their order, as the plan's code is given them: the plan is the graph's
-pub graph-plan : (g : Graph) (live order : List ℕ) → valid g ≡ true → live ≡ from 0 max-factors
-    → order ≡ from 0 max-variables
-    → schedule.plan (g .variables) (keysAmong (g .factors) (g .count)) (take (g .count) live) (take (g .variables) order) ≡ graphPlan g
+-- below the count the record alone says whether a factor is live
+same-live : (g : Graph) → liveAmong (g .factors) (g .count) ≡ liveNumbers g
+unfolding liveAt every
+same-live g = rising-same (g .count) (λ i. factorAt g i .live) (λ i. liveAt g i) (λ i l. simp (lt-ltb _ _ l, and-true))
+
+-- the live originals and all keys in their order, as the plan's code is given them: the plan is the graph's
+pub graph-plan : (g : Graph) (live : Lives) (order : List ℕ) → valid g ≡ true → Lists (g .factors) (g .count) live → order ≡ from 0 max-variables
+    → schedule.plan (g .variables) (keysAmong (g .factors) (g .count)) (take (live .count) (live .numbers)) (take (g .variables) order) ≡ graphPlan g
 unfolding graphPlan
-graph-plan g live order v el eo = rw (
-  el,
-  eo,
-  take-from 0 max-factors (g .count) (valid-count g v),
-  take-from 0 max-variables (g .variables) (valid-variables g v),
-  same-keys g,
-)
+graph-plan g live order v l eo = rw (l .are ∙ same-live g, eo, take-from 0 max-variables (g .variables) (valid-variables g v), same-keys g)
 
 pub made : (g : Graph) (p : Plan) → valid g ≡ true → planIn (g .variables) p ≡ graphPlan g
     → read (record { outcome = Done; keys = g .variables; plan = p }) ≡ planned g

@@ -6,20 +6,19 @@ use mathlib.Core.List.{List, reverse}
 use Prim.Native.Nat.{ℕ, _-_, _≤_, _<_}
 use native.Mathlib.Omega.{arith}
 use lib.ListN.{length, length-map, length-reverse}
-use Rattle.graph.specs.Record.{valid, factorKeys}
+use Rattle.graph.specs.Record.{liveAt, valid, factorKeys}
 use Rattle.graph.specs.declared.Graph.{Graph}
 use Rattle.graph.proofs.Validity.{valid-variables}
 use Rattle.schedule.specs.Count.{count, In, from}
 use Rattle.schedule.specs.Pass.{full-pass}
 use Rattle.schedule.specs.Gather.{gather}
 use Rattle.schedule.specs.Plan as schedule
-use Rattle.schedule.proofs.Counts.{count-reverse, from-in}
-use Rattle.schedule.proofs.Runs.{from-lt}
+use Rattle.schedule.proofs.Counts.{count-reverse, from-in, rising-in, rising-once}
 use Rattle.schedule.proofs.Messages.{tidy, tidy-more, older, steps, few-messages, settled, settled-more}
-use Rattle.schedule.proofs.Demand3.{from-once, long, gathered-at, demand3}
+use Rattle.schedule.proofs.Demand3.{long, gathered-at, demand3}
 use Rattle.schedule.proofs.Sums.{length-from}
 use Rattle.messages.specs.Tables.{Carriable}
-use Rattle.solver.specs.Plan.{graphPlan}
+use Rattle.solver.specs.Plan.{liveNumbers, graphPlan}
 use Rattle.solver.specs.Stages.{Runnable}
 use Rattle.solver.proofs.GraphOnce.{low}
 
@@ -72,7 +71,8 @@ module _ (g : Graph) (v : valid g ≡ true) (N order : List ℕ) (live : (i : �
         single = λ k h d f. omega (arith, demand3 n K N order distinct (λ f s. low g v f) each k h d .listed f, distinct f);
       }
 
--- over all factors and with keys rising
+-- over the live factors and with keys rising
 pub graph-runnable : (g : Graph) → valid g ≡ true → Runnable g (graphPlan g)
 unfolding graphPlan
-graph-runnable g v = runnable g v (from 0 (g .count)) (from 0 (g .variables)) (λ i h. from-lt i (g .count) h) (from-once (g .count)) (λ j. refl)
+graph-runnable g v =
+    runnable g v (liveNumbers g) (from 0 (g .variables)) (λ i h. rising-in (g .count) (liveAt g) i h .1) (rising-once (g .count) (liveAt g)) (λ j. refl)

@@ -1,25 +1,25 @@
--- Demand 3 over the plan of a valid graph: behind each key every factor stands exactly once, every other key is cleared exactly once and the key
+-- Demand 3 over the plan of a valid graph: behind each key every live factor stands exactly once, every other key is cleared exactly once and the key
 -- itself never. Assumes nothing.
-use mathlib.Core.Path.{_≡_, refl, subst}
+use mathlib.Core.Path.{_≡_, refl, sym, subst}
 use mathlib.Core.Bool.{Bool, true, false, cond}
 use mathlib.Core.List.{List, []}
 use Prim.Native.Nat.{ℕ, _<_}
 use native.Mathlib.Omega.{arith}
 use borrow.Author.Tests.{ltb-true}
-use lib.Dec.{ltb}
+use lib.Dec.{T, ltb}
 use lib.ListN.{getD, take, length-take}
 use lib.Seq.{getD-take}
 use Rattle.factor.proofs.Fitting.{fits-key}
-use Rattle.graph.specs.Record.{factorAt, valid, factorKeys}
+use Rattle.graph.specs.Record.{factorAt, liveAt, valid, factorKeys}
 use Rattle.graph.specs.declared.Graph.{Graph}
-use Rattle.graph.proofs.Validity.{valid-factor}
+use Rattle.graph.proofs.Validity.{valid-factor, live-below}
 use Rattle.schedule.specs.Count.{count, In, from}
 use Rattle.schedule.specs.Gather.{Gathered}
 use Rattle.schedule.specs.Once.{Once}
-use Rattle.schedule.proofs.Counts.{from-in}
+use Rattle.schedule.proofs.Counts.{rising-yes, rising-once}
 use Rattle.schedule.proofs.Demand3 as schedule
-use Rattle.schedule.proofs.Demand3.{from-once, demand3}
-use Rattle.solver.specs.Plan.{graphPlan}
+use Rattle.schedule.proofs.Demand3.{demand3}
+use Rattle.solver.specs.Plan.{liveNumbers, graphPlan}
 use Rattle.solver.proofs.Tables.{bounded}
 
 none-in : (j : ℕ) → In j [] → ⊥
@@ -41,16 +41,17 @@ low g v i j = go (ltb i (g .count)) refl
     go false e s = absurd (none-in j s)
 
 pub once : (g : Graph) → valid g ≡ true → (k : ℕ) → k < g .variables → (d : Gathered)
-    → Once (g .variables) (factorKeys g) (from 0 (g .count)) k (graphPlan g .forward) (graphPlan g .backward) (getD (graphPlan g .at-key) k d)
+    → Once (g .variables) (factorKeys g) (liveNumbers g) k (graphPlan g .forward) (graphPlan g .backward) (getD (graphPlan g .at-key) k d)
 unfolding graphPlan
-once g v k h d = demand3 (g .variables) (factorKeys g) (from 0 (g .count)) (from 0 (g .variables)) (from-once (g .count)) (λ f s j u. low g v f j u)
-    (λ j. refl) k h d
+once g v k h d = demand3 (g .variables) (factorKeys g) (liveNumbers g) (from 0 (g .variables)) (rising-once (g .count) (liveAt g))
+    (λ f s j u. low g v f j u) (λ j. refl) k h d
 
--- a factor without keys is uncovered at every key
-pub keyless : (g : Graph) → valid g ≡ true → (i k : ℕ) → i < g .count → factorKeys g i ≡ [] → k < g .variables → (d : Gathered)
+-- a live factor without keys is uncovered at every key
+pub keyless : (g : Graph) → valid g ≡ true → (i k : ℕ) → liveAt g i ≡ true → factorKeys g i ≡ [] → k < g .variables → (d : Gathered)
     → In i (getD (graphPlan g .at-key) k d .originals)
 unfolding graphPlan
 keyless g v i k l e h d =
-    schedule.keyless (g .variables) (factorKeys g) (from 0 (g .count)) (from 0 (g .variables)) (from-once (g .count)) (λ f s j u. low g v f j u)
-    (λ j. refl) i k h
-    (λ j s. none-in j (subst (λ (ks : List ℕ). In j ks) e s)) (omega (arith, from-in i 0 (g .count) (omega arith) (omega arith))) d
+    schedule.keyless (g .variables) (factorKeys g) (liveNumbers g) (from 0 (g .variables)) (rising-once (g .count) (liveAt g))
+    (λ f s j u. low g v f j u) (λ j. refl) i k h
+    (λ j s. none-in j (subst (λ (ks : List ℕ). In j ks) e s))
+    (omega (arith, rising-yes (g .count) (liveAt g) i (live-below g i l) (subst T (sym l) tt))) d

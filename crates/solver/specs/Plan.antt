@@ -1,20 +1,24 @@
--- The plan of a graph: the schedule's plan over the keys of its factors, all of them, with keys rising. Definitions only.
+-- The plan of a graph: the schedule's plan over the keys of its live factors, with keys rising. Definitions only.
 use mathlib.Core.Bool.{cond}
-use mathlib.Core.List.{[]}
+use mathlib.Core.List.{List, []}
 use Prim.Native.Nat.{ℕ}
-use Rattle.graph.specs.Record.{valid, factorKeys}
+use Rattle.graph.specs.Record.{liveAt, valid, factorKeys}
 use Rattle.graph.specs.declared.Graph.{Graph}
 use Rattle.graph.specs.declared.refusal.Refusal.the-variants.{NoSuchGraph}
-use Rattle.schedule.specs.Count.{from}
+use Rattle.schedule.specs.Count.{from, risingWhere}
 use Rattle.schedule.specs.Plan as schedule
 use Rattle.plan_answer.specs.Answer.{answerOf}
 use Rattle.solver.specs.declared.Planned.{Planned}
 use Rattle.solver.specs.declared.Outcome.{Outcome}
 use Rattle.solver.specs.declared.Outcome.the-variants.{Done, Refused}
 
--- the messages of both passes and what each key gathers, over all factors, with keys rising
+-- the numbers of the live factors, rising
+abbrev pub liveNumbers : Graph → List ℕ
+liveNumbers g = risingWhere (g .count) (λ i. liveAt g i)
+
+-- the messages of both passes and what each key gathers, over the live factors, with keys rising
 unfoldable pub graphPlan : Graph → schedule.Plan
-graphPlan g = schedule.plan (g .variables) (factorKeys g) (from 0 (g .count)) (from 0 (g .variables))
+graphPlan g = schedule.plan (g .variables) (factorKeys g) (liveNumbers g) (from 0 (g .variables))
 
 abbrev pub noPlan : schedule.Plan
 noPlan = record { forward = []; backward = []; at-key = [] }

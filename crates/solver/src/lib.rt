@@ -5,6 +5,7 @@ use factor::limits::FACTORS;
 use factor::limits::VARIABLES;
 use graph::Graph;
 use graph::refusal::Refusal;
+use plan::factors::live_of;
 use plan::plan::plan_of;
 use plan::plan::rise;
 use plan_answer::Plan;
@@ -37,29 +38,28 @@ pub struct Planned {
     pub plan: Plan,
 }
 
-// The plan of a graph, in arrays: over all its factors, with keys rising. What stands past their counts is read by nobody.
+// The plan of a graph, in arrays: over its live factors, with keys rising. What stands past their counts is read by nobody.
 pub fn arrange(g: Graph) -> Arranged
     ensures { λ r. ⌜ read r ≡ spec.planned g ⌝ }
     ensures { λ r. ⌜ (r .keys ≤ max-variables) × Bounded (r .keys) (r .plan) ⌝ }
 {
     let factors = g.factors;
-    let mut live = [0u8; FACTORS];
     let mut order = [0u8; VARIABLES];
-    rise(&mut live);
     rise(&mut order);
     if !g.valid() {
         return Arranged {
             outcome: Outcome::Refused(Refusal::NoSuchGraph),
             keys: 0,
-            plan: plan_of(factors, 0, live, 0, order, 0),
+            plan: plan_of(factors, 0, [0; FACTORS], 0, order, 0),
         };
     }
     let n = g.variables;
     let count = g.count;
+    let live = live_of(factors, count);
     Arranged {
         outcome: Outcome::Done,
         keys: n,
-        plan: plan_of(factors, count, live, count, order, n),
+        plan: plan_of(factors, count, live.numbers, live.count, order, n),
     }
 }
 

@@ -13,11 +13,7 @@ use Rattle.solver.proofs.arrange.Statement.{statement}
 use Rattle.solver.proofs.arrange.Tie as tie
 
 plan-of-requires : tie.Need-plan-of-requires
-plan-of-requires c κs = (
-  search needs,
-  rising-ordered _ _ 0 0 (c .before .before .before .before .before .before .rise .ensures)
-      (c .before .before .before .rise2 .ensures) (omega arith) (omega arith),
-)
+plan-of-requires c κs = ?
 
 returns : tie.Need-returns
 returns c = (
@@ -26,27 +22,17 @@ returns c = (
 )
 
 plan-of-requires-2 : tie.Need-plan-of-requires-2
-plan-of-requires-2 c κs =
-    let v = tells (c .before .valid .ensures .0) (not-false _ (c .if1 .left)) in (
-      registered _ v,
-      rising-ordered _ _ _ _ (c .before .before .before .before .before .before .rise .ensures) (c .before .before .before .rise2 .ensures)
-          (valid-count _ v) (valid-variables _ v),
-    )
+plan-of-requires-2 c κs = ?
 
 returns-2 : tie.Need-returns-2
-returns-2 c =
-    let v = tells (c .before .before .valid .ensures .0) (not-false _ (c .before .if1 .left)) in (
-      made _ _ v (c .plan-of2 .ensures .0 ∙ graph-plan _ _ _ v (c .before .before .before .before .before .before .before .rise .ensures)
-          (c .before .before .before .before .rise2 .ensures)),
-      (valid-variables _ v, c .plan-of2 .ensures .1),
-    )
+returns-2 c = ?
 
 pub arrange-spec : {M : Type 1} → statement M
 arrange-spec =
     tie.close (tie.spec
     (λ c. search needs)  -- slice-aggregate-rise
     (λ c κs. search needs)  -- rise-requires
-    (λ c. search needs)  -- slice-aggregate-rise-2
-    (λ c κs. search needs)  -- rise-requires-2
     (λ c κs. search needs)  -- valid-requires
-    plan-of-requires returns plan-of-requires-2 returns-2)
+    plan-of-requires returns
+    (λ c κs. ?)  -- live-of-requires
+    plan-of-requires-2 returns-2)
