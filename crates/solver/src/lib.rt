@@ -55,11 +55,12 @@ pub fn arrange(g: Graph) -> Arranged
     }
     let n = g.variables;
     let count = g.count;
-    let live = live_of(factors, count);
+    let lives = live_of(factors, count);
+    let live = lives.numbers;
     Arranged {
         outcome: Outcome::Done,
         keys: n,
-        plan: plan_of(factors, count, live.numbers, live.count, order, n),
+        plan: plan_of(factors, count, live, lives.count, order, n),
     }
 }
 
