@@ -269,11 +269,11 @@ module _ (g : Graph) (ok : Good g) where
   taken-sound : (f : Factor) {a mean variance store xi w : List Float} → Taken g f a mean variance store xi w → Sound (withFactor g f)
   taken-sound f t = factor-sound g (ok .0) so f (t .passed .few) (t .fit) (t .long) (t .alive)
 
-  comes-good : {keys : List ℕ} {store s : List Float} {x : Added} → Comes g keys store x s → Good (x .graph)
+  comes-good : {keys olds : List ℕ} {store s : List Float} {x : Added} → Comes g keys olds store x s → Good (x .graph)
   comes-good (turned why) = ok
   comes-good (named name size n) = (variable-shaped g (ok .0) so name size n, valid-of _ (variable-sound g (ok .0) so name size n))
-  comes-good (taken f a mean variance xi w t e) = (taken-shaped f t, valid-of _ (taken-sound f t))
-  comes-good (replaced j h f a mean variance xi w t e) =
+  comes-good (taken f a mean variance xi w t e o) = (taken-shaped f t, valid-of _ (taken-sound f t))
+  comes-good (replaced j h f a mean variance xi w t e o) =
       let l : j + 1 < g .count + 1 = omega (arith, live-below g j h) in (
         retired-shaped (withFactor g f) (taken-shaped f t) (taken-sound f t) j l,
         valid-of _ (retired-sound (withFactor g f) (taken-shaped f t) (taken-sound f t) j l),

@@ -59,6 +59,12 @@ keysGiven (variable name size) = []
 keysGiven (register exposure store) = exposed exposure
 keysGiven (supersede j exposure store) = exposed exposure
 
+-- the number of the factor that a call is to supersede, if it names one
+abbrev pub numbersNamed : Call → List ℕ
+numbersNamed (variable name size) = []
+numbersNamed (register exposure store) = []
+numbersNamed (supersede j exposure store) = j ∷ []
+
 -- each call gets the graph that the last one returned, refused or not
 unfoldable pub yields : Graph → List Call → Graph
 yields g [] = g
