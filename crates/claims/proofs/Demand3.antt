@@ -6,7 +6,7 @@ use mathlib.Core.List.{List, [], _∷_, List·Memᴰ, List·Memᴰ·head, List·
 use Prim.Native.Nat.{ℕ, _+_, _<_}
 use native.Mathlib.Omega.{arith}
 use lib.ListN.{length, getD}
-use Rattle.graph.specs.Record.{fresh, valid, factorKeys}
+use Rattle.graph.specs.Record.{fresh, liveAt, valid, factorKeys}
 use Rattle.graph.specs.Reached.{Call, yields}
 use Rattle.graph.specs.declared.Graph.{Graph}
 use Rattle.graph.proofs.Keeping.{good-of}
@@ -14,18 +14,18 @@ use Rattle.schedule.specs.Count.{hit, count, In, from}
 use Rattle.schedule.specs.Gather.{Gathered}
 use Rattle.schedule.specs.Once.{Once}
 use Rattle.schedule.specs.Plan as schedule
-use Rattle.schedule.proofs.Counts.{hit-same, hit-other, count-cons}
+use Rattle.schedule.proofs.Counts.{hit-same, hit-other, count-cons, rising-once}
 use Rattle.schedule.proofs.Runs.{from-lt}
 use Rattle.schedule.proofs.Sums.{length-from}
 use Rattle.schedule.proofs.Demand3.{from-once}
-use Rattle.solver.specs.Plan.{graphPlan, Answer, planned}
+use Rattle.solver.specs.Plan.{liveNumbers, graphPlan, Answer, planned}
 use Rattle.solver.specs.Run.{run}
 use Rattle.solver.specs.Stages.{Runnable}
 use Rattle.solver.specs.declared.Outcome.the-variants.{Done}
 use Rattle.solver.proofs.GraphOnce.{once}
 use Rattle.solver.proofs.Carriable.{graph-runnable}
-use Rattle.claims.specs.Demand3.{Accepted, keysAnswered, accepted, numbersAnswered, clearedBehind, Rests, Exact, Whole}
-use Rattle.claims.proofs.Calls.{reached, keys-are, numbers-are, given-are}
+use Rattle.claims.specs.Demand3.{Accepted, keysAnswered, accepted, numbersAnswered, live, clearedBehind, Rests, Exact, Whole}
+use Rattle.claims.proofs.Calls.{reached, keys-are, numbers-are, live-are, given-are}
 use Rattle.claims.proofs.Carrying.{run-carries}
 
 -- ---- the plan
@@ -36,23 +36,23 @@ planned-is g v = rw v
 
 -- ---- a key
 
--- the number of an accepted factor is among the numbers
+-- the number of a factor is among the numbers
 among : (fs : List Accepted) (f : Accepted) → List·Memᴰ f fs → In (f .number) (numbersAnswered fs)
 unfolding count
 among fs f (List·Memᴰ·head {x = a} {xs = rest} e) = omega (arith, hit-same (f .number), ap (λ (x : Accepted). count (f .number) (numbersAnswered (x ∷ rest))) e)
 among fs f (List·Memᴰ·tail {x = a} {xs = rest} m) = omega (arith, among rest f m)
 
 -- the claim over keys and numbers is the claim over what the calls answered
-rests : (g : Graph) (ks : List ℕ) (fs : List Accepted) → ks ≡ from 0 (g .variables) → numbersAnswered fs ≡ from 0 (g .count)
+rests : (g : Graph) (ks : List ℕ) (fs : List Accepted) → ks ≡ from 0 (g .variables) → numbersAnswered fs ≡ liveNumbers g
     → ((f : Accepted) → List·Memᴰ f fs → f .keys ≡ factorKeys g (f .number))
-    → (p : schedule.Plan) (k : ℕ) (q : Gathered) → k < g .variables → Once (g .variables) (factorKeys g) (from 0 (g .count)) k (p .forward) (p .backward) q
+    → (p : schedule.Plan) (k : ℕ) (q : Gathered) → k < g .variables → Once (g .variables) (factorKeys g) (liveNumbers g) k (p .forward) (p .backward) q
     → Rests ks fs p k q
 rests g ks fs ek en eg p k q l o =
     record {
       leaves-of = o .leaves-of;
       forward-under = o .forward-under;
       backward-under = o .backward-under;
-      listed = λ f m. omega (arith, o .listed (f .number), from-once (g .count) (f .number), numbered f m);
+      listed = λ f m. omega (arith, o .listed (f .number), rising-once (g .count) (liveAt g) (f .number), numbered f m);
       no-other-leaf = λ i h. omega (arith, o .listed i, ap (count i) en);
       others-once = λ j h d. omega (arith, split j, hit-other j k d, ap (count j) ek, from-once (g .variables) j);
       itself-never = omega (arith, split k, hit-same k, from-once (g .variables) k);
@@ -62,7 +62,7 @@ rests g ks fs ek en eg p k q l o =
       last-covers = λ f m j h c. o .last (f .number) (numbered f m) j (touched f m j h) c;
     }
   where
-    numbered : (f : Accepted) → List·Memᴰ f fs → In (f .number) (from 0 (g .count))
+    numbered : (f : Accepted) → List·Memᴰ f fs → In (f .number) (liveNumbers g)
     numbered f m = subst (λ (l : List ℕ). In (f .number) l) en (among fs f m)
 
     touched : (f : Accepted) → List·Memᴰ f fs → (j : ℕ) → In j (f .keys) → In j (factorKeys g (f .number))
@@ -104,8 +104,8 @@ module _ (cs : List Call) where
             (can-run .for-each ∙ sym (length-from 0 (g .variables)) ∙ ap length (sym (keys-are cs)));
         rests =
             λ k h d. let l : k < g .variables = from-lt k (g .variables) (subst (λ (l : List ℕ). In k l) (keys-are cs) h) in
-            by-answer (λ (a : Answer). Rests (keysAnswered fresh cs) (accepted fresh cs) (a .plan) k (getD (a .plan .at-key) k d))
-            (rests g (keysAnswered fresh cs) (accepted fresh cs) (keys-are cs) (numbers-are cs) (given-are cs) (graphPlan g) k
+            by-answer (λ (a : Answer). Rests (keysAnswered fresh cs) (live fresh cs) (a .plan) k (getD (a .plan .at-key) k d))
+            (rests g (keysAnswered fresh cs) (live fresh cs) (keys-are cs) (live-are cs) (given-are cs) (graphPlan g) k
             (getD (graphPlan g .at-key) k d) l (once g sound k l d));
         never-twice = λ factors messages work marginals. run-carries g can-run factors messages work marginals .never-twice;
         exact =

@@ -2,17 +2,18 @@
 -- that they yield. Definitions only.
 use mathlib.Core.Path.{_≡_}
 use mathlib.Core.Logic.{_≢_}
+use mathlib.Core.Bool.{not}
 use mathlib.Core.List.{List, [], _∷_, _++_, map, List·Memᴰ}
 use Prim.Native.Nat.{ℕ, _+_, _≤_}
 use lib.ListN.{length, getD}
 use lib.Ieee.{Float}
 use Rattle.graph.specs.Record.{sizeAt, fresh}
-use Rattle.graph.specs.Reached.{Call, answered, keysGiven, graphAfter, yields}
+use Rattle.graph.specs.Reached.{Call, answered, keysGiven, numbersNamed, graphAfter, yields}
 use Rattle.graph.specs.declared.Graph.{Graph}
 use Rattle.graph.specs.declared.Outcome.{Outcome}
 use Rattle.graph.specs.declared.Outcome.the-variants.{Key, Number, Refused}
 use Rattle.graph.specs.declared.refusal.Refusal.the-variants.{CountedTwice}
-use Rattle.schedule.specs.Count.{count, In, joined}
+use Rattle.schedule.specs.Count.{count, In, mem, keep, joined}
 use Rattle.schedule.specs.Pass.{ClosedFactor, at}
 use Rattle.schedule.specs.Gather.{Gathered, leaves}
 use Rattle.schedule.specs.Once.{behind, AllUnder, clearedBy}
@@ -57,31 +58,46 @@ accepted g (c ∷ cs) = factorIn (answered g c .outcome) (keysGiven c) ++ accept
 abbrev pub numbersAnswered : List Accepted → List ℕ
 numbersAnswered = map (λ (f : Accepted). f .number)
 
+-- the factors that an answer to a call which names these numbers supersedes: an accepted factor takes the place of the one named
+unfoldable pub supersededIn : Outcome → List ℕ → List ℕ
+supersededIn (Key k) named = []
+supersededIn (Number f) named = named
+supersededIn (Refused why) named = []
+
+-- the superseded factors, likewise
+unfoldable pub superseded : Graph → List Call → List ℕ
+superseded g [] = []
+superseded g (c ∷ cs) = supersededIn (answered g c .outcome) (numbersNamed c) ++ superseded (graphAfter g c) cs
+
+-- the live factors: those that were accepted and not superseded
+unfoldable pub live : Graph → List Call → List Accepted
+live g cs = keep (λ (f : Accepted). not (mem (f .number) (superseded g cs))) (accepted g cs)
+
 -- ---- what is claimed of the plan at a key
 
 -- the keys that the eliminations behind a key clear: those of its gathered messages and of all messages under them, in both passes, and the last one
 abbrev pub clearedBehind : schedule.Plan → Gathered → List ℕ
 clearedBehind p q = clearedBy (p .forward) (behind (p .forward) (q .forward)) ++ clearedBy (p .backward) (behind (p .backward) (q .backward)) ++ q .last
 
--- every accepted factor that touches a key which one of these messages clears is a leaf under that message
+-- every live factor that touches a key which one of these messages clears is a leaf under that message
 abbrev pub Covered : List Accepted → List ClosedFactor → List ℕ → Type 0
 Covered factors messages is =
     (i : ℕ) → In i is → (f : Accepted) → List·Memᴰ f factors → (j : ℕ) → In j (f .keys) → In j (at messages i .cleared) → In (f .number) (leaves messages i)
 
--- the claim at the key k, where the plan p has gathered q
+-- the claim at the key k, where the plan p has gathered q, over the registered keys and the live factors
 pub record Rests (keys : List ℕ) (factors : List Accepted) (p : schedule.Plan) (k : ℕ) (q : Gathered) : Type 0 where
   -- the leaves are those of all that k gathers, in that order; `under` has found every message behind k
   pub leaves-of : q .leaves ≡ joined (leaves (p .forward)) (q .forward) ++ joined (leaves (p .backward)) (q .backward) ++ q .originals
   pub forward-under : AllUnder (p .forward) (behind (p .forward) (q .forward))
   pub backward-under : AllUnder (p .backward) (behind (p .backward) (q .backward))
-  -- the leaves list every accepted factor exactly once, and nothing else
+  -- the leaves list every live factor exactly once, and nothing else: no superseded one
   pub listed : (f : Accepted) → List·Memᴰ f factors → count (f .number) (q .leaves) ≡ 1
   pub no-other-leaf : (i : ℕ) → In i (q .leaves) → In i (numbersAnswered factors)
   -- in the eliminations behind k every other registered key is cleared exactly once, k never, and nothing that is not registered
   pub others-once : (j : ℕ) → In j keys → j ≢ k → count j (clearedBehind p q) ≡ 1
   pub itself-never : count k (clearedBehind p q) ≡ 0
   pub no-other-key : (j : ℕ) → In j (clearedBehind p q) → In j keys
-  -- a factor that touches a cleared key is a leaf under the elimination that clears it: a forward message, a backward one, or the last one
+  -- a live factor that touches a cleared key is a leaf under the elimination that clears it: a forward message, a backward one, or the last one
   pub forward-covers : Covered factors (p .forward) (behind (p .forward) (q .forward))
   pub backward-covers : Covered factors (p .backward) (behind (p .backward) (q .backward))
   pub last-covers : (f : Accepted) → List·Memᴰ f factors → (j : ℕ) → In j (f .keys) → In j (q .last) → In (f .number) (q .leaves)
@@ -126,7 +142,7 @@ pub record Whole (cs : List Call) : Type 0 where
   pub for-each : length (planAfter cs .at-key) ≡ length (keysAnswered fresh cs)
   -- behind each registered key stands the whole graph, once
   pub rests : (k : ℕ) → In k (keysAnswered fresh cs) → (d : Gathered)
-      → Rests (keysAnswered fresh cs) (accepted fresh cs) (planAfter cs) k (getD (planAfter cs .at-key) k d)
+      → Rests (keysAnswered fresh cs) (live fresh cs) (planAfter cs) k (getD (planAfter cs .at-key) k d)
   -- no run gives the double-count refusal, whatever stores it is lent
   pub never-twice : (factors messages : List Float) (work : ℕ) (marginals : List Float) (stage key : ℕ)
       → run (graphOf cs) factors messages work marginals .answer .ended ≢ ended.Refused CountedTwice stage key

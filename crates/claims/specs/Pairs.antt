@@ -9,7 +9,7 @@ use Rattle.root.specs.Root.{rootOf}
 use Rattle.root.specs.declared.Pivot.the-variants.{Root}
 use Rattle.factor.specs.Limits.{max-size}
 use Rattle.graph.specs.Refusals.{refusalNumber}
-use Rattle.graph.specs.Record.{fresh, valid, factorKeys}
+use Rattle.graph.specs.Record.{fresh, liveAt, valid, factorKeys}
 use Rattle.graph.specs.Reached.{Call, prior, observation, variable, register, answered, graphAfter, storeAfter}
 use Rattle.graph.specs.declared.Graph.{Graph}
 use Rattle.graph.specs.declared.Outcome.the-variants as outcome
@@ -193,8 +193,8 @@ pub record Pairs : Type 0 where
   -- P8: keys 1, 1 are refused with 3
   pub p8 : answered (pair .graph) (observation-on (1 ∷ 1 ∷ []) (plus-one ∷ plus-one ∷ []) plus-one (replicate 14 nan)) .outcome ≡ outcome.Refused KeysNotRising
   pub p8-number : refusalNumber KeysNotRising ≡ 3
-  -- P9: an observation without keys is uncovered at every key; in a graph of two, the one of number 1
-  pub p9-every : (g : Graph) → valid g ≡ true → (i k : ℕ) → i < g .count → factorKeys g i ≡ [] → k < g .variables → (d : Gathered)
+  -- P9: a live observation without keys is uncovered at every key; in a graph of two, the one of number 1
+  pub p9-every : (g : Graph) → valid g ≡ true → (i k : ℕ) → liveAt g i ≡ true → factorKeys g i ≡ [] → k < g .variables → (d : Gathered)
       → In i (getD (planned g .plan .at-key) k d .originals)
   pub p9 : map (λ (q : Gathered). q .originals) (planBuilt keyless .at-key) ≡ (0 ∷ 1 ∷ []) ∷ (1 ∷ []) ∷ []
   -- P10: block (1, 0) of the cleared block has rows (3 6) and (4 8); it is 4 × 4, column by column
