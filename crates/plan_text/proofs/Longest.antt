@@ -31,7 +31,7 @@ use Rattle.plan.specs.declared.gather.Gathered.{Gathered}
 use Rattle.plan.specs.declared.plan.Plan.{Plan}
 use Rattle.plan.proofs.Stepping.{ready-later}
 use Rattle.plan.proofs.Unions.{slot-low, slot-high, at-msg, joined-zero}
-use Rattle.solver.specs.Plan.{Answer, graphPlan, planned}
+use Rattle.solver.specs.Plan.{Answer, liveNumbers, graphPlan, planned}
 use Rattle.solver.specs.declared.Arranged.{Arranged}
 use Rattle.solver.specs.declared.Outcome.the-variants.{Done}
 use Rattle.text.specs.Decimals.{space, fieldText}
@@ -221,11 +221,11 @@ arranged-most g made is v b =
     let k : made .keys ≡ n = ap (λ (x : Answer). x .keys) e in
     plan-most (made .keys) (made .plan) (omega arith) b
     (low-steps (made .plan .forward) _ n (ap (λ (x : Answer). x .plan .forward) e) few
-    (λ j l. omega (arith, order-steps n (factorKeys g) (from 0 (g .count)) (from 0 n) (λ i. refl) j l, length-from 0 n)))
+    (λ j l. omega (arith, order-steps n (factorKeys g) (liveNumbers g) (from 0 n) (λ i. refl) j l, length-from 0 n)))
     (low-steps (made .plan .backward) _ n (ap (λ (x : Answer). x .plan .backward) e) few
     (λ j l. omega (
       arith,
-      order-steps n (factorKeys g) (from 0 (g .count)) (reverse (from 0 n)) (λ i. count-reverse i (from 0 n)) j l,
+      order-steps n (factorKeys g) (liveNumbers g) (reverse (from 0 n)) (λ i. count-reverse i (from 0 n)) j l,
       length-reverse (from 0 n),
       length-from 0 n,
     )))
