@@ -127,7 +127,8 @@ module _ (b c : List ℕ) (most : ℕ) (same : Agree b c most) where
       (meaning (byteAt c (at + 2))) (at + 3 + byteAt c at) v y (omega arith)))))))
 
   -- a record by its mark, if all kinds agree
-  by-mark-as : (kinds : Mark → List ℕ → Request) (at : ℕ) → at + mark-bytes ≤ most → ((m : Mark) → kinds m b ≡ kinds m c) → byMark kinds b at ≡ byMark kinds c at
+  by-mark-as : (kinds : Mark → List ℕ → Request) (at : ℕ) → at + mark-bytes ≤ most → ((m : Mark) → kinds m b ≡ kinds m c)
+      → byMark kinds b at ≡ byMark kinds c at
   by-mark-as kinds at l h =
       rw (same .bytes at (omega arith), same .bytes (at + 1) (omega arith))
       (else-as (cut b at 2) (cut c at 2) _ _ _ (same .ends (at + 2) (omega arith)) (λ _. h (markOf (byteAt c at) (byteAt c (at + 1)))))

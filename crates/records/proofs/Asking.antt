@@ -72,7 +72,8 @@ module _ (g : Graph) (store : List Float) (bytes : List ℕ) (start : ℕ) where
   in-place j (plain exposure next w) = asked (supersede j exposure store) next (record { later = w .later; there = w .there; near = w .near; own = refl })
 
   -- after a check
-  unless : (P : Request → Type 0) → ((why : Refusal) → P (refuse why)) → (b : Bool) (why : Refusal) (q : Request) → (b ≡ false → P q) → P (cond b (refuse why) q)
+  unless : (P : Request → Type 0) → ((why : Refusal) → P (refuse why)) → (b : Bool) (why : Refusal) (q : Request) → (b ≡ false → P q)
+      → P (cond b (refuse why) q)
   unless P turned true why q h = turned why
   unless P turned false why q h = h refl
 

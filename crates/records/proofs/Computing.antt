@@ -10,6 +10,6 @@ use Rattle.records.specs.Records.{variableAt, priorNumbers, priorAt, mea
 use Rattle.records.specs.Records.{supersedingAt, recordAt, Reading, readFrom, readAll}
 
 unfoldable pub computedReading : List ℕ → List Float → Reading
-unfolding readAll readFrom recordAt supersedingAt withinAt markOf variableAt priorAt priorNumbers observationAt observed observedNumbers meaning wordAt numberAt listed
-    diagonalOf block blockColumn computedCall
+unfolding readAll readFrom recordAt supersedingAt withinAt markOf variableAt priorAt priorNumbers observationAt observed observedNumbers meaning wordAt
+    numberAt listed diagonalOf block blockColumn computedCall
 computedReading bytes store = readAll bytes store

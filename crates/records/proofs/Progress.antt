@@ -130,7 +130,8 @@ module _ (g : Graph) (ok : Good g) (len : ℕ) (held : offset g (g .count) ≤ l
   call-grown (supersede j exposure own) took store s =
       let plain : Added = entered g exposure own in
       by (liveAt g j)
-      (λ h. rw (← in-place g j plain own own (ok .1) _ h plain own (refl, refl) refl .0) (replacing-grown (plain .graph) j (plain .outcome) (entered-grown exposure own took s)))
+      (λ h. rw (← in-place g j plain own own (ok .1) _ h plain own (refl, refl) refl .0)
+      (replacing-grown (plain .graph) j (plain .outcome) (entered-grown exposure own took s)))
       (λ h. rw (← not-live g j plain own own (ok .1) _ h refl .0) (turned NotLive))
 
 -- ---- so does an accepted record

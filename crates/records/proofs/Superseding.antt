@@ -30,7 +30,8 @@ abbrev pub retiring : ℕ → Graph → Next → Step
 retiring j g (next-record.At n) = record { graph = retired g j; next = next-record.At n }
 retiring j g (next-record.Refused why) = record { graph = g; next = next-record.Refused why }
 
-module _ (g : Graph) (P : Added → Type 0) (turned : (why : Refusal) → P (refused g why)) (taken : (h : Graph) (n : ℕ) → P (record { graph = h; outcome = Number n })) where
+module _ (g : Graph) (P : Added → Type 0) (turned : (why : Refusal) → P (refused g why))
+    (taken : (h : Graph) (n : ℕ) → P (record { graph = h; outcome = Number n })) where
   settled : (f : Factor) (v : FactorVerdict) → P (settle g f v)
   settled f (accept numbers) = taken _ _
   settled f (refuse why) = turned why
@@ -42,15 +43,17 @@ module _ (g : Graph) (P : Added → Type 0) (turned : (why : Refusal) → P (ref
   entered-plain (observation keys rows a mean variance) own = settled (observationOf keys rows) (observationVerdict g keys rows a mean variance own)
 
 module _ (g : Graph) (store : List Float) (bytes : List ℕ) (start j : ℕ) (v : valid g ≡ true) (live : liveAt g j ≡ true) where
-  pub step-in-place : {q : Request} → Plain g store bytes start q → (r : Step) (s : List Float) → Meets g store q r s
+  step-in-place : {q : Request} → Plain g store bytes start q → (r : Step) (s : List Float) → Meets g store q r s
       → Meets g store (askInPlace j q) (retiring j (r .graph) (r .next)) s
   step-in-place (back why) r s (er, es) = rw er (refl, es)
   step-in-place (plain exposure next w) r s (er, es) =
       let x : Added = entered g exposure store in
       let e = in-place g j x store (enteredStore g exposure store) v (replacing (x .graph) j (x .outcome)) live x s (refl, es) refl in
-      rw (er, ← e .0, ← e .1)
-      (entered-plain g (λ x. retiring j (wentTo x next .graph) (wentTo x next .next) ≡ wentTo (replacing (x .graph) j (x .outcome)) next)
-      (λ why. refl) (λ h n. refl) exposure store, refl)
+      rw (er, ← e .0, ← e .1) (
+        entered-plain g (λ x. retiring j (wentTo x next .graph) (wentTo x next .next) ≡ wentTo (replacing (x .graph) j (x .outcome)) next)
+            (λ why. refl) (λ h n. refl) exposure store,
+        refl,
+      )
 
 -- ---- the ways out
 
@@ -78,4 +81,5 @@ module _ (g : Graph) (store : List Float) (bytes : List ℕ) (at : ℕ) where
         → (t : Step) → t ≡ retiring number (r .graph) (r .next) → Meets g store (supersedingAt g store bytes at) t s
     unfolding supersedingAt
     by-within v h r s met t e =
-        rw (there, ← read, h, e) (step-in-place g store bytes at number v h (within-plain g store bytes at (at + number-bytes) (omega arith) (omega arith)) r s met)
+        rw (there, ← read, h, e)
+        (step-in-place g store bytes at number v h (within-plain g store bytes at (at + number-bytes) (omega arith) (omega arith)) r s met)

@@ -30,33 +30,49 @@ unfolding recordAt
 of-kind c kind r s e met =
     let at = c .before .before .before in
     let args = entry at .args in
-    of-mark (λ m bytes. marked m (args .g) (args .store .now) bytes (args .at + mark-bytes)) (args .g) (args .store .now) (args .bytes .now) (args .at) _ _ _
-    kind r s (tells (at .before .cut .ensures) (at .if1 .left)) (c .before .before .byte .ensures .0) (c .before .byte2 .ensures .0) (c .mark-of .ensures) e met
+    of-mark (λ m bytes. marked m (args .g) (args .store .now) bytes (args .at + mark-bytes)) (args .g) (args .store .now) (args .bytes .now)
+    (args .at) _ _ _ kind r s (tells (at .before .cut .ensures) (at .if1 .left)) (c .before .before .byte .ensures .0) (c .before .byte2 .ensures .0)
+    (c .mark-of .ensures) e met
 
 returns : tie.Need-returns
 unfolding recordAt
 returns c =
     let args = c .before .before .before .before .before .args in
-    cut-mark (λ m bytes. marked m (args .g) (args .store .now) bytes (args .at + mark-bytes)) (args .g) (args .store .now) (args .bytes .now) (args .at)
-    _ (tells (c .before .before .cut .ensures) (c .before .if1 .taken)) (c .stop .ensures)
-
-read-variable-requires : tie.Need-read-variable-requires
-read-variable-requires c κs = let at = c .before .before .before .before .before in (entry at .pre .0, mark-there at)
+    cut-mark (λ m bytes. marked m (args .g) (args .store .now) bytes (args .at + mark-bytes)) (args .g) (args .store .now) (args .bytes .now)
+    (args .at) _ (tells (c .before .before .cut .ensures) (c .before .if1 .taken)) (c .stop .ensures)
 
 read-prior-requires : tie.Need-read-prior-requires
-read-prior-requires c κs = let at = c .before .before .before .before .before .before in (entry at .pre .0, mark-there at)
+read-prior-requires c κs =
+    let at = c .before .before .before .before .before .before in (entry at .pre .0, mark-there at)
 
 read-observation-requires : tie.Need-read-observation-requires
-read-observation-requires c κs = let at = c .before .before .before .before .before .before in (entry at .pre .0, mark-there at)
+read-observation-requires c κs =
+    let at = c .before .before .before .before .before .before in (entry at .pre .0, mark-there at)
 
 read-superseding-requires : tie.Need-read-superseding-requires
-read-superseding-requires c κs = let at = c .before .before .before .before .before .before in (entry at .pre .0, mark-there at)
+read-superseding-requires c κs =
+    let at = c .before .before .before .before .before .before in (entry at .pre .0, mark-there at)
 
 returns-2 : tie.Need-returns-2
 returns-2 c =
     let args = c .before .before .before .before .before .before .before .before .before .before .args in
     of-kind (c .before .before .before) mark.Variable _ _ (c .before .enum-told .given .1)
     (c .read-variable .ensures, as-it-was (args .g) (args .store .now) (args .bytes .now) (args .at + mark-bytes))
+
+returns-3 : tie.Need-returns-3
+returns-3 c =
+    let told = c .before .before .before .before in
+    of-kind (told .before .before) mark.Prior _ _ (told .enum-told2 .given .1) (c .before .before .read-prior .ensures)
+
+returns-4 : tie.Need-returns-4
+returns-4 c =
+    let told = c .before .before .before .before in
+    of-kind (told .before .before) mark.Observation _ _ (told .enum-told3 .given .1) (c .before .before .read-observation .ensures)
+
+returns-5 : tie.Need-returns-5
+returns-5 c =
+    let told = c .before .before .before .before in
+    of-kind (told .before .before) mark.Superseding _ _ (told .enum-told4 .given .1) (c .before .before .read-superseding .ensures)
 
 pub read-record-spec : {M : Type 1} → statement M
 read-record-spec =
@@ -70,7 +86,7 @@ read-record-spec =
     (λ c κs. search needs)  -- mark-of-requires
     (λ c. search needs)  -- enum-told
     (λ c. omega (arith, mark-there (c .before .before .before .before .before)))  -- add-read-variable
-    read-variable-requires
+    (λ c κs. let at = c .before .before .before .before .before in (entry at .pre .0, mark-there at))  -- read-variable-requires
     (λ c. search needs)  -- enum-told-2
     (λ c. omega (arith, mark-there (c .before .before .before .before .before)))  -- add-read-prior
     read-prior-requires
@@ -84,10 +100,9 @@ read-record-spec =
     (λ c κs. search needs)  -- stop-requires-2
     returns-2
     (λ c. search needs)  -- same-length
-    (λ c. of-kind (c .before .before .before .before .before .before) mark.Prior _ _ (c .before .before .before .before .enum-told2 .given .1) (c .before .before .read-prior .ensures))  -- returns-3
+    returns-3
     (λ c. search needs)  -- same-length-2
-    (λ c. of-kind (c .before .before .before .before .before .before) mark.Observation _ _ (c .before .before .before .before .enum-told3 .given .1) (c .before .before .read-observation .ensures))  -- returns-4
+    returns-4
     (λ c. search needs)  -- same-length-3
-    (λ c. of-kind (c .before .before .before .before .before .before) mark.Superseding _ _ (c .before .before .before .before .enum-told4 .given .1) (c .before .before .read-superseding .ensures))  -- returns-5
-    (λ c. of-kind (c .before .before .before) mark.Unmarked _ _ (c .before .enum-told5 .given .1) (c .stop2 .ensures, refl))  -- returns-6
-    )
+    returns-5
+    (λ c. of-kind (c .before .before .before) mark.Unmarked _ _ (c .before .enum-told5 .given .1) (c .stop2 .ensures, refl)))  -- returns-6

@@ -49,9 +49,6 @@ returns-2 c =
     not-there (args .g) (args .store .now) (args .bytes .now) (args .at) _ (tells (else1 .before .cut .ensures) (else1 .if1 .left))
     (c .before .before .before .byte .ensures .0) _ (tells (c .before .before .is-live .ensures) (not-true _ (c .before .if2 .taken))) (c .stop2 .ensures)
 
-read-within-requires : tie.Need-read-within-requires
-read-within-requires c κs = let at = c .before .before .before .before in (entry at .pre .0, number-there at)
-
 retire-requires : tie.Need-retire-requires
 retire-requires c κs =
     let at = c .before .before .before .before .before .before .before in
@@ -79,7 +76,7 @@ read-superseding-spec =
     (λ c κs. search needs)  -- stop-requires-2
     returns-2
     (λ c. omega (arith, number-there (c .before .before .before)))  -- add-read-within
-    read-within-requires
+    (λ c κs. let at = c .before .before .before .before in (entry at .pre .0, number-there at))  -- read-within-requires
     (λ c. search needs)  -- enum-told
     retire-requires
     (λ c. search needs)  -- enum-told-2
