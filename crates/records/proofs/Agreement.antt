@@ -16,8 +16,9 @@ use Rattle.graph.specs.Registration.{countsFit}
 use Rattle.graph.proofs.Validity.{valid-size, size-most}
 use Rattle.graph.specs.declared.Graph.{Graph}
 use Rattle.records.specs.Bytes.{float-bytes, byteAt, cut, wordAt, numberAt, listed, keysRead, numbersAt}
-use Rattle.records.specs.Records.{Request, header-bytes, most-given, longest, variableAt, priorNumbers, priorAt, meaning, flagKnown, givenNumbers}
-use Rattle.records.specs.Records.{varianceRead, observedNumbers, observed, observationAt, markOf, marked, recordAt}
+use Rattle.records.specs.Records.{Request, mark-bytes, header-bytes, number-bytes, most-given, longest, variableAt, priorNumbers, priorAt, meaning}
+use Rattle.records.specs.Records.{flagKnown, givenNumbers, varianceRead, observedNumbers, observed, observationAt, markOf, markedWithin, withinAt}
+use Rattle.records.specs.Records.{supersedingAt, marked, recordAt}
 use Rattle.records.specs.declared.kinds.Flag.{Flag}
 use Rattle.records.specs.declared.kinds.Flag.the-variants.{Diagonal, Given, Unknown}
 use Rattle.records.specs.declared.kinds.Mark.{Mark}
@@ -25,6 +26,7 @@ use Rattle.records.specs.declared.kinds.Mark.the-variants as mark
 use Rattle.graph.proofs.Checking.{few-keys, most-rows}
 use Rattle.records.proofs.Counts.{numbers-most}
 use Rattle.records.proofs.Listing.{listed-length}
+use Rattle.records.proofs.Requests.{byMark}
 
 listed-as : {A : Type 0} (f h : ℕ → A) (n : ℕ) → ((i : ℕ) → i < n → f i ≡ h i) → listed f n ≡ listed h n
 unfolding listed
@@ -124,16 +126,40 @@ module _ (b c : List ℕ) (most : ℕ) (same : Agree b c most) where
       (λ _. rw (keys-as (at + 3) (byteAt c at) (omega arith)) (observed-as g store (keysRead c (at + 3) (byteAt c at)) (byteAt c (at + 1))
       (meaning (byteAt c (at + 2))) (at + 3 + byteAt c at) v y (omega arith)))))))
 
-  marked-as : (m : Mark) (g : Graph) (store : List Float) (at : ℕ) → valid g ≡ true → at + header-bytes + max-keys + float-bytes * most-given ≤ most
-      → marked m g store b at ≡ marked m g store c at
-  marked-as mark.Variable g store at v l = variable-as at (omega arith)
-  marked-as mark.Prior g store at v l = prior-as g store at v (omega arith)
-  marked-as mark.Observation g store at v l = observation-as g store at v l
-  marked-as mark.Unmarked g store at v l = refl
-
-  pub record-as : (g : Graph) (store : List Float) (at : ℕ) → valid g ≡ true → at + longest ≤ most → recordAt g store b at ≡ recordAt g store c at
-  unfolding recordAt
-  record-as g store at v l =
+  -- a record by its mark, if all kinds agree
+  by-mark-as : (kinds : Mark → List ℕ → Request) (at : ℕ) → at + mark-bytes ≤ most → ((m : Mark) → kinds m b ≡ kinds m c)
+      → byMark kinds b at ≡ byMark kinds c at
+  by-mark-as kinds at l h =
       rw (same .bytes at (omega arith), same .bytes (at + 1) (omega arith))
-      (else-as (cut b at 2) (cut c at 2) _ _ _ (same .ends (at + 2) (omega arith))
-      (λ _. marked-as (markOf (byteAt c at) (byteAt c (at + 1))) g store (at + 2) v (omega arith)))
+      (else-as (cut b at 2) (cut c at 2) _ _ _ (same .ends (at + 2) (omega arith)) (λ _. h (markOf (byteAt c at) (byteAt c (at + 1)))))
+
+  module _ (g : Graph) (store : List Float) (v : valid g ≡ true) where
+    within-marked-as : (at : ℕ) → at + header-bytes + max-keys + float-bytes * most-given ≤ most → (m : Mark)
+        → markedWithin m g store b at ≡ markedWithin m g store c at
+    within-marked-as at l mark.Variable = refl
+    within-marked-as at l mark.Prior = prior-as g store at v (omega arith)
+    within-marked-as at l mark.Observation = observation-as g store at v l
+    within-marked-as at l mark.Superseding = refl
+    within-marked-as at l mark.Unmarked = refl
+
+    superseding-as : (at : ℕ) → at + number-bytes + mark-bytes + header-bytes + max-keys + float-bytes * most-given ≤ most
+        → supersedingAt g store b at ≡ supersedingAt g store c at
+    unfolding supersedingAt withinAt
+    superseding-as at l =
+        rw (
+          same .bytes at (omega arith),
+          same .ends (at + 1) (omega arith),
+          by-mark-as (λ m bytes. markedWithin m g store bytes (at + 1 + 2)) (at + 1) (omega arith) (within-marked-as (at + 1 + 2) (omega arith)),
+        )
+
+    marked-as : (at : ℕ) → at + number-bytes + mark-bytes + header-bytes + max-keys + float-bytes * most-given ≤ most → (m : Mark)
+        → marked m g store b at ≡ marked m g store c at
+    marked-as at l mark.Variable = variable-as at (omega arith)
+    marked-as at l mark.Prior = prior-as g store at v (omega arith)
+    marked-as at l mark.Observation = observation-as g store at v (omega arith)
+    marked-as at l mark.Superseding = superseding-as at l
+    marked-as at l mark.Unmarked = refl
+
+    pub record-as : (at : ℕ) → at + longest ≤ most → recordAt g store b at ≡ recordAt g store c at
+    unfolding recordAt
+    record-as at l = by-mark-as (λ m bytes. marked m g store bytes (at + 2)) at (omega arith) (marked-as (at + 2) (omega arith))

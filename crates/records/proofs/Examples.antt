@@ -1,14 +1,16 @@
 -- Small jobs read by computation: one variable with a prior or an observation of each flag, and records that are turned back. Assumes nothing.
 use Prim.Native.Nat.{ℕ}
 use mathlib.Core.Path.{_≡_, refl}
+use mathlib.Core.Bool.{false}
 use mathlib.Core.List.{List, [], _∷_, _++_}
 use lib.Ieee.{Float, nan, binary64, ofBits}
+use lib.ListN.{replicate}
 use Rattle.matrix.specs.Sums.{plus-zero}
-use Rattle.factor.specs.Factor.{priorOf}
-use Rattle.graph.specs.Record.{fresh}
-use Rattle.graph.specs.Registration.{withVariable, withFactor}
-use Rattle.graph.specs.declared.refusal.Refusal.the-variants.{KeysNotRising, CountOutside, BadRecord, NoSuchKey}
-use Rattle.records.specs.Records.{Reading, reading, readAll}
+use Rattle.factor.specs.Factor.{noFactor, priorOf, withLive}
+use Rattle.graph.specs.Record.{noName, fresh}
+use Rattle.graph.specs.declared.Graph.{Graph}
+use Rattle.graph.specs.declared.refusal.Refusal.the-variants.{KeysNotRising, CountOutside, BadRecord, NoSuchKey, FactorStoreShort, NotLive}
+use Rattle.records.specs.Records.{Reading, reading, readFrom, readAll}
 use Rattle.records.specs.declared.answer.Ended.{Ended}
 use Rattle.records.specs.declared.answer.Ended.the-variants.{Done, Refused}
 use Rattle.records.proofs.Computing.{computedReading}
@@ -63,13 +65,24 @@ job bytes = readAll bytes (nan ∷ nan ∷ nan ∷ [])
 abbrev ended : List ℕ → Ended
 ended bytes = job bytes .answer .ended
 
+-- a variable and a live prior on it
+abbrev held : Graph
+held =
+    record {
+      symbols = (0x61, 0) ∷ replicate 31 noName;
+      sizes = 1 ∷ replicate 31 0;
+      variables = 1;
+      factors = priorOf 0 1 ∷ replicate 63 noFactor;
+      count = 1;
+    }
+
 -- nothing at all is a whole job
 no-records : job [] ≡ reading fresh Done (nan ∷ nan ∷ nan ∷ [])
 unfolding computedReading
 no-records = refl
 
 -- one variable and one prior, whose xi and W are stored
-one-prior : job (variable-bytes 0 ++ prior-bytes) ≡ reading (withFactor (withVariable fresh (0x61, 0) 1) (priorOf 0 1)) Done (half ∷ quarter ∷ nan ∷ [])
+one-prior : job (variable-bytes 0 ++ prior-bytes) ≡ reading held Done (half ∷ quarter ∷ nan ∷ [])
 unfolding computedReading
 one-prior = refl
 
@@ -145,3 +158,52 @@ six-rows = refl
 keys-not-there : ended (0x4F ∷ 0x42 ∷ 2 ∷ 1 ∷ 1 ∷ 9 ∷ 9 ∷ []) ≡ Refused KeysNotRising 0
 unfolding computedReading
 keys-not-there = refl
+
+-- ---- records that supersede
+
+-- a factor that isn't there: 19, though nothing follows its number; and a number that is cut: 8
+not-there : ended (0x53 ∷ 0x55 ∷ 0 ∷ []) ≡ Refused NotLive 0
+unfolding computedReading
+not-there = refl
+
+number-cut : ended (0x53 ∷ 0x55 ∷ []) ≡ Refused BadRecord 0
+unfolding computedReading
+number-cut = refl
+
+-- a job with a variable, a prior and a record in place of that prior
+abbrev replaced : List ℕ → List ℕ
+replaced bytes = variable-bytes 0 ++ prior-bytes ++ 0x53 ∷ 0x55 ∷ 0 ∷ bytes
+
+-- no mark, a variable and a superseding record within: 8
+no-mark : ended (replaced []) ≡ Refused BadRecord 2
+unfolding computedReading
+no-mark = refl
+
+variable-within : ended (replaced (variable-bytes 1)) ≡ Refused BadRecord 2
+unfolding computedReading
+variable-within = refl
+
+superseding-within : ended (replaced (0x53 ∷ 0x55 ∷ 0 ∷ prior-bytes)) ≡ Refused BadRecord 2
+unfolding computedReading
+superseding-within = refl
+
+-- a prior within, without room for the numbers of both: 13, and factor 0 stays live
+no-room : job (replaced prior-bytes) ≡ reading held (Refused FactorStoreShort 2) (half ∷ quarter ∷ nan ∷ [])
+unfolding computedReading
+no-room = refl
+
+-- with room, from there on: factor 0 is no longer live, factor 1 is, and both have their numbers
+abbrev superseded : Graph
+superseded =
+    record {
+      symbols = (0x61, 0) ∷ replicate 31 noName;
+      sizes = 1 ∷ replicate 31 0;
+      variables = 1;
+      factors = withLive (priorOf 0 1) false ∷ priorOf 0 1 ∷ replicate 62 noFactor;
+      count = 2;
+    }
+
+prior-within : readFrom 2 (0x53 ∷ 0x55 ∷ 0 ∷ prior-bytes) 0 2 held (half ∷ quarter ∷ nan ∷ nan ∷ [])
+    ≡ reading superseded Done (half ∷ quarter ∷ half ∷ quarter ∷ [])
+unfolding computedReading
+prior-within = refl

@@ -3,9 +3,10 @@ pub mod Listing
 pub mod Counts
 pub mod Flags
 pub mod Requests
-pub mod Asking
-pub mod Reading
 pub mod Agreement
+pub mod Asking
+pub mod Superseding
+pub mod Reading
 pub mod Progress
 pub mod StoreLength
 pub mod Prefix

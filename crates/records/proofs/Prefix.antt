@@ -84,7 +84,7 @@ module _ (b c : List ℕ) (room most : ℕ) (much : enough room ≤ most) (same 
       let f : at + longest ≤ most = far at g store r st held bound in
       let t : ltb at (length b) ≡ ltb at (length c) = ends-as (length b) (length c) at (same .ends (at + 1) (omega arith)) in
       let k : length (left at place g store) ≡ length store = record-same g store c at in
-      one-turn at place g store m n t (record-as b c most same g store at (good-of g r .1) f)
+      one-turn at place g store m n t (record-as b c most same g store (good-of g r .1) at f)
       (λ x e.
       let l : at < x = record-next c g store at x e .0 in
       let p : x + most-read g ≤ at + most-read (rest at place g store) = record-bounded g (good-of g r) store held at c x e .0 in

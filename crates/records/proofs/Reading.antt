@@ -3,11 +3,11 @@ use Prim.Native.Nat.{ℕ, zero, suc, _+_, _-_, _≤_, _<_}
 use mathlib.Core.Path.{_≡_, refl, sym, ap, _∙_}
 use mathlib.Core.List.{List}
 use native.Mathlib.Omega.{arith}
-use borrow.Author.Tests.{lt-ltb, le-ltb, ltb-false}
+use borrow.Author.Tests.{lt-ltb, le-ltb}
 use lib.Ieee.{Float}
 use lib.ListN.{length}
 use Rattle.graph.proofs.Calls.{reached-more}
-use Rattle.graph.specs.Reached.{prior, observation, variable, register, answered, Reached}
+use Rattle.graph.specs.Reached.{answered, Reached}
 use Rattle.graph.specs.declared.Graph.{Graph}
 use Rattle.graph.specs.declared.Outcome.{Outcome}
 use Rattle.graph.specs.declared.Outcome.the-variants as outcome
@@ -16,7 +16,7 @@ use Rattle.records.specs.Records.{Request, ask, refuse, recordAt, nextOf
 use Rattle.records.specs.declared.answer.Next.the-variants as next-record
 use Rattle.records.specs.declared.answer.Step.{Step}
 use Rattle.records.specs.declared.answer.Ended.the-variants.{Done, Refused}
-use Rattle.records.proofs.Asking.{Present, Asks, nothing, variable-asked, prior-asked, observation-asked, asks}
+use Rattle.records.proofs.Asking.{Asks, nothing, asked, asks}
 
 -- ---- the next record begins later, within the bytes
 
@@ -27,15 +27,9 @@ next-is (outcome.Number k) next n h = cc
 next-is (outcome.Refused why) next n h = absurd (let z : _≡_ {A = ℕ} 0 1 = cc in omega arith)
 
 module _ (bytes : List ℕ) (g : Graph) (store : List Float) (at n : ℕ) where
-  ends : {from k : ℕ} → Present g store bytes at from k → from + k ≡ n → (at < n) × (n ≤ length bytes)
-  ends w e = let l = w .later in let m : _ + _ ≤ length bytes = ltb-false _ _ (w .there) in (omega arith, omega arith)
-
   goes-on : {q : Request} → Asks g store bytes at q → stepOf g q .next ≡ next-record.At n → (at < n) × (n ≤ length bytes)
   goes-on (nothing why) e = absurd (let z : _≡_ {A = ℕ} 0 1 = cc in omega arith)
-  goes-on (variable-asked name size w) e = ends w (next-is (answered g (variable name size) .outcome) _ n e)
-  goes-on (prior-asked key mean variance from w) e = ends w (next-is (answered g (register (prior key mean variance) store) .outcome) _ n e)
-  goes-on (observation-asked keys rows flag a mean variance from w) e = ends w
-      (next-is (answered g (register (observation keys rows a mean variance) store) .outcome) _ n e)
+  goes-on (asked call next w) e = rw (← next-is (answered g call .outcome) next n e) (w .later, w .there)
 
   pub record-next : stepOf g (recordAt g store bytes at) .next ≡ next-record.At n → (at < n) × (n ≤ length bytes)
   record-next e = goes-on (asks g store bytes at) e

@@ -11,8 +11,9 @@ use Rattle.graph.specs.declared.refusal.Refusal.{Refusal}
 use Rattle.graph.specs.declared.refusal.Refusal.the-variants.{BadRecord}
 use Rattle.graph.specs.Reached.{variable}
 use Rattle.records.specs.Bytes.{byteAt, cut, wordAt}
-use Rattle.records.specs.Records.{Request, ask, refuse, variableAt, stepOf, stopped, requestStore}
+use Rattle.records.specs.Records.{Request, ask, refuse, mark-bytes, variableAt, markOf, stepOf, stopped, requestStore}
 use Rattle.records.specs.declared.answer.Step.{Step}
+use Rattle.records.specs.declared.kinds.Mark.{Mark}
 
 -- what a function answers for a request, and how it leaves the store
 abbrev pub Meets : Graph → List Float → Request → Step → List Float → Type 0
@@ -39,3 +40,17 @@ as-it-was g store bytes at = by (cut bytes at 9)
 -- a record that isn't cut short has its bytes
 pub there : (bytes : List ℕ) (at n : ℕ) → cut bytes at n ≡ false → at + n ≤ length bytes
 there bytes at n h = ltb-false _ _ h
+
+-- ---- a record by its mark
+
+-- what follows the mark here, by its kind
+abbrev pub byMark : (Mark → List ℕ → Request) → (bytes : List ℕ) (at : ℕ) → Request
+byMark kinds bytes at = cond (cut bytes at mark-bytes) (refuse BadRecord) (kinds (markOf (byteAt bytes at) (byteAt bytes (at + 1))) bytes)
+
+module _ (kinds : Mark → List ℕ → Request) (g : Graph) (store : List Float) (bytes : List ℕ) (at : ℕ) where
+  pub cut-mark : (r : Step) → cut bytes at mark-bytes ≡ true → r ≡ stopped g BadRecord → Meets g store (byMark kinds bytes at) r store
+  cut-mark r h e = rw h (e, refl)
+
+  pub of-mark : (a b : ℕ) (m n : Mark) (r : Step) (s : List Float) → cut bytes at mark-bytes ≡ false → a ≡ byteAt bytes at → b ≡ byteAt bytes (at + 1)
+      → m ≡ markOf a b → m ≡ n → Meets g store (kinds n bytes) r s → Meets g store (byMark kinds bytes at) r s
+  of-mark a b m n r s h ea eb em en x = rw (h, ← ea, ← eb, ← em, en) x

@@ -1,6 +1,6 @@
 -- A record leaves the store as long as it was. Assumes nothing.
 use Prim.Native.Nat.{ℕ, _+_, _-_, _*_}
-use mathlib.Core.Path.{_≡_, refl}
+use mathlib.Core.Path.{_≡_, refl, ap, _∙_}
 use mathlib.Core.List.{List, _++_}
 use native.Mathlib.Omega.{arith}
 use lib.Ieee.{Float}
@@ -12,10 +12,10 @@ use Rattle.factor.specs.declared.Factor.{Factor}
 use Rattle.graph.specs.Record.{offset}
 use Rattle.graph.specs.Registration.{accept, stored}
 use Rattle.graph.specs.Reached as calls
-use Rattle.graph.specs.Reached.{Call, prior, observation, register, lent}
+use Rattle.graph.specs.Reached.{Call, lent}
 use Rattle.graph.proofs.Checking.{Taken, a-long, mean-long}
-use Rattle.records.proofs.Asking.{Asks, nothing, variable-asked, prior-asked, observation-asked, asks}
-use Rattle.graph.proofs.Calls.{Comes, turned, named, taken, comes}
+use Rattle.records.proofs.Asking.{Asks, nothing, asked, asks}
+use Rattle.graph.proofs.Calls.{Comes, turned, named, taken, replaced, comes}
 use Rattle.graph.specs.declared.Added.{Added}
 use Rattle.graph.specs.declared.Graph.{Graph}
 use Rattle.records.specs.Records.{Request, recordAt, requestStore}
@@ -48,6 +48,7 @@ comes-kept : {g : Graph} {keys : List ℕ} {store s : List Float} {x : Added} �
 comes-kept (turned why) = refl
 comes-kept (named name size n) = refl
 comes-kept {g} {store = store} (taken f a mean variance xi w t e) = taken-kept g store f a mean variance xi w t
+comes-kept {g} {store = store} (replaced j h f a mean variance xi w t e) = taken-kept g store f a mean variance xi w t
 
 call-kept : (g : Graph) (store : List Float) (c : Call) → length (calls.storeAfter g store c) ≡ length (lent store c)
 call-kept g store c = comes-kept (comes g store c)
@@ -56,9 +57,7 @@ call-kept g store c = comes-kept (comes g store c)
 
 asks-kept : {g : Graph} {store : List Float} {bytes : List ℕ} {at : ℕ} {q : Request} → Asks g store bytes at q → length (requestStore g store q) ≡ length store
 asks-kept (nothing why) = refl
-asks-kept (variable-asked name size w) = refl
-asks-kept {g} {store} (prior-asked key mean variance from w) = call-kept g store (register (prior key mean variance) store)
-asks-kept {g} {store} (observation-asked keys rows flag a mean variance from w) = call-kept g store (register (observation keys rows a mean variance) store)
+asks-kept {g} {store} (asked call next w) = call-kept g store call ∙ ap (λ (s : List Float). length s) (w .own)
 
 pub record-same : (g : Graph) (store : List Float) (bytes : List ℕ) (at : ℕ) → length (requestStore g store (recordAt g store bytes at)) ≡ length store
 record-same g store bytes at = asks-kept (asks g store bytes at)

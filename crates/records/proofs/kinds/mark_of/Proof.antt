@@ -24,9 +24,19 @@ returns-3 c = rw (
 returns-4 : tie.Need-returns-4
 unfolding markOf
 returns-4 c = rw (
-  tells (c .before .before .before .before .before .both .ensures) (c .before .before .before .before .if1 .left),
-  tells (c .before .before .before .both2 .ensures) (c .before .before .if2 .left),
-  tells (c .before .both3 .ensures) (c .if3 .left),
+  tells (c .before .before .before .before .before .before .before .both .ensures) (c .before .before .before .before .before .before .if1 .left),
+  tells (c .before .before .before .before .before .both2 .ensures) (c .before .before .before .before .if2 .left),
+  tells (c .before .before .before .both3 .ensures) (c .before .before .if3 .left),
+  tells (c .before .both4 .ensures) (c .if4 .taken),
+)
+
+returns-5 : tie.Need-returns-5
+unfolding markOf
+returns-5 c = rw (
+  tells (c .before .before .before .before .before .before .before .both .ensures) (c .before .before .before .before .before .before .if1 .left),
+  tells (c .before .before .before .before .before .both2 .ensures) (c .before .before .before .before .if2 .left),
+  tells (c .before .before .before .both3 .ensures) (c .before .before .if3 .left),
+  tells (c .before .both4 .ensures) (c .if4 .left),
 )
 
 pub mark-of-spec : {M : Type 1} → statement M
@@ -37,4 +47,6 @@ mark-of-spec =
     (λ c κs. search needs)  -- both-requires-2
     returns-2
     (λ c κs. search needs)  -- both-requires-3
-    returns-3 returns-4)
+    returns-3
+    (λ c κs. search needs)  -- both-requires-4
+    returns-4 returns-5)
