@@ -44,11 +44,11 @@ taken-kept g store f a mean variance xi w t =
       p .room,
     ))
 
-comes-kept : {g : Graph} {keys : List ℕ} {store s : List Float} {x : Added} → Comes g keys store x s → length s ≡ length store
+comes-kept : {g : Graph} {keys olds : List ℕ} {store s : List Float} {x : Added} → Comes g keys olds store x s → length s ≡ length store
 comes-kept (turned why) = refl
 comes-kept (named name size n) = refl
-comes-kept {g} {store = store} (taken f a mean variance xi w t e) = taken-kept g store f a mean variance xi w t
-comes-kept {g} {store = store} (replaced j h f a mean variance xi w t e) = taken-kept g store f a mean variance xi w t
+comes-kept {g} {store = store} (taken f a mean variance xi w t e o) = taken-kept g store f a mean variance xi w t
+comes-kept {g} {store = store} (replaced j h f a mean variance xi w t e o) = taken-kept g store f a mean variance xi w t
 
 call-kept : (g : Graph) (store : List Float) (c : Call) → length (calls.storeAfter g store c) ≡ length (lent store c)
 call-kept g store c = comes-kept (comes g store c)
