@@ -226,9 +226,31 @@ bare-run : runBuilt bare 0 2 ≡ record { answer = record { figure = 0; ended = 
 unfolding computedRun
 bare-run = refl
 
-held-run : runBuilt held 0 2 ≡ record { answer = record { figure = 0; ended = Done }; messages = []; marginals = two ∷ four ∷ [] }
+-- one key of size 1 with a prior, whose xi is 0.5 and W 0.25
+abbrev made-held : Built
+made-held =
+    record {
+      graph =
+          record {
+            symbols = (97, 0) ∷ replicate 31 noName;
+            sizes = 1 ∷ replicate 31 0;
+            variables = 1;
+            factors = p0 ∷ replicate 63 noFactor;
+            count = 1;
+          };
+      store = float 0x3FE0000000000000 ∷ float 0x3FD0000000000000 ∷ [];
+    }
+
+held-is : held ≡ made-held
+unfolding computedCalls
+held-is = refl
+
+made-held-run : runBuilt made-held 0 2 ≡ record { answer = record { figure = 0; ended = Done }; messages = []; marginals = two ∷ four ∷ [] }
 unfolding computedRun
-held-run = refl
+made-held-run = refl
+
+held-run : runBuilt held 0 2 ≡ record { answer = record { figure = 0; ended = Done }; messages = []; marginals = two ∷ four ∷ [] }
+held-run = ap (λ (r : Built). runBuilt r 0 2) held-is ∙ made-held-run
 
 equal-keys : answered graph (observation-on (1 ∷ 1 ∷ []) (plus-one ∷ plus-one ∷ []) plus-one (replicate 14 nan)) .outcome ≡ outcome.Refused KeysNotRising
 unfolding computedCalls
