@@ -80,17 +80,20 @@ def inverse(low):
     return transposed([solve(low, [float(i == j) for i in range(size)]) for j in range(size)])
 
 
-# Reading: a factor is (keys, rows, A, xi, W), rows None for a prior.
+# Reading: a factor is (keys, rows, A, xi, W), rows None for a prior. The numbers of the live ones rise.
 
 class Job:
     def __init__(self, data):
         self.data, self.at, self.record = data, 0, 0
-        self.names, self.sizes, self.factors, self.stored = [], [], [], 0
+        self.names, self.sizes, self.factors, self.live, self.stored = [], [], [], [], 0
         while self.at < len(data):
-            mark = self.take(2)
-            refuse(mark not in (b"VA", b"PR", b"OB"), 8)
-            {b"VA": self.variable, b"PR": self.prior, b"OB": self.observation}[mark]()
+            self.read(b"VA", b"PR", b"OB", b"SU")
             self.record += 1
+
+    def read(self, *marks):
+        mark = self.take(2)
+        refuse(mark not in marks, 8)
+        {b"VA": self.variable, b"PR": self.prior, b"OB": self.observation, b"SU": self.superseding}[mark]()
 
     def take(self, count):
         refuse(len(self.data) - self.at < count, 8)
@@ -129,6 +132,12 @@ class Job:
         made = [[x if i == j else 0.0 for j in range(rows)] for i in range(rows)]
         self.register(keys, rows, a, mean, self.matrix(rows, rows) if x is None else made)
 
+    def superseding(self):
+        number = self.take(1)[0]
+        refuse(number not in self.live, 19)
+        self.read(b"PR", b"OB")
+        self.live.remove(number)
+
     def register(self, keys, rows, a, mean, variance):
         need = sum(map(len, a)) + len(mean) + len(mean) ** 2
         refuse(len(self.factors) >= FACTORS, 12)
@@ -140,14 +149,19 @@ class Job:
         xi, w = solve(low, [value for value, in mean]), inverse(low)
         refuse(not finite(xi, *w), 6)
         self.stored += need
+        self.live.append(len(self.factors))
         self.factors.append((keys, rows, a, xi, w))
 
 
-# Schedule: a slot is ('', original) or ('m', message).
+# Schedule: a slot is ('', original) or ('m', message). Originals are given by their keys, a superseded one by None.
+
+def live(originals):
+    return [i for i, keys in enumerate(originals) if keys is not None]
+
 
 def full_pass(originals, order):
     """Messages of a pass: (step, content, kept, cleared)."""
-    slots, active, messages = [("", i) for i in range(len(originals))], set(), []
+    slots, active, messages = [("", i) for i in live(originals)], set(), []
     touches = lambda slot: set(messages[slot[1]][2] if slot[0] else originals[slot[1]])
     for step, key in enumerate(order):
         active.add(key)
@@ -187,7 +201,7 @@ def gather(originals, passes, key, count):
         inner = {i for j in early for kind, i in messages[j][1] if kind}
         tops.append([j for j in early if j not in inner])
     covered = [leaf for messages, top in zip(passes, tops) for j in top for leaf in leaves(messages, j)]
-    rest = [i for i in range(len(originals)) if i not in covered]
+    rest = [i for i in live(originals) if i not in covered]
     return *tops, rest, covered + rest
 
 
@@ -324,7 +338,8 @@ def need(originals, factors, messages, sizes):
 
 def smooth(job):
     """(marginals, plan's text, numbers of the message store)."""
-    sizes, count, originals = job.sizes, len(job.sizes), [factor[0] for factor in job.factors]
+    sizes, count = job.sizes, len(job.sizes)
+    originals = [factor[0] if number in job.live else None for number, factor in enumerate(job.factors)]
     passes = [full_pass(originals, order) for order in (range(count), reversed(range(count)))]
     figure = sum(need(originals, job.factors, messages, sizes) for messages in passes)
     text = plan_text(originals, passes, count)

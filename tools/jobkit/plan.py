@@ -12,7 +12,8 @@ FIELDS = {"forward": MESSAGE, "backward": MESSAGE, "key": KEY}
 LINE = {kind: re.compile(f"{kind} ([0-9]+) " + " ".join(f"{field}((?: m?[0-9]{{1,3}})*)" for field in fields))
         for kind, fields in FIELDS.items()}
 LEFT, LANE, BOX, ROW, COLUMN, ARC, LETTERS = 164, 128, 114, 17, 96, 30, 17  # pixels; letters in a box
-COLOUR = {"forward": "#1d5fa6", "backward": "#b3541e", "direct": "#2e7d3a", "plain": "#444", "missing": "#c00"}
+COLOUR = {"forward": "#1d5fa6", "backward": "#b3541e", "direct": "#2e7d3a", "plain": "#444", "missing": "#c00",
+          "superseded": "#999"}
 TINT = {"forward": "#e3eefa", "backward": "#fbeadd"}
 HEAD = """<svg xmlns="http://www.w3.org/2000/svg" viewBox="0 0 {0} {1}" width="{0}" height="{1}" xml:space="preserve">
 <style>text{{font:10px 'DejaVu Sans Mono',Menlo,Consolas,monospace;fill:#222}}.b{{font-weight:bold}}</style>
@@ -21,6 +22,8 @@ HEAD = """<svg xmlns="http://www.w3.org/2000/svg" viewBox="0 0 {0} {1}" width="{
 """
 NOTE = ("F2 is message 2 of the forward pass, B2 of the backward pass; the box stands in the lane of its step's key. "
         "A dot is a key that the exposure touches (drawn with --job).")
+STRUCK = " A row struck through is a superseded exposure; it must stand behind no key."
+UNNAMED = " Without --job an exposure that the plan doesn't name counts as superseded."
 
 
 def parse(text, name):
@@ -68,12 +71,16 @@ def routes(plan, key):
     return found + [(slot, ("direct", "")) for slot in gathered["originals"]]
 
 
-def verdict(plan, key, total):
-    """Whether each original stands behind the key once, and the leaves listed say the same."""
-    behind = sorted(slot for slot, _ in routes(plan, key))
-    wrong = [f"{slot} stands there {behind.count(slot)} times" for slot in range(total) if behind.count(slot) != 1]
+def verdict(plan, key, total, superseded):
+    """Whether each live original stands behind the key once and no other does, and the leaves listed say the same."""
+    behind, wrong = sorted(slot for slot, _ in routes(plan, key)), []
+    for slot in range(total):
+        times, old = behind.count(slot), slot in superseded
+        if times != (0 if old else 1):
+            wrong.append(f"{slot} stands there {times} times" + " though superseded" * old)
     wrong += ["the leaves listed are others"] if behind != sorted(plan["key"][key]["leaves"]) else []
-    return "WRONG: " + ", ".join(wrong) if wrong else f"{total} exposures, each once"
+    live = f"{total - len(superseded)} live" if superseded else total
+    return "WRONG: " + ", ".join(wrong) if wrong else f"{live} exposures, each once"
 
 
 def mark(kind, number):
@@ -81,12 +88,13 @@ def mark(kind, number):
 
 
 class Drawing:
-    """Grows downwards: y is where the next part begins."""
+    """Grows downwards: y is where the next part begins. superseded: number to that of the factor in its place."""
 
-    def __init__(self, plan, names, factors, key):
+    def __init__(self, plan, names, factors, superseded, key):
         self.plan, self.names, self.factors, self.key = plan, names, factors, key
         seen = [slot for kind in FIELDS for one in plan[kind] for slot in one.get("content", one.get("leaves"))]
         self.total = max([len(factors) - 1, *seen]) + 1
+        self.superseded = superseded if factors else dict.fromkeys(set(range(self.total)).difference(seen))
         self.route = {} if key is None else dict(routes(plan, key))
         self.end, self.y, self.parts = LEFT + LANE * len(names), 20, []
 
@@ -155,21 +163,40 @@ class Drawing:
 
     def exposure(self, slot):
         """The messages that take it in each pass, and how it comes to the chosen key."""
+        if slot in self.superseded:
+            return self.struck(slot)
         way, top = self.route.get(slot, ("plain" if self.key is None else "missing", ""))
-        self.add("rect", x=0, y=self.y, width=self.end + 3 * COLUMN, height=ROW, fill_opacity=0.05 * (slot % 2))
-        self.text(26, self.y + 12, str(slot), True, text_anchor="end")
-        if slot < len(self.factors):
-            self.dots(self.factors[slot], COLOUR[way])
+        self.row(slot, COLOUR[way], "#222")
         for at, kind in enumerate(PASSES):
-            taken = [mark(kind, number) for number, one in enumerate(self.plan[kind]) if slot in one["content"]]
-            self.text(self.end + 10 + at * COLUMN, self.y + 12, " ".join(taken) or "-")
+            self.text(self.end + 10 + at * COLUMN, self.y + 12, " ".join(self.takers(kind, slot)) or "-")
         words = {"plain": "", "direct": way, "missing": way}.get(way, f"through {mark(way, top)}")
         self.text(self.end + 10 + 2 * COLUMN, self.y + 12, words, True, COLOUR[way])
         self.y += ROW
 
-    def dots(self, factor, colour):
+    def row(self, slot, colour, ink):
+        self.add("rect", x=0, y=self.y, width=self.end + 3 * COLUMN, height=ROW, fill_opacity=0.05 * (slot % 2))
+        self.text(26, self.y + 12, str(slot), True, ink, text_anchor="end")
+        if slot < len(self.factors):
+            self.dots(self.factors[slot], colour, ink)
+
+    def takers(self, kind, slot):
+        return [mark(kind, number) for number, one in enumerate(self.plan[kind]) if slot in one["content"]]
+
+    def struck(self, slot):
+        """The row of a superseded exposure: what took its place and, in red, where it is taken all the same."""
+        grey, red = COLOUR["superseded"], COLOUR["missing"]
+        new, taken = self.superseded[slot], [one for kind in PASSES for one in self.takers(kind, slot)]
+        self.row(slot, grey, grey)
+        self.path(f"M8 {self.y + 8}H{self.end - 8}", COLOUR["plain"], "none")
+        words = "superseded" + (f" by {new}" if new else "") + (f", in {' '.join(taken)}" if taken else "")
+        self.text(self.end + 10, self.y + 12, words, False, red if taken else "#222")
+        if slot in self.route:
+            self.text(self.end + 10 + 2 * COLUMN, self.y + 12, "WRONG", True, red)
+        self.y += ROW
+
+    def dots(self, factor, colour, ink):
         kind = "prior" if factor.kind == b"PR" else f"observation, {factor.rows} row" + "s" * (factor.rows != 1)
-        self.text(36, self.y + 12, kind + ("" if factor.keys else ", no key"))
+        self.text(36, self.y + 12, kind + ("" if factor.keys else ", no key"), False, ink)
         if factor.keys:
             self.path(f"M{self.lane(factor.keys[0])} {self.y + 8}H{self.lane(factor.keys[-1])}", colour, "none")
         for key in factor.keys:
@@ -184,8 +211,8 @@ class Drawing:
         self.y += 8
 
     def paragraph(self, key):
-        """What a key gathers, and whether each exposure stands behind it once."""
-        one, found = self.plan["key"][key], verdict(self.plan, key, self.total)
+        """What a key gathers, and whether each live exposure stands behind it once."""
+        one, found = self.plan["key"][key], verdict(self.plan, key, self.total, self.superseded)
         parts = [mark(kind, number) for kind in PASSES for number in one[kind]]
         parts += ["exposures " + " ".join(map(str, one["originals"]))] if one["originals"] else []
         words = f"{', '.join(parts) or 'nothing'}; clears last {' '.join(map(str, one['last'])) or 'none'}; behind it {found}"
@@ -194,14 +221,20 @@ class Drawing:
             self.text(LEFT, self.y, line, key == self.key, COLOUR["missing"] if "WRONG" in found else "#222")
             self.y += 14
 
-    def draw(self):
-        count, width = len(self.names), self.end + 3 * COLUMN
+    def head(self, width):
+        """Counts, and a note on how to read the drawing."""
         forward, backward = (len(self.plan[kind]) for kind in PASSES)
-        self.text(10, self.y, f"{count} keys, {self.total} exposures, {forward} forward and {backward} backward messages", True)
+        old = f" ({len(self.superseded)} superseded)" if self.superseded else ""
+        self.text(10, self.y, f"{len(self.names)} keys, {self.total} exposures{old}, {forward} forward and {backward} backward messages", True)
         note = NOTE + ("" if self.key is None else f" Key {self.key} gathers the thick frames; grey isn't behind it.")
+        note += STRUCK + (UNNAMED if not self.factors else "") if self.superseded else ""
         for line in wrap(note, int(width / 6.2)):
             self.y += 15
             self.text(10, self.y, line)
+
+    def draw(self):
+        count, width = len(self.names), self.end + 3 * COLUMN
+        self.head(width)
         top, back = self.y + 8, len(self.parts)
         self.y = top
         for part in (lambda: self.band("forward"), self.keys, self.exposures, self.keys, lambda: self.band("backward")):

@@ -5,9 +5,10 @@ from collections import namedtuple
 
 Variable = namedtuple("Variable", "letter index size")
 Factor = namedtuple("Factor", "kind keys rows flag parts")  # parts: name to numbers, as in shapes
+Superseding = namedtuple("Superseding", "number factor")  # a new factor, in place of the one with this number
 Raw = namedtuple("Raw", "data")
 
-VARIABLE, PRIOR, OBSERVATION = b"VA", b"PR", b"OB"
+VARIABLE, PRIOR, OBSERVATION, SUPERSEDING = b"VA", b"PR", b"OB", b"SU"
 OMITTED, GIVEN, IDENTITY = FLAGS = 0, 1, 2  # of an observation: no variance (a quarter), one that follows, or the identity
 
 
@@ -23,6 +24,8 @@ def encode(record):
         return record.data
     if isinstance(record, Variable):
         return VARIABLE + struct.pack("<IIB", *record)
+    if isinstance(record, Superseding):
+        return SUPERSEDING + bytes([record.number]) + encode(record.factor)
     kind, keys, rows, flag, parts = record
     numbers = [bits for part in parts.values() for bits in part]
     head = [] if kind == PRIOR else [len(keys), rows, flag]
@@ -58,10 +61,20 @@ class Decoder:
         parts = shapes(kind, rows, flag, sum(self.sizes[key] for key in keys))
         return Factor(kind, keys, rows, flag, {name: self.take(f"<{down * across}Q") for name, (down, across) in parts.items()})
 
-    def record(self):
+    def superseding(self):
+        number = self.take("<B")[0]
+        return Superseding(number, self.factor(self.mark(PRIOR, OBSERVATION)))
+
+    def mark(self, *known):
         mark = bytes(self.take("<2B"))
-        if mark not in (VARIABLE, PRIOR, OBSERVATION):
+        if mark not in known:
             raise Unreadable
+        return mark
+
+    def record(self):
+        mark = self.mark(VARIABLE, PRIOR, OBSERVATION, SUPERSEDING)
+        if mark == SUPERSEDING:
+            return self.superseding()
         return self.variable() if mark == VARIABLE else self.factor(mark)
 
 
@@ -79,3 +92,17 @@ def decode(data):
 
 def only(kind, records):
     return [record for record in records if isinstance(record, kind)]
+
+
+def factors(records):
+    """The factors in the order of their numbers, superseding ones among them."""
+    return [getattr(record, "factor", record) for record in only((Factor, Superseding), records)]
+
+
+def superseded(records):
+    """The number of each superseded factor with that of the factor in its place. A number that isn't there is passed over."""
+    found = {}
+    for new, record in enumerate(only((Factor, Superseding), records)):
+        if isinstance(record, Superseding) and record.number < new:
+            found.setdefault(record.number, new)
+    return found

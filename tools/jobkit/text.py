@@ -3,7 +3,7 @@
 import re
 
 from . import Wrong, floats
-from .records import GIVEN, IDENTITY, OBSERVATION, OMITTED, PRIOR, Factor, Raw, Variable, only, shapes
+from .records import GIVEN, IDENTITY, OBSERVATION, OMITTED, PRIOR, Factor, Raw, Superseding, Variable, only, shapes
 
 SYMBOL = re.compile(r"([^0-9])([0-9]{1,10})")
 WHOLE = re.compile(r"[0-9]{1,10}")
@@ -141,6 +141,12 @@ class Parser:
             name: self.matrix(found.get(name, []), *shape, name, edges(widths) if name == "A" else ())
             for name, shape in parts.items()})
 
+    def supersede(self, words):
+        number = self.whole(words[:1], "the number of a factor", 255)
+        if words[1:2] not in (["prior"], ["observation"]):
+            self.fail(words[:2], "prior or observation after the number", None if words[1:] else "nothing")
+        return Superseding(number, self.record(words[1:]))
+
     def bytes(self, words):
         for word in words:
             if not re.fullmatch("[0-9a-fA-F]{2}", word):
@@ -149,8 +155,8 @@ class Parser:
 
     def record(self, words):
         self.head = words[0]
-        if self.head not in ("variable", "prior", "observation", "bytes"):
-            self.fail(words[:1], "variable, prior, observation or bytes")
+        if self.head not in ("variable", "prior", "observation", "supersede", "bytes"):
+            self.fail(words[:1], "variable, prior, observation, supersede or bytes")
         return getattr(self, self.head)(words[1:])
 
 
@@ -203,6 +209,8 @@ def show(records):
                 lines.append(f"variable {letter(code)} {index} {size}")
             case Raw(data):
                 lines.append("bytes " + data.hex(" ").upper())
+            case Superseding(number, factor):
+                lines.append(" ".join(["supersede", str(number), *factor_words(factor, sizes, called)]))
             case _:
                 lines.append(" ".join(factor_words(record, sizes, called)))
     return lines
