@@ -196,45 +196,61 @@ fn marks(cases: &mut Cases) {
 
 /// A record within that some check refuses: first the number named (19), then the checks as they are without superseding.
 fn order(cases: &mut Cases) {
-    let many: Vec<usize> = (0..=KEYS).collect();
-    let lopsided = [2.0, 1.0, 0.5, 2.0];
-    let all: [(&str, &dyn Fn(Job) -> Job); 25] = [
-        ("prior-key-cut", &|job| job.raw(b"PR")),
-        ("prior-no-such-key", &|job| job.prior(1, &[1.0], &[1.0])),
-        ("prior-no-such-key-and-cut", &|job| job.prior(1, &[], &[])),
-        ("prior-numbers-cut", &|job| prior(job).cut(1)),
-        ("prior-nan", &|job| job.prior(0, &[f64::NAN], &[1.0])),
-        ("prior-nan-and-pivot", &|job| job.prior(0, &[f64::NAN], &[-1.0])),
-        ("prior-pivot", &|job| job.prior(0, &[1.0], &[0.0])),
-        ("prior-computed", &|job| job.prior(0, &[1.0], &[5e-324])),
-        ("observation-header-cut", &|job| job.raw(b"OB\x05\x00")),
-        ("observation-flag", &|job| job.observed(&[0], 1, 3, &[1.0, 1.0])),
-        ("observation-flag-and-keys", &|job| job.observed(&many, 1, 3, &[])),
-        ("observation-5-keys", &|job| job.observed(&many, 1, QUARTER, &[])),
-        ("observation-0-rows", &|job| job.observed(&[0], 0, QUARTER, &[])),
-        ("observation-7-rows", &|job| job.observed(&[0], MOST_ROWS + 1, QUARTER, &[])),
-        ("observation-keys-cut", &|job| job.raw(b"OB\x02\x01\x02\x01")),
-        ("observation-not-rising", &|job| job.observed(&[0, 0], 1, QUARTER, &[1.0; 3])),
-        ("observation-not-rising-no-such-key", &|job| job.observed(&[9, 9], 1, QUARTER, &[])),
-        ("observation-no-such-key", &|job| job.observed(&[1], 1, QUARTER, &[1.0, 1.0])),
-        ("observation-no-such-key-and-cut", &|job| job.observed(&[1], 1, QUARTER, &[])),
-        ("observation-numbers-cut", &|job| observation(job).cut(1)),
-        ("observation-infinite", &|job| job.observation(&[], &[], &[f64::INFINITY], &[-1.0])),
-        ("observation-nan-and-lopsided", &|job| job.observation(&[], &[], &[f64::NAN, 1.0], &lopsided)),
-        ("observation-lopsided", &|job| job.observation(&[], &[], &[1.0; 2], &lopsided)),
-        ("observation-pivot", &|job| job.observation(&[], &[], &[two_to(1000)], &[-two_to(-100)])),
-        ("observation-computed", &|job| job.observation(&[], &[], &[two_to(1000)], &[two_to(-100)])),
-    ];
-    for (at, (name, fault)) in all.into_iter().enumerate() {
+    for (at, (name, fault)) in prior_faults().into_iter().chain(observation_faults()).enumerate() {
         // Either of the two reasons for 19 in turn.
         for (state, number) in [NAMED[0], NAMED[1 + at % 2]] {
-            cases.add(format!("superseding-{state}-{name}"), superseded().superseding(number, fault));
+            let job = superseded().superseding(number, |job| job.raw(&fault.bytes()));
+            cases.add(format!("superseding-{state}-{name}"), job);
         }
     }
-    let size_2 =
-        |number| Job::with(&[2]).plain_prior(0, 1.0).superseding(number, |job| job.prior(0, &[1.0; 2], &lopsided));
-    cases.add("superseding-live-prior-lopsided", size_2(0));
-    cases.add("superseding-absent-prior-lopsided", size_2(1));
+    for (state, number) in [("live", 0), ("absent", 1)] {
+        let two = Job::with(&[2]).plain_prior(0, 1.0);
+        let job = two.superseding(number, |job| job.prior(0, &[1.0; 2], &LOPSIDED));
+        cases.add(format!("superseding-{state}-prior-lopsided"), job);
+    }
+}
+
+const LOPSIDED: [f64; 4] = [2.0, 1.0, 0.5, 2.0];
+
+/// Records of priors where key 0 of size 1 is registered; some have two faults.
+fn prior_faults() -> Vec<(&'static str, Job)> {
+    let new = Job::new;
+    vec![
+        ("prior-key-cut", new().raw(b"PR")),
+        ("prior-no-such-key", new().prior(1, &[1.0], &[1.0])),
+        ("prior-no-such-key-and-cut", new().prior(1, &[], &[])),
+        ("prior-numbers-cut", prior(new()).cut(1)),
+        ("prior-nan", new().prior(0, &[f64::NAN], &[1.0])),
+        ("prior-nan-and-pivot", new().prior(0, &[f64::NAN], &[-1.0])),
+        ("prior-pivot", new().prior(0, &[1.0], &[0.0])),
+        ("prior-computed", new().prior(0, &[1.0], &[5e-324])),
+    ]
+}
+
+/// Records of observations there.
+fn observation_faults() -> Vec<(&'static str, Job)> {
+    let many: Vec<usize> = (0..=KEYS).collect();
+    let observed = |keys: &[usize], rows, flag, numbers: &[f64]| Job::new().observed(keys, rows, flag, numbers);
+    let keyless = |mean: &[f64], variance: &[f64]| Job::new().observation(&[], &[], mean, variance);
+    vec![
+        ("observation-header-cut", Job::new().raw(b"OB\x05\x00")),
+        ("observation-flag", observed(&[0], 1, 3, &[1.0, 1.0])),
+        ("observation-flag-and-keys", observed(&many, 1, 3, &[])),
+        ("observation-5-keys", observed(&many, 1, QUARTER, &[])),
+        ("observation-0-rows", observed(&[0], 0, QUARTER, &[])),
+        ("observation-7-rows", observed(&[0], MOST_ROWS + 1, QUARTER, &[])),
+        ("observation-keys-cut", Job::new().raw(b"OB\x02\x01\x02\x01")),
+        ("observation-not-rising", observed(&[0, 0], 1, QUARTER, &[1.0; 3])),
+        ("observation-not-rising-no-such-key", observed(&[9, 9], 1, QUARTER, &[])),
+        ("observation-no-such-key", observed(&[1], 1, QUARTER, &[1.0, 1.0])),
+        ("observation-no-such-key-and-cut", observed(&[1], 1, QUARTER, &[])),
+        ("observation-numbers-cut", observation(Job::new()).cut(1)),
+        ("observation-infinite", keyless(&[f64::INFINITY], &[-1.0])),
+        ("observation-nan-and-lopsided", keyless(&[f64::NAN, 1.0], &LOPSIDED)),
+        ("observation-lopsided", keyless(&[1.0; 2], &LOPSIDED)),
+        ("observation-pivot", keyless(&[two_to(1000)], &[-two_to(-100)])),
+        ("observation-computed", keyless(&[two_to(1000)], &[two_to(-100)])),
+    ]
 }
 
 /// A record of each kind cut after each of its bytes, from the mark on; whole it is accepted.
@@ -254,7 +270,7 @@ fn counted(cases: &mut Cases) {
     cases.add("superseding-then-a-mark-unknown", after().raw(b"XX"));
     cases.add("superseding-then-a-key-unregistered", after().prior(1, &[], &[]));
     cases.add("superseding-then-a-name-taken", after().named('a' as u32, 0, 1));
-    cases.add("superseding-then-a-byte", after().raw(&[b'S']));
+    cases.add("superseding-then-a-byte", after().raw(b"S"));
     cases.add("superseding-two-then-a-mark-unknown", after().superseding(1, observation).raw(b"XX"));
     cases.add("superseding-two-then-a-third-refused", after().superseding(1, observation).superseding(1, prior));
     cases.add("superseding-refused-then-another", two().superseding(2, prior).superseding(0, prior).raw(b"XX"));

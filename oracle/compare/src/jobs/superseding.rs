@@ -49,8 +49,8 @@ fn taken(random: &mut Random, numbers: &mut Vec<usize>) -> usize {
 }
 
 /// Percent of the drawn jobs that get superseding records; of these so many get one that is refused.
-const SHARE: usize = 65;
-const BAD: usize = 8;
+const SHARE: usize = 75;
+const BAD: usize = 7;
 
 /// Mostly the live factors stay as they were drawn, so that a job still shows what its kind is for.
 pub fn some(random: &mut Random, kind: Kind, job: Job) -> Job {
@@ -60,14 +60,14 @@ pub fn some(random: &mut Random, kind: Kind, job: Job) -> Job {
     let job = match kind {
         // With one factor more the limit would be passed before it is reached.
         Kind::Limits | Kind::FactorStore => among(random, job),
-        _ if random.chance(80) => beside(random, job),
+        _ if random.chance(85) => beside(random, job),
         _ => behind(random, job),
     };
     if random.chance(BAD) { bad(random, job) } else { job }
 }
 
 /// The same live factors in the same order: old ones are registered among them, and later ones take their places. An old one may
-/// take the place of another, so that there are chains.
+/// take the place of another, so that there are chains. The job has no superseding record yet.
 pub fn beside(random: &mut Random, mut job: Job) -> Job {
     let records = std::mem::take(&mut job.records);
     let mut left = factors(&records);
@@ -98,7 +98,7 @@ pub fn beside(random: &mut Random, mut job: Job) -> Job {
 /// Records that were there name earlier factors, so that there are as many factors as before and fewer live ones.
 fn among(random: &mut Random, mut job: Job) -> Job {
     let records = std::mem::take(&mut job.records);
-    let percent = [10, 50, 100][random.below(3)];
+    let percent = [5, 20, 50, 100][random.below(4)];
     for record in records {
         let mut named = if is_factor(&record) { live(&job.records) } else { Vec::new() };
         job.records.push(record);
