@@ -92,7 +92,7 @@ fn same_run(bytes: &[u8]) -> bool {
 
 /// These numbers, bit by bit, and nothing written behind them.
 fn begins_with(store: &[f64], wanted: &[f64]) -> bool {
-    let (taken, rest) = store.split_at(wanted.len());
+    let Some((taken, rest)) = store.split_at_checked(wanted.len()) else { return false };
     taken.iter().zip(wanted).all(|(x, y)| x.to_bits() == y.to_bits()) && rest.iter().all(|x| x.to_bits() == UNTOUCHED)
 }
 

@@ -172,19 +172,32 @@ fn bad(random: &mut Random, mut job: Job) -> Job {
 /// The number named, the mark within or the factor within may be wrong, or two of them.
 fn faulty(random: &mut Random, job: Job) -> Job {
     let number = if random.chance(50) { not_live(random, &job) } else { any_live(random, &job) };
-    let mut job = supersede(any_factor(random, job), number);
-    let record = job.records.last_mut().unwrap();
+    let inner = any_live(random, &job);
+    let job = match random.below(8) {
+        // Whole records of the other marks.
+        0 => job.raw(&Job::new().named('v' as u32, 0, 1).bytes()),
+        1 => supersede(any_factor(random, job), inner),
+        _ => any_factor(random, job),
+    };
+    let mut job = supersede(job, number);
+    spoil(random, job.records.last_mut().unwrap());
+    job
+}
+
+/// Often nothing, else its mark within, a cut inside what comes before the factor's own header or anywhere, or the factor.
+fn spoil(random: &mut Random, record: &mut Vec<u8>) {
+    let length = record.len();
     match random.below(6) {
-        0 | 1 => {}
-        2 | 3 => record[HEADER..HEADER + 2].copy_from_slice(MARKS[random.below(MARKS.len())]),
-        4 => record.truncate(1 + random.below(record.len())),
-        _ => {
+        0 => record[HEADER..HEADER + 2].copy_from_slice(MARKS[random.below(MARKS.len())]),
+        1 => record.truncate(1 + random.below(HEADER + 2)),
+        2 => record.truncate(1 + random.below(length)),
+        3 => {
             let mut factor = record.split_off(HEADER);
             damage::spoil(random, &mut factor);
             record.extend(factor);
         }
+        _ => {}
     }
-    job
 }
 
 /// Marks that aren't those of a factor.
