@@ -1,8 +1,8 @@
 //! The job file: its records in turn, each handed to the original's registering calls once the checks of documents 01 and 02 have passed.
 use nalgebra::{DMatrix, DVector};
 
-use crate::gaussian::shown::{self, Shown};
-use crate::gaussian::{Factor, FactorGraph, Symbol};
+use crate::gaussian::{FactorGraph, Symbol};
+use crate::graph::{Call, Graph, numbers};
 use crate::refusal::{Reason, Refusal, Stage};
 
 pub const VARIABLES: usize = 32;
@@ -35,13 +35,13 @@ pub const MESSAGE_STORE: usize = 3072;
 
 /// The graph as far as the job was accepted, and the refusal that ended the reading.
 pub struct Read {
-    pub graph: FactorGraph<f64>,
+    pub graph: Graph,
     pub refusal: Option<Refusal>,
 }
 
 /// Reads a job to its end or to its first refused record.
 pub fn read(job: &[u8]) -> Read {
-    let mut graph = FactorGraph::new();
+    let mut graph = Graph::default();
     let mut bytes = Bytes(job);
     let mut record = 0;
     while !bytes.0.is_empty() {
@@ -69,13 +69,32 @@ impl<'a> Bytes<'a> {
     }
 }
 
-fn register(graph: &mut FactorGraph<f64>, bytes: &mut Bytes) -> Result<(), Reason> {
+fn register(graph: &mut Graph, bytes: &mut Bytes) -> Result<(), Reason> {
     match bytes.take(2)? {
-        b"VA" => variable(graph, bytes.take(9)?),
-        b"PR" => prior(graph, bytes),
-        b"OB" => observation(graph, bytes),
-        _ => Err(Reason::Malformed),
+        b"VA" => variable(&mut graph.all, bytes.take(9)?),
+        b"SU" => superseding(graph, bytes),
+        mark => factor(graph, mark, bytes),
     }
+}
+
+/// A factor's record with its mark, in the place of a live factor (C-11). Refused, it leaves that one live.
+fn superseding(graph: &mut Graph, bytes: &mut Bytes) -> Result<(), Reason> {
+    let number = bytes.take(1)?[0] as usize;
+    check(graph.is_live(number), Reason::NotLive)?;
+    let mark = bytes.take(2)?;
+    factor(graph, mark, bytes)?;
+    graph.retire(number);
+    Ok(())
+}
+
+/// A factor's record behind its mark.
+fn factor(graph: &mut Graph, mark: &[u8], bytes: &mut Bytes) -> Result<(), Reason> {
+    let call = match mark {
+        b"PR" => prior(&graph.all, bytes)?,
+        b"OB" => observation(&graph.all, bytes)?,
+        _ => return Err(Reason::Malformed),
+    };
+    graph.add(call)
 }
 
 fn check(holds: bool, reason: Reason) -> Result<(), Reason> {
@@ -94,7 +113,7 @@ fn variable(graph: &mut FactorGraph<f64>, record: &[u8]) -> Result<(), Reason> {
     Ok(())
 }
 
-fn prior(graph: &mut FactorGraph<f64>, bytes: &mut Bytes) -> Result<(), Reason> {
+fn prior(graph: &FactorGraph<f64>, bytes: &mut Bytes) -> Result<Call, Reason> {
     let key = bytes.take(1)?[0] as usize;
     let size = graph.size(key).ok_or(Reason::NoSuchKey)?;
     let given = bytes.numbers(size + size * size)?;
@@ -102,11 +121,10 @@ fn prior(graph: &mut FactorGraph<f64>, bytes: &mut Bytes) -> Result<(), Reason> 
     check(symmetric(size, &given[size..]), Reason::NotSymmetric)?;
     let mean = DVector::from_column_slice(&given[..size]);
     let variance = DMatrix::from_column_slice(size, size, &given[size..]);
-    graph.add_prior(key, mean, variance).map_err(|_| Reason::VariancePivot)?;
-    check_computed(graph)
+    Ok(Call::Prior { key, mean, variance })
 }
 
-fn observation(graph: &mut FactorGraph<f64>, bytes: &mut Bytes) -> Result<(), Reason> {
+fn observation(graph: &FactorGraph<f64>, bytes: &mut Bytes) -> Result<Call, Reason> {
     let header = bytes.take(3)?;
     let (count, rows, flag) = (header[0] as usize, header[1] as usize, header[2]);
     let meaning = *FLAGS.get(flag as usize).ok_or(Reason::Malformed)?;
@@ -128,8 +146,7 @@ fn observation(graph: &mut FactorGraph<f64>, bytes: &mut Bytes) -> Result<(), Re
     let a = DMatrix::from_column_slice(rows, width, a);
     let mean = DVector::from_column_slice(mean);
     let variance = DMatrix::from_column_slice(rows, rows, &variance);
-    graph.add_observation(keys, a, mean, variance).map_err(|_| Reason::VariancePivot)?;
-    check_computed(graph)
+    Ok(Call::Observation { keys, a, mean, variance })
 }
 
 /// What registration checks of a factor of whole numbers before any arithmetic.
@@ -144,25 +161,11 @@ fn symmetric(size: usize, variance: &[f64]) -> bool {
     (0..size).all(|i| (0..size).all(|j| variance[i + j * size] == variance[j + i * size]))
 }
 
-/// The original stores what isn't finite; document 01 refuses it.
-fn check_computed(graph: &FactorGraph<f64>) -> Result<(), Reason> {
-    let newest = graph.factors().last().unwrap();
-    check(numbers(newest).all(|x| x.is_finite()), Reason::NumberNotFinite)
-}
-
 fn total_size(graph: &FactorGraph<f64>) -> usize {
     graph.keys().map(|key| graph.size(key).unwrap()).sum()
 }
 
-/// Numbers that the graph's factors take in the factor store.
+/// Numbers that a graph's factors take in the factor store.
 pub fn stored(graph: &FactorGraph<f64>) -> usize {
     graph.factors().iter().map(|factor| numbers(factor).count()).sum()
-}
-
-fn numbers(factor: &Factor<f64>) -> impl Iterator<Item = &f64> {
-    let (a, xi, w): (&[f64], _, _) = match shown::factor(factor) {
-        Shown::Prior { xi, w, .. } => (&[], xi, w),
-        Shown::Likelihood { a, xi, w, .. } => (a, xi, w),
-    };
-    a.iter().chain(xi).chain(w)
 }

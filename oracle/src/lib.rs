@@ -3,6 +3,7 @@
 include!(concat!(env!("OUT_DIR"), "/original.rs"));
 
 pub mod cases;
+pub mod graph;
 pub mod input;
 pub mod job;
 pub mod plan;

@@ -1,6 +1,7 @@
 //! Schedule, gathering and store figure, written from document 01 and made without arithmetic. The original's passes are
 //! compared with it wherever they succeed.
-use crate::gaussian::{Factor, FactorGraph};
+use crate::gaussian::Factor;
+use crate::graph::Graph;
 use crate::solver::Slot;
 
 /// What the plan needs to know of a factor or a message.
@@ -14,6 +15,8 @@ pub struct Shape {
 pub struct Shapes {
     pub sizes: Vec<usize>,
     pub factors: Vec<Shape>,
+    /// The numbers of the live factors, rising: the originals of a pass and of the gathering.
+    pub live: Vec<usize>,
 }
 
 /// One elimination before any arithmetic.
@@ -54,10 +57,10 @@ pub struct Plan {
 }
 
 impl Shapes {
-    pub fn of(graph: &FactorGraph<f64>) -> Shapes {
-        let sizes = graph.keys().map(|key| graph.size(key).unwrap()).collect();
-        let factors = graph.factors().iter().map(Shape::of).collect();
-        Shapes { sizes, factors }
+    pub fn of(graph: &Graph) -> Shapes {
+        let sizes = graph.all.keys().map(|key| graph.all.size(key).unwrap()).collect();
+        let factors = graph.all.factors().iter().map(Shape::of).collect();
+        Shapes { sizes, factors, live: graph.live_numbers() }
     }
 
     fn dimension(&self, keys: &[usize]) -> usize {
@@ -137,7 +140,7 @@ struct Pass<'a> {
 
 impl<'a> Pass<'a> {
     fn along(shapes: &'a Shapes, order: &[usize]) -> Pass<'a> {
-        let slots = (0..shapes.factors.len()).map(Slot::Original).collect();
+        let slots = shapes.live.iter().copied().map(Slot::Original).collect();
         let mut pass = Pass { shapes, keys: Vec::new(), slots, messages: Vec::new(), results: Vec::new() };
         for (step, &key) in order.iter().enumerate() {
             pass.keys.push(key);
@@ -226,7 +229,7 @@ fn gather(shapes: &Shapes, forward: &Pass, backward: &Pass, key: usize, place: u
     let behind = backward.uncontained(shapes.sizes.len() - 1 - place);
     let mut leaves: Vec<usize> = ahead.iter().flat_map(|&j| forward.leaves_under(j)).collect();
     leaves.extend(behind.iter().flat_map(|&j| backward.leaves_under(j)));
-    let originals: Vec<usize> = (0..shapes.factors.len()).filter(|i| !leaves.contains(i)).collect();
+    let originals: Vec<usize> = shapes.live.iter().copied().filter(|i| !leaves.contains(i)).collect();
     leaves.extend(&originals);
     let mut met: Vec<&Shape> = ahead.iter().map(|&j| &forward.results[j]).collect();
     met.extend(behind.iter().map(|&j| &backward.results[j]));

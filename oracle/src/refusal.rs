@@ -20,6 +20,7 @@ pub enum Reason {
     MarginalPivot = 16,
     ResultNotFinite = 17,
     CountedTwice = 18,
+    NotLive = 19,
     NotSymmetric = 20,
 }
 

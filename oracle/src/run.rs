@@ -4,6 +4,7 @@ use std::fmt;
 
 use crate::gaussian::shown::{self, Shown};
 use crate::gaussian::{FactorGraph, FactorView, Likelihood, Marginal};
+use crate::graph::{Graph, Live};
 use crate::job::{self, MESSAGE_STORE};
 use crate::plan::{Elimination, Gathered, Message, Plan, Shapes};
 use crate::refusal::{Reason, Refusal, Stage};
@@ -47,9 +48,9 @@ pub fn expected(job: &[u8]) -> Result<String, Outside> {
     if let Some(refusal) = refusal {
         return Ok(format!("{refusal}\n"));
     }
-    let order: Vec<usize> = graph.keys().collect();
+    let order: Vec<usize> = graph.all.keys().collect();
     let run = run(&graph, &order);
-    agrees_with_smoother(&run, graph);
+    agrees_with_smoother(&run, graph.live().graph);
     match run.end {
         Some(End::Refused(refusal)) => Ok(format!("{refusal}\n")),
         Some(End::Outside(outside)) => Err(outside),
@@ -69,12 +70,12 @@ pub fn digits(numbers: &[f64]) -> String {
 }
 
 /// Both passes and every marginal, with the keys taken in this order.
-pub fn run(graph: &FactorGraph<f64>, order: &[usize]) -> Run {
+pub fn run(graph: &Graph, order: &[usize]) -> Run {
     let shapes = Shapes::of(graph);
     let plan = Plan::new(&shapes, order);
     let mut run = Run { plan, forward: Vec::new(), backward: Vec::new(), marginals: Vec::new(), end: None };
-    run.end = carry_out(graph, &mut run).err();
-    agrees_with_passes(graph, &run, order);
+    run.end = carry_out(&graph.all, &mut run).err();
+    agrees_with_passes(&graph.live(), &run, order);
     run
 }
 
@@ -172,13 +173,15 @@ pub fn parts(likelihood: &Likelihood<f64>) -> (&[f64], &[f64], &[f64]) {
     }
 }
 
-/// Holds the replay against the original's passes and gathering.
-fn agrees_with_passes(graph: &FactorGraph<f64>, run: &Run, order: &[usize]) {
+/// Holds the replay against the original's passes and gathering over the live factors.
+fn agrees_with_passes(live: &Live, run: &Run, order: &[usize]) {
     let reversed: Vec<usize> = order.iter().rev().copied().collect();
-    agrees_with_pass(graph, order, &run.plan.forward, &run.forward, ended_by_pivot(run, Stage::Forward));
-    agrees_with_pass(graph, &reversed, &run.plan.backward, &run.backward, ended_by_pivot(run, Stage::Backward));
+    let ahead = agrees_with_pass(live, order, &run.plan.forward, &run.forward, ended_by_pivot(run, Stage::Forward));
+    let behind =
+        agrees_with_pass(live, &reversed, &run.plan.backward, &run.backward, ended_by_pivot(run, Stage::Backward));
     if run.end.is_none() {
-        run.plan.gathered.iter().for_each(|gathered| agrees_with_gathering(run, gathered, order));
+        let (ahead, behind) = (ahead.expect("its forward pass"), behind.expect("its backward pass"));
+        run.plan.gathered.iter().for_each(|gathered| agrees_with_gathering(live, &ahead, &behind, gathered, order));
     }
 }
 
@@ -188,29 +191,38 @@ fn ended_by_pivot(run: &Run, at: Stage) -> bool {
 
 /// A whole pass runs through messages that aren't finite and may panic outside the domain, so what it shows is: the plan
 /// wherever it succeeds, the numbers of the messages that the replay finished, and a failure exactly at a refused pivot.
+/// Answers the original's messages where its pass went through.
 fn agrees_with_pass(
-    graph: &FactorGraph<f64>,
+    live: &Live,
     order: &[usize],
     planned: &[Message],
     done: &[ClosedFactor<f64>],
     ended_by_pivot: bool,
-) {
+) -> Option<Vec<ClosedFactor<f64>>> {
     if !planned.iter().all(|message| message.work.in_domain) {
-        return;
+        return None;
     }
-    match passes::pass(graph, order) {
+    match passes::pass(&live.graph, order) {
         Ok(messages) => {
             assert!(!ended_by_pivot, "the original's pass goes on past a refused pivot");
             assert_eq!(messages.len(), planned.len(), "messages of the original and of the plan");
-            assert!(messages.iter().zip(planned).all(|(m, p)| follows(m, p)), "the original's pass isn't the plan's");
+            assert!(
+                messages.iter().zip(planned).all(|(m, p)| follows(live, m, p)),
+                "the original's pass isn't the plan's"
+            );
             assert!(messages.iter().zip(done).all(|(m, d)| same(m, d)), "the original's messages aren't the replay's");
+            Some(messages)
         }
-        Err(error) => assert!(done.len() < planned.len(), "the original's pass fails without cause: {error:?}"),
+        Err(error) => {
+            assert!(done.len() < planned.len(), "the original's pass fails without cause: {error:?}");
+            None
+        }
     }
 }
 
-fn follows(message: &ClosedFactor<f64>, planned: &Message) -> bool {
-    message.step == planned.step && message.content == planned.content && message.keys() == planned.work.kept
+fn follows(live: &Live, message: &ClosedFactor<f64>, planned: &Message) -> bool {
+    let content: Vec<Slot> = message.content.iter().map(|slot| live.registered(slot)).collect();
+    message.step == planned.step && content == planned.content && message.keys() == planned.work.kept
 }
 
 fn same(left: &ClosedFactor<f64>, right: &ClosedFactor<f64>) -> bool {
@@ -218,18 +230,24 @@ fn same(left: &ClosedFactor<f64>, right: &ClosedFactor<f64>) -> bool {
     digits(a) == digits(b) && digits(xi) == digits(eta) && digits(w) == digits(v)
 }
 
-/// The original's own gathering over the finished messages.
-fn agrees_with_gathering(run: &Run, gathered: &Gathered, order: &[usize]) {
+/// The original's own gathering over its messages.
+fn agrees_with_gathering(
+    live: &Live,
+    ahead: &[ClosedFactor<f64>],
+    behind: &[ClosedFactor<f64>],
+    gathered: &Gathered,
+    order: &[usize],
+) {
     let place = order.iter().position(|&key| key == gathered.key).unwrap();
-    let mut covered = vec![false; gathered.leaves.len()];
-    let both = [(&run.forward, &gathered.forward, place), (&run.backward, &gathered.backward, order.len() - 1 - place)];
+    let mut covered = vec![false; live.numbers.len()];
+    let both = [(ahead, &gathered.forward, place), (behind, &gathered.backward, order.len() - 1 - place)];
     for (messages, roots, steps) in both {
         assert_eq!(&passes::alive(messages, steps), roots, "messages that the original gathers");
         for &root in roots {
             passes::leaves(messages, root, &mut covered).expect("the original covers an original twice");
         }
     }
-    let uncovered: Vec<usize> = (0..covered.len()).filter(|&i| !covered[i]).collect();
+    let uncovered: Vec<usize> = (0..covered.len()).filter(|&i| !covered[i]).map(|i| live.numbers[i]).collect();
     assert_eq!(uncovered, gathered.originals, "originals that the original leaves uncovered");
 }
 

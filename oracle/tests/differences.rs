@@ -21,7 +21,7 @@ fn row_across(sizes: &[usize], variance: f64) -> Job {
 /// W of the original's forward message. By document 01, with b the cleared part of the row and v the priors' variance,
 /// it is 1 / (1 + v b'b) but for rounding.
 fn forward_w(job: &Job) -> anyhow::Result<f64> {
-    let graph = job::read(&job.bytes()).graph;
+    let graph = job::read(&job.bytes()).graph.all;
     let order: Vec<usize> = graph.keys().collect();
     Ok(parts(&pass(&graph, &order)?[0].factor).2[0])
 }

@@ -54,3 +54,13 @@ fn the_dump_follows_an_order() {
     assert_eq!(fed(DUMP, &["-", "0,0"], &chain).status.code(), Some(2));
     assert_eq!(fed(DUMP, &["-"], &outside()).status.code(), Some(3));
 }
+
+#[test]
+fn the_dump_tells_a_superseded_factor() {
+    let job = Job::with(&[1]).plain_prior(0, 1.0).plain_prior(0, 2.0).superseding(0, |job| job.plain_prior(0, 4.0));
+    let output = fed(DUMP, &[], &job);
+    let shown = text(&output.stdout);
+    assert!(shown.starts_with("sizes [1], factor store 6 numbers\noriginal 0: prior on 0, superseded\n"));
+    assert!(shown.contains("original 1: prior on 0\n") && shown.contains("original 2: prior on 0\n"));
+    assert!(shown.contains("key 0 gathers forward [], backward [], originals [1, 2]\n  leaves [1, 2]\n"));
+}

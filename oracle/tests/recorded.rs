@@ -28,13 +28,13 @@ fn names_differ_and_the_file_stays_small() {
     let (text, cases) = (recorded(), read(&recorded()).unwrap());
     let names: BTreeSet<&String> = cases.iter().map(|case| &case.name).collect();
     assert_eq!(names.len(), cases.len());
-    assert!(text.len() < 550_000);
+    assert!(text.len() < 620_000);
 }
 
 #[test]
 fn every_refusal_that_a_job_can_reach_is_there() {
     let kinds: BTreeSet<String> = figures(&read(&recorded()).unwrap()).into_iter().map(|(kind, _)| kind).collect();
-    let reading = [1, 2, 3, 4, 6, 7, 8, 10, 11, 12, 13, 20].map(|number| (number, 0));
+    let reading = [1, 2, 3, 4, 6, 7, 8, 10, 11, 12, 13, 19, 20].map(|number| (number, 0));
     let running = [(14, 1), (15, 1), (17, 1), (15, 2), (17, 2), (15, 3), (16, 3), (17, 3)];
     for (number, stage) in reading.iter().chain(&running) {
         assert!(kinds.contains(&format!("refused {number:>2} at stage {stage}")), "{number} {stage}");
@@ -49,7 +49,7 @@ fn random_graphs_agree_with_the_original() {
         let bytes = any_graph(&mut random, [0, 40, 300][at % 3]).bytes();
         let _ = expected(&bytes);
         let graph = job::read(&bytes).graph;
-        run(&graph, &some_order(&mut random, graph.n_keys()));
+        run(&graph, &some_order(&mut random, graph.all.n_keys()));
     }
 }
 

@@ -3,6 +3,7 @@ use std::panic::catch_unwind;
 
 use oracle::cases::Random;
 use oracle::gaussian::{FactorGraph, FactorView, Likelihood};
+use oracle::graph::Graph;
 use oracle::plan::{Elimination, Shape, Shapes};
 use oracle::run::parts;
 
@@ -20,7 +21,7 @@ pub struct Call {
 const SLOTS: usize = 128;
 const LISTED: usize = 32;
 
-/// A call over some of a graph's factors, mostly one that can be carried out.
+/// A call over some of a graph's factors, superseded ones among them, mostly one that can be carried out.
 pub fn draw(random: &mut Random, graph: &FactorGraph<f64>) -> Call {
     let (keys, factors) = (graph.n_keys(), graph.n_factors());
     let slots: Vec<usize> = (0..random.below(factors + 2)).map(|_| random.below(factors.max(1))).collect();
@@ -79,7 +80,7 @@ fn checked(shapes: &Shapes, call: &Call) -> Result<Elimination, usize> {
 }
 
 /// The rows and the message's numbers, or a refusal; none outside the domain.
-fn wanted(graph: &FactorGraph<f64>, call: &Call) -> Option<Result<(usize, Vec<f64>), usize>> {
+fn wanted(graph: &Graph, call: &Call) -> Option<Result<(usize, Vec<f64>), usize>> {
     let work = match checked(&Shapes::of(graph), call) {
         Err(number) => return Some(Err(number)),
         Ok(work) => work,
@@ -87,8 +88,8 @@ fn wanted(graph: &FactorGraph<f64>, call: &Call) -> Option<Result<(usize, Vec<f6
     if !work.in_domain {
         return None;
     }
-    let views = call.slots.iter().map(|&slot| FactorView::from(&graph.factors()[slot]));
-    let Ok(found) = Likelihood::eliminate(views, &call.kept, &call.cleared, |key| graph.size(key).unwrap()) else {
+    let views = call.slots.iter().map(|&slot| FactorView::from(&graph.all.factors()[slot]));
+    let Ok(found) = Likelihood::eliminate(views, &call.kept, &call.cleared, |key| graph.all.size(key).unwrap()) else {
         return Some(Err(15));
     };
     let (a, xi, w) = parts(&found);
@@ -97,7 +98,7 @@ fn wanted(graph: &FactorGraph<f64>, call: &Call) -> Option<Result<(usize, Vec<f6
     Some(if finite { Ok((work.rows, numbers)) } else { Err(17) })
 }
 
-pub fn compare(job: &[u8], graph: &FactorGraph<f64>, call: &Call) -> Outcome {
+pub fn compare(job: &[u8], graph: &Graph, call: &Call) -> Outcome {
     let mut messages = vec![f64::from_bits(UNTOUCHED); call.room];
     let answer = ours::eliminate(job, &call.slots, &call.kept, &call.cleared, &mut messages);
     let guarded = std::panic::AssertUnwindSafe(|| wanted(graph, call));

@@ -2,6 +2,7 @@
 mod damage;
 mod flags;
 mod full;
+pub mod superseding;
 
 use oracle::cases::graphs::{
     Style, any_graph, any_links, chain, close_columns, full_rank_chain, graph, ladder, ring, some_sizes, star, tree,
@@ -29,6 +30,7 @@ pub enum Kind {
     Uneven,
     Widest,
     Flags,
+    Superseding,
     Limits,
     FactorStore,
     MessageStore,
@@ -36,16 +38,16 @@ pub enum Kind {
 }
 
 /// Of 100 draws so many are of each kind; the rest are damaged jobs.
-const SHARES: [(Kind, usize); 20] = [
-    (Kind::Chain, 6),
-    (Kind::Tree, 6),
-    (Kind::Loop, 6),
+const SHARES: [(Kind, usize); 21] = [
+    (Kind::Chain, 5),
+    (Kind::Tree, 5),
+    (Kind::Loop, 5),
     (Kind::Star, 5),
     (Kind::Ladder, 5),
     (Kind::Apart, 6),
     (Kind::Wide, 6),
     (Kind::ManyPriors, 5),
-    (Kind::Any, 8),
+    (Kind::Any, 7),
     (Kind::Keyless, 4),
     (Kind::NearlySingular, 5),
     (Kind::BesideTolerance, 4),
@@ -54,6 +56,7 @@ const SHARES: [(Kind, usize); 20] = [
     (Kind::Uneven, 4),
     (Kind::Widest, 3),
     (Kind::Flags, 4),
+    (Kind::Superseding, 4),
     (Kind::Limits, 2),
     (Kind::FactorStore, 1),
     (Kind::MessageStore, 1),
@@ -61,8 +64,8 @@ const SHARES: [(Kind, usize); 20] = [
 
 /// Which of the flags 0, 1, 2, 3 and any other its observations have.
 pub fn flags_in(job: &Job) -> [bool; 5] {
-    let flags =
-        job.records.iter().filter(|record| record.starts_with(b"OB") && record.len() > 4).map(|record| record[4]);
+    let factors = job.records.iter().map(|record| superseding::within(record));
+    let flags = factors.filter(|record| record.starts_with(b"OB") && record.len() > 4).map(|record| record[4]);
     flags.fold([false; 5], |mut met, flag| {
         met[flag.min(4) as usize] = true;
         met
@@ -86,13 +89,15 @@ pub fn draw(seed: u64, number: u64) -> (Kind, Job) {
 fn of_kind(random: &mut Random, kind: Kind) -> Job {
     let job = made(random, kind);
     // A pivot beside the tolerance was reckoned with the identity.
-    if kind == Kind::BesideTolerance { job } else { flags::some_quarters(random, job) }
+    let job = if kind == Kind::BesideTolerance { job } else { flags::some_quarters(random, job) };
+    if kind == Kind::Superseding { job } else { superseding::some(random, kind, job) }
 }
 
 fn made(random: &mut Random, kind: Kind) -> Job {
     match kind {
         Kind::Widest => widest(random),
         Kind::Flags => flags::any(random),
+        Kind::Superseding => superseding::any(random),
         Kind::Limits => limits(random),
         Kind::FactorStore => full::factor_store(random),
         Kind::MessageStore => full::message_store(random),

@@ -6,17 +6,33 @@ use std::collections::BTreeMap;
 use std::path::Path;
 use std::process::ExitCode;
 
+use compare::jobs::superseding::{is_superseding, without};
 use compare::jobs::{self, Kind};
 use compare::outcome::{Outcome, compare};
 use oracle::cases::Job;
+use oracle::job;
 use oracle::tolerance::nearest;
 
-/// Beside the outcome and the kind of a job: how many floats its nearest pivot lay above what it must exceed, where these are few, and the
-/// flags of its observations.
-type Counts = BTreeMap<(Outcome, Kind, Option<i64>, [bool; 5]), u64>;
+type Counts = BTreeMap<(Outcome, Kind, Met), u64>;
+
+/// What is counted beside the outcome and the kind of a job.
+#[derive(Clone, Copy, PartialEq, Eq, PartialOrd, Ord)]
+struct Met {
+    /// How many floats its nearest pivot lay above what it must exceed, where these are few.
+    steps: Option<i64>,
+    /// The flags of its observations.
+    flags: [bool; 5],
+    /// It holds a superseding record, which may be refused or never read.
+    superseding: bool,
+    /// How many were accepted, up to the most that is told apart.
+    superseded: usize,
+}
 
 /// Pivots that lie further off are not told apart.
 const NEAR: i64 = 2;
+
+/// Nor are more factors that were superseded.
+const MANY: usize = 5;
 
 fn main() -> ExitCode {
     let words: Vec<String> = std::env::args().skip(1).collect();
@@ -51,24 +67,31 @@ fn some(seed: u64, first: u64, count: u64, threads: u64, folder: &Path) -> Count
     for number in (first..count).step_by(threads as usize) {
         let (kind, job) = jobs::draw(seed, number);
         nearest();
-        let (outcome, flags) = (compare(&job), jobs::flags_in(&job));
-        let steps = nearest().filter(|steps| steps.abs() <= NEAR);
+        let outcome = compare(&job);
+        let met = met(&job);
         if let Outcome::Differs(how) = &outcome {
             eprintln!("job {number}: {how}");
             let small = reduced(job);
             std::fs::write(folder.join(format!("differs-{number}.job")), small.bytes()).unwrap();
         }
-        *counts.entry((outcome, kind, steps, flags)).or_default() += 1;
+        *counts.entry((outcome, kind, met)).or_default() += 1;
     }
     counts
+}
+
+/// The job was compared just before, so that its pivots are the nearest ones.
+fn met(job: &Job) -> Met {
+    let steps = nearest().filter(|steps| steps.abs() <= NEAR);
+    let superseding = job.records.iter().any(|record| is_superseding(record));
+    let superseded = job::read(&job.bytes()).graph.superseded().min(MANY);
+    Met { steps, flags: jobs::flags_in(job), superseding, superseded }
 }
 
 /// Without every record that the difference doesn't need.
 fn reduced(mut job: Job) -> Job {
     let mut at = 0;
     while at < job.records.len() {
-        let mut less = job.clone();
-        less.records.remove(at);
+        let less = without(job.clone(), at);
         if matches!(compare(&less), Outcome::Differs(_)) { job = less } else { at += 1 }
     }
     job
@@ -80,7 +103,8 @@ fn report(counts: &Counts) -> ExitCode {
     let mut by_kind: BTreeMap<Kind, [u64; 4]> = BTreeMap::new();
     let mut by_steps: BTreeMap<i64, u64> = BTreeMap::new();
     let mut by_flag = [0; 5];
-    for ((outcome, kind, steps, flags), n) in counts {
+    let (mut superseding, mut by_superseded) = (0, [0; MANY + 1]);
+    for ((outcome, kind, met), n) in counts {
         let (name, columns): (String, &[usize]) = match outcome {
             Outcome::Same(text) if text == "done" => (format!("same: {text}"), &[0, 1]),
             Outcome::Same(text) => (format!("same: {text}"), &[1]),
@@ -88,11 +112,11 @@ fn report(counts: &Counts) -> ExitCode {
             Outcome::Differs(_) => ("DIFFERS INSIDE THE DOMAIN".to_string(), &[1, 3]),
         };
         *by_outcome.entry(name).or_default() += n;
-        if let Some(steps) = steps.filter(|_| columns.contains(&1)) {
-            *by_steps.entry(steps).or_default() += n;
-        }
         if columns.contains(&1) {
-            by_flag.iter_mut().zip(flags).for_each(|(count, met)| *count += if *met { *n } else { 0 });
+            met.steps.into_iter().for_each(|steps| *by_steps.entry(steps).or_default() += n);
+            by_flag.iter_mut().zip(met.flags).for_each(|(count, met)| *count += if met { *n } else { 0 });
+            superseding += if met.superseding { *n } else { 0 };
+            by_superseded[met.superseded] += n;
         }
         columns.iter().for_each(|&column| by_kind.entry(*kind).or_default()[column] += n);
     }
@@ -102,6 +126,12 @@ fn report(counts: &Counts) -> ExitCode {
         .for_each(|(steps, n)| println!("{n:>9}  in domain, a pivot {steps:+} floats from what it must exceed"));
     for (flag, n) in ["flag 0", "flag 1", "flag 2", "flag 3", "a flag above 3"].iter().zip(by_flag) {
         println!("{n:>9}  in domain, an observation with {flag}");
+    }
+    println!("{superseding:>9}  in domain, with a superseding record");
+    println!("{:>9}  in domain, with one that was accepted", by_superseded[1..].iter().sum::<u64>());
+    for (count, n) in by_superseded.iter().enumerate().skip(1) {
+        let more = if count == MANY { " or more" } else { "" };
+        println!("{n:>9}  in domain, with {count}{more} accepted");
     }
     println!("     done in domain   outside  differs  kind");
     by_kind.iter().for_each(|(kind, [done, inside, outside, differs])| {

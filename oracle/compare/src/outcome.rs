@@ -2,10 +2,8 @@
 use std::panic::catch_unwind;
 
 use oracle::cases::Job;
-use oracle::gaussian::Factor;
-use oracle::gaussian::shown::{self, Shown};
+use oracle::graph::numbers;
 use oracle::job::{self, FACTOR_STORE, MESSAGE_STORE, Read};
-use oracle::refusal::Reason;
 use oracle::run::{End, expected, lines, parts, run};
 use oracle::solver::Smoother;
 
@@ -63,18 +61,19 @@ pub fn kind_of(text: &str) -> String {
 /// The number that no job writes, in the rest of the store.
 pub const UNTOUCHED: u64 = 0x7FF4_DEAD_BEEF_0001;
 
-/// The factors' numbers after registration, and nothing behind them.
+/// The numbers of the accepted factors, superseded ones too, and nothing behind them.
 fn same_store(bytes: &[u8]) -> bool {
     let mut store = [f64::from_bits(UNTOUCHED); FACTOR_STORE];
     ours::store(bytes, &mut store);
-    begins_with(&store, &accepted(&job::read(bytes)))
+    let accepted: Vec<f64> = job::read(bytes).graph.all.factors().iter().flat_map(numbers).copied().collect();
+    begins_with(&store, &accepted)
 }
 
 /// The finished messages of a run, forward ones first, and the marginals of one that is done; nothing behind them. Outside the
 /// domain there is nothing to compare with.
 fn same_run(bytes: &[u8]) -> bool {
     let Read { graph, refusal } = job::read(bytes);
-    let order: Vec<usize> = graph.keys().collect();
+    let order: Vec<usize> = graph.all.keys().collect();
     let wanted = run(&graph, &order);
     if refusal.is_some() || matches!(wanted.end, Some(End::Outside(_))) {
         return true;
@@ -93,36 +92,19 @@ fn same_run(bytes: &[u8]) -> bool {
 
 /// These numbers, bit by bit, and nothing written behind them.
 fn begins_with(store: &[f64], wanted: &[f64]) -> bool {
-    let (taken, rest) = store.split_at(wanted.len());
+    let Some((taken, rest)) = store.split_at_checked(wanted.len()) else { return false };
     taken.iter().zip(wanted).all(|(x, y)| x.to_bits() == y.to_bits()) && rest.iter().all(|x| x.to_bits() == UNTOUCHED)
-}
-
-/// The numbers of the accepted factors. The original has also stored one that document 01 refuses for what was computed.
-fn accepted(read: &Read) -> Vec<f64> {
-    let mut all: Vec<Vec<f64>> = read.graph.factors().iter().map(numbers).collect();
-    let refused = |numbers: &Vec<f64>| numbers.iter().any(|x| !x.is_finite());
-    if read.refusal.is_some_and(|refusal| refusal.reason == Reason::NumberNotFinite) && all.last().is_some_and(refused)
-    {
-        all.pop();
-    }
-    all.concat()
-}
-
-fn numbers(factor: &Factor<f64>) -> Vec<f64> {
-    match shown::factor(factor) {
-        Shown::Prior { xi, w, .. } => [xi, w].concat(),
-        Shown::Likelihood { a, xi, w, .. } => [a, xi, w].concat(),
-    }
 }
 
 /// How the original's own run, which document 01 doesn't follow there, compares with ours.
 fn beside_the_original(bytes: &[u8], text: &[u8]) -> String {
     let ours = if text.starts_with(b"refused") { "refused" } else { "done" };
-    let theirs = match catch_unwind(|| Smoother::new(job::read(bytes).graph).run().map(|found| lines(&found))) {
-        Err(_) => "panics",
-        Ok(Err(_)) => "fails",
-        Ok(Ok(found)) if found.as_bytes() == text => "the same",
-        Ok(Ok(_)) => "another text",
-    };
+    let theirs =
+        match catch_unwind(|| Smoother::new(job::read(bytes).graph.live().graph).run().map(|found| lines(&found))) {
+            Err(_) => "panics",
+            Ok(Err(_)) => "fails",
+            Ok(Ok(found)) if found.as_bytes() == text => "the same",
+            Ok(Ok(_)) => "another text",
+        };
     format!("ours {ours}, the original's run: {theirs}")
 }

@@ -5,8 +5,9 @@
 //! key once, as `2,0,1`: the forward pass follows it, the backward pass reverses it.
 use std::process::ExitCode;
 
+use oracle::gaussian::Factor;
 use oracle::gaussian::shown::{self, Shown};
-use oracle::gaussian::{Factor, FactorGraph};
+use oracle::graph::Graph;
 use oracle::input::{self, OUTSIDE, UNUSABLE};
 use oracle::job;
 use oracle::plan::{Elimination, Gathered, Message};
@@ -25,7 +26,7 @@ fn main() -> ExitCode {
         println!("{refusal}");
         return ExitCode::SUCCESS;
     }
-    match order(arguments.next().map(|text| text.to_string_lossy().into_owned()), graph.n_keys()) {
+    match order(arguments.next().map(|text| text.to_string_lossy().into_owned()), graph.all.n_keys()) {
         Some(order) => show_run(&run(&graph, &order), &order),
         None => unusable("the order isn't each key exactly once"),
     }
@@ -46,22 +47,23 @@ fn order(text: Option<String>, keys: usize) -> Option<Vec<usize>> {
     (sorted == rising).then_some(named)
 }
 
-fn show_factors(graph: &FactorGraph<f64>) {
-    let sizes: Vec<usize> = graph.keys().map(|key| graph.size(key).unwrap()).collect();
-    println!("sizes {sizes:?}, factor store {} numbers", job::stored(graph));
-    for (number, factor) in graph.factors().iter().enumerate() {
-        show_factor(number, factor);
+fn show_factors(graph: &Graph) {
+    let sizes: Vec<usize> = graph.all.keys().map(|key| graph.all.size(key).unwrap()).collect();
+    println!("sizes {sizes:?}, factor store {} numbers", job::stored(&graph.all));
+    for (number, factor) in graph.all.factors().iter().enumerate() {
+        let state = if graph.is_live(number) { "" } else { ", superseded" };
+        show_factor(number, factor, state);
     }
 }
 
-fn show_factor(number: usize, factor: &Factor<f64>) {
+fn show_factor(number: usize, factor: &Factor<f64>, state: &str) {
     match shown::factor(factor) {
         Shown::Prior { key, xi, w } => {
-            println!("original {number}: prior on {key}");
+            println!("original {number}: prior on {key}{state}");
             show_numbers(&[], xi, w);
         }
         Shown::Likelihood { keys, rows, a, xi, w } => {
-            println!("original {number}: observation of {rows} rows on {keys:?}");
+            println!("original {number}: observation of {rows} rows on {keys:?}{state}");
             show_numbers(a, xi, w);
         }
     }

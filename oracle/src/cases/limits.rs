@@ -112,7 +112,7 @@ fn keyless(job: Job, rows: usize) -> Job {
 pub fn filled(rows: &[usize], left: usize) -> Job {
     let all = [&[MOST_ROWS; 48][..], &[3], rows].concat();
     let job = all.iter().fold(Job::with(&[1]).prior(0, &[2.0], &[4.0]), |job, &rows| keyless(job, rows));
-    assert_eq!(job::stored(&job::read(&job.bytes()).graph), FACTOR_STORE - left);
+    assert_eq!(job::stored(&job::read(&job.bytes()).graph.all), FACTOR_STORE - left);
     job
 }
 
@@ -138,7 +138,7 @@ fn factor_store(cases: &mut Cases) {
 fn full_of_64() -> Job {
     let rows = [vec![MOST_ROWS; 47], vec![2; 10], vec![1; 7]].concat();
     let job = rows.iter().fold(Job::new(), |job, &rows| keyless(job, rows));
-    assert_eq!(job::stored(&job::read(&job.bytes()).graph), FACTOR_STORE);
+    assert_eq!(job::stored(&job::read(&job.bytes()).graph.all), FACTOR_STORE);
     job
 }
 

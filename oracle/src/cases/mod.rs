@@ -10,6 +10,7 @@ mod random;
 mod reading;
 mod refusals;
 mod registration;
+mod superseding;
 pub mod symmetry;
 pub mod tolerance;
 mod writer;
@@ -53,6 +54,13 @@ impl Cases {
         assert_eq!(one.prints, other.prints, "{}", other.name);
     }
 
+    /// A job whose live factors are those of another job, in the same order, and which prints the same.
+    fn add_as(&mut self, name: impl Into<String>, job: Job, live: Job) {
+        let name = name.into();
+        assert_eq!(expected(&job.bytes()), expected(&live.bytes()), "{name}");
+        self.add(name, job);
+    }
+
     /// The first job drawn that is in the domain and prints what is wanted by the published rule for pivots. So a rule that was
     /// added by request changes answers, and never which jobs are recorded. Each name has random numbers of its own, so that a job
     /// drawn otherwise changes no other.
@@ -88,6 +96,7 @@ pub fn all() -> Vec<Case> {
     tolerance::add(&mut cases);
     symmetry::add(&mut cases);
     flags::add(&mut cases);
+    superseding::add(&mut cases);
     cases.all
 }
 

@@ -78,6 +78,13 @@ impl Job {
         self.record(b"OB", &[&header, &keys, &bytes(numbers)])
     }
 
+    /// The record that `add` adds, in the place of the factor of this number (C-11).
+    pub fn superseding(self, number: usize, add: impl FnOnce(Job) -> Job) -> Job {
+        let mut job = add(self);
+        let record = job.records.pop().unwrap();
+        job.record(b"SU", &[&[number as u8], &record])
+    }
+
     /// Without the last bytes of its last record.
     pub fn cut(mut self, count: usize) -> Job {
         let last = self.records.last_mut().unwrap();

@@ -1,4 +1,5 @@
 //! Jobs with something wrong in them.
+use super::superseding::{HEADER, is_superseding};
 use super::{SHARES, of_kind};
 use oracle::cases::{Job, Random};
 
@@ -68,14 +69,20 @@ fn name(random: &mut Random, mut job: Job) -> Job {
 }
 
 /// A byte, a header's byte or a number of one record.
-fn spoil(random: &mut Random, record: &mut Vec<u8>) {
+pub fn spoil(random: &mut Random, record: &mut Vec<u8>) {
     if record.is_empty() {
         return;
     }
     let at = random.below(record.len());
-    match random.below(7) {
-        6 if record.len() > 4 && record.starts_with(b"OB") => record[4] = [0, 1, 2, 3, 4, 255][random.below(6)],
-        5 if record.len() > 6 && record.starts_with(b"OB") => record[5] = record[6].wrapping_add(random.below(3) as u8),
+    // Where the factor's record begins.
+    let own = if is_superseding(record) { HEADER.min(record.len()) } else { 0 };
+    let observed = record[own..].starts_with(b"OB");
+    match random.below(8) {
+        7 => named(random, record),
+        6 if record.len() > own + 4 && observed => record[own + 4] = [0, 1, 2, 3, 4, 255][random.below(6)],
+        5 if record.len() > own + 6 && observed => {
+            record[own + 5] = record[own + 6].wrapping_add(random.below(3) as u8)
+        }
         0 => record[at] ^= 1 << random.below(8),
         1 => record[at] = random.below(256) as u8,
         2 => {
@@ -91,6 +98,22 @@ fn spoil(random: &mut Random, record: &mut Vec<u8>) {
                 let from = record.len() - 8 * (1 + random.below(numbers));
                 record[from..from + 8].copy_from_slice(&ODD[random.below(ODD.len())].to_le_bytes());
             }
+        }
+    }
+}
+
+/// Another number or another mark within; a superseding header more or less.
+fn named(random: &mut Random, record: &mut Vec<u8>) {
+    let number = [0, 1, 2, 5, 62, 63, 64, 255][random.below(8)];
+    if !is_superseding(record) || record.len() < HEADER + 2 || random.chance(20) {
+        record.splice(..0, [b'S', b'U', number]);
+        return;
+    }
+    match random.below(3) {
+        0 => record[2] = number,
+        1 => record[HEADER..HEADER + 2].copy_from_slice([b"PR", b"OB", b"VA", b"SU", b"XX"][random.below(5)]),
+        _ => {
+            record.drain(..HEADER);
         }
     }
 }

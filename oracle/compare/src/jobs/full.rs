@@ -22,7 +22,7 @@ pub fn factor_store(random: &mut Random) -> Job {
 }
 
 fn filled(mut job: Job) -> Job {
-    let mut left = FACTOR_STORE - 2 - job::stored(&job::read(&job.bytes()).graph);
+    let mut left = FACTOR_STORE - 2 - job::stored(&job::read(&job.bytes()).graph.all);
     if left % 2 == 1 {
         job = job.unit_observation(&[0], &[0.5], &[1.0]);
         left -= 3;
