@@ -58,6 +58,7 @@ number-most why.ClearedPivot = omega arith
 number-most why.MarginalPivot = omega arith
 number-most why.ResultNotFinite = omega arith
 number-most why.CountedTwice = omega arith
+number-most why.NotLive = omega arith
 number-most why.NotSymmetric = omega arith
 number-most why.NoSuchGraph = omega arith
 
