@@ -8,7 +8,7 @@ const KEYS: u64 = 4;
 const ROWS: u64 = 6;
 /// Past as many bytes nothing in a job changes its text (firmware/strips.h).
 const INPUT: u64 =
-    11 * 32 + (5 + KEYS) * 64 + 8 * 2048 + 5 + KEYS + 8 * (ROWS * 32 + ROWS + ROWS * ROWS);
+    11 * 32 + (8 + KEYS) * 64 + 8 * 2048 + 8 + KEYS + 8 * (ROWS * 32 + ROWS + ROWS * ROWS);
 
 extern "C" {
     // firmware/strips.h has the contract

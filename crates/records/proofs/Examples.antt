@@ -207,3 +207,8 @@ prior-within : readFrom 2 (0x53 ∷ 0x55 ∷ 0 ∷ prior-bytes) 0 2 held (half �
     ≡ reading superseded Done (half ∷ quarter ∷ half ∷ quarter ∷ [])
 unfolding computedReading
 prior-within = refl
+
+-- factor 0 can't be superseded again: 19, though the mark within is cut
+named-again : readFrom 1 (0x53 ∷ 0x55 ∷ 0 ∷ []) 0 0 superseded [] ≡ reading superseded (Refused NotLive 0) []
+unfolding computedReading
+named-again = refl
