@@ -1,4 +1,4 @@
--- A few calls worked out by computation: P4's message, no slots, and refusals. Assumes nothing.
+-- A few calls worked out by computation: P4's message, no slots, a superseded factor, and refusals. Assumes nothing.
 use Prim.Native.Nat.{ℕ}
 use mathlib.Core.Path.{_≡_, refl}
 use mathlib.Core.Bool.{true, false}
@@ -8,7 +8,7 @@ use lib.Ieee.{Float, fin}
 use Rattle.factor.specs.Factor.{priorOf, observationOf}
 use Rattle.graph.specs.Refusals.{refusalNumber}
 use Rattle.graph.specs.Record.{fresh}
-use Rattle.graph.specs.Registration.{withVariable, withFactor}
+use Rattle.graph.specs.Registration.{withVariable, withFactor, retired}
 use Rattle.graph.specs.declared.Graph.{Graph}
 use Rattle.graph.specs.declared.refusal.Refusal.the-variants.{NeitherKeptNorCleared, KeptAndCleared, NoSuchKey, FactorStoreShort, StoreShort, ClearedPivot}
 use Rattle.graph.proofs.Computing.{computedTest}
@@ -109,3 +109,8 @@ not-touched = refl
 twice : judged (0 ∷ 0 ∷ []) (0 ∷ []) [] store 3 2304 ≡ send 1 (one ∷ zer ∷ fin false 1 (pos 1) ∷ [])
 unfolding judged
 twice = refl
+
+-- a superseded factor may be listed: with factor 0 no longer live the message is P4's
+superseded-listed : directVerdict (retired four-factors 0) (0 ∷ 3 ∷ 2 ∷ 1 ∷ []) (1 ∷ []) (0 ∷ []) store 3 2304 ≡ send 1 (one ∷ three ∷ three-quarters ∷ [])
+unfolding judged
+superseded-listed = refl

@@ -1,21 +1,23 @@
--- A few calls worked out by computation: equal keys, a prior, an observation, a variance without a pivot, and variances whose triangles differ.
--- Assumes nothing.
+-- A few calls worked out by computation: equal keys, a prior, an observation, a variance without a pivot, variances whose triangles differ, and
+-- a prior in place of another. Assumes nothing.
 use Prim.Native.Nat.{ℕ}
 use mathlib.Core.Path.{_≡_, refl, ap}
-use mathlib.Core.Bool.{true}
-use mathlib.Core.List.{[], _∷_}
+use mathlib.Core.Bool.{true, false}
+use mathlib.Core.List.{List, [], _∷_}
 use lib.Ieee.{Float, nan, inf, binary64, ofBits}
 use lib.ListN.{replicate}
 use Rattle.factor.specs.Limits.{max-factors}
-use Rattle.factor.specs.Factor.{noFactor, observationOf}
+use Rattle.factor.specs.Factor.{noFactor, priorOf, observationOf, withLive}
 use Rattle.factor.specs.Told.{value, refusal}
-use Rattle.graph.specs.Record.{noName, fresh}
+use Rattle.factor.specs.declared.Factor.{Factor}
+use Rattle.graph.specs.Record.{noName, fresh, liveAt, valid}
 use Rattle.graph.specs.Registration.{refused, settle, FactorVerdict, accept, refuse, addVariable, priorVerdict, addPrior, priorStore, observationVerdict}
-use Rattle.graph.specs.Registration.{addObservation, observationStore}
+use Rattle.graph.specs.Registration.{addObservation, observationStore, superseding, supersedingStore}
 use Rattle.graph.specs.Told.{callTold}
 use Rattle.graph.specs.declared.Graph.{Graph}
-use Rattle.graph.specs.declared.refusal.Refusal.the-variants.{KeysNotRising, NotFinite, VariancePivot, NotSymmetric}
-use Rattle.graph.proofs.Computing.{computedCall}
+use Rattle.graph.specs.declared.Outcome.the-variants.{Number}
+use Rattle.graph.specs.declared.refusal.Refusal.the-variants.{KeysNotRising, NoSuchKey, NotFinite, VariancePivot, NotLive, NotSymmetric}
+use Rattle.graph.proofs.Computing.{computedTest, computedCall}
 
 abbrev float : ℕ → Float
 float bits = ofBits binary64 bits
@@ -39,19 +41,22 @@ four = float 0x4010000000000000
 abbrev minus-one : Float
 minus-one = float 0xBFF0000000000000
 
--- keys 0 and 1 of size 1
-unfoldable pair : Graph
-unfolding computedCall
-pair =
+-- keys 0 and 1 of size 1, with n factors
+abbrev having : ℕ → List Factor → Graph
+having n fs =
     record {
       symbols = (97, 0) ∷ (97, 1) ∷ replicate 30 noName;
       sizes = 1 ∷ 1 ∷ replicate 30 0;
       variables = 2;
-      factors = replicate max-factors noFactor;
-      count = 0;
+      factors = fs;
+      count = n;
     }
 
--- two calls yield it
+unfoldable pair : Graph
+unfolding computedCall
+pair = having 0 (replicate max-factors noFactor)
+
+-- two calls yield it without factors
 pair-yielded : addVariable (addVariable fresh (97, 0) 1 .graph) (97, 1) 1 .graph ≡ pair
 unfolding pair
 pair-yielded = refl
@@ -137,3 +142,60 @@ still-pivot = refl
 after-given : square one zero (inf true) one ≡ refuse NotFinite
 unfolding square
 after-given = refl
+
+-- ---- a factor in place of another
+
+-- there is nothing to supersede: 19, before the key, the lengths and the store are looked at
+nothing-there : superseding pair 0 (addPrior pair 9 [] [] []) ≡ refused pair NotLive
+unfolding pair
+nothing-there = refl
+
+nothing-there-told : callTold (superseding pair 0 (addPrior pair 9 [] [] []) .outcome) ≡ refusal 19 []
+unfolding pair callTold
+nothing-there-told = refl
+
+-- a prior on key 0, and then one on key 1 in its place
+unfoldable first : Graph
+unfolding computedCall
+first = having 1 (priorOf 0 1 ∷ replicate 63 noFactor)
+
+unfoldable second : Graph
+unfolding computedCall
+second = having 2 (withLive (priorOf 0 1) false ∷ priorOf 1 1 ∷ replicate 62 noFactor)
+
+first-yielded : addPrior pair 0 (one ∷ []) (one ∷ []) (nan ∷ nan ∷ []) .graph ≡ first
+unfolding pair first
+first-yielded = refl
+
+in-its-place : superseding first 0 (addPrior first 1 (two ∷ []) (four ∷ []) (one ∷ one ∷ nan ∷ nan ∷ [])) ≡ record { graph = second; outcome = Number 1 }
+unfolding first second
+in-its-place = refl
+
+-- the numbers of the old one stay
+numbers-stay : supersedingStore first 0 (one ∷ one ∷ nan ∷ nan ∷ []) (priorStore first 1 (two ∷ []) (four ∷ []) (one ∷ one ∷ nan ∷ nan ∷ []))
+    ≡ one ∷ one ∷ half ∷ quarter ∷ []
+unfolding first
+numbers-stay = refl
+
+old-not-live : liveAt second 0 ≡ false
+unfolding second
+old-not-live = refl
+
+new-live : liveAt second 1 ≡ true
+unfolding second
+new-live = refl
+
+-- it can't be superseded again
+not-again : superseding second 0 (addPrior second 1 (two ∷ []) (four ∷ []) (one ∷ one ∷ half ∷ quarter ∷ nan ∷ nan ∷ [])) ≡ refused second NotLive
+unfolding second
+not-again = refl
+
+-- a refusal of the new one leaves the old one live
+still-live : superseding first 0 (addPrior first 2 (two ∷ []) (four ∷ []) (one ∷ one ∷ nan ∷ nan ∷ [])) ≡ refused first NoSuchKey
+unfolding first
+still-live = refl
+
+-- an only factor that isn't live is no record that calls yield
+none-live : valid (having 1 (withLive (priorOf 0 1) false ∷ replicate 63 noFactor)) ≡ false
+unfolding computedTest
+none-live = refl

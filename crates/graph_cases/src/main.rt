@@ -1,6 +1,8 @@
 // Calls with good and bad input, and a line for each: what it answered, and whether it changed the graph and the store.
 mod report;
+mod superseding;
 
+use factor::limits::FACTORS;
 use graph::Graph;
 use graph::Symbol;
 use report::forged;
@@ -22,6 +24,7 @@ fn main() {
     forged_variables(g);
     forged_factors(g);
     forged_widest(g);
+    superseding::cases(g);
 }
 
 fn variables() {
@@ -257,15 +260,22 @@ fn widest(g: Graph) {
     observation(b"7 rows", g, &[0], 7, &seven, &seven, &[1.0; 49], 63);
 }
 
-// As many factors as there is room for, and one more.
-fn factor_limit() {
+// So many factors, or as many as there is room for: observations without keys, of 2 numbers each.
+pub fn filled(n: usize) -> Graph {
     let one = [1.0];
     let mut full = Graph::new();
-    for i in 0usize..64 {
+    for i in 0..n {
         let mut store = [9.0; 130];
         let added = full.add_observation(&[], 1, &[], &one, &one, &mut store);
         full = added.graph;
     }
+    full
+}
+
+// As many factors as there is room for, and one more.
+fn factor_limit() {
+    let one = [1.0];
+    let full = filled(FACTORS);
     observation(b"a 65th factor", full, &[], 1, &[], &one, &one, 130);
     observation(
         b"a 65th factor, not a number",

@@ -41,6 +41,9 @@ fn same_factor(a: Factor, b: Factor) -> bool {
     if a.rows != b.rows {
         return false;
     }
+    if a.live != b.live {
+        return false;
+    }
     for j in 0..KEYS {
         if a.keys[j] != b.keys[j] {
             return false;
@@ -147,6 +150,65 @@ pub fn observation(
     let added = g.add_observation(keys, rows, a, mean, variance, &mut store[0..room]);
     line(label, g, added, untouched(store));
     added.graph
+}
+
+// As `prior`, in place of the factor of that number.
+pub fn over_prior(
+    label: &[u8],
+    g: Graph,
+    number: usize,
+    key: usize,
+    mean: &[f64],
+    variance: &[f64],
+    room: usize,
+) -> Graph
+    requires { ⌜ room ≤ 130 ⌝ }
+{
+    let mut store = [9.0; 130];
+    let added = g.supersede_prior(number, key, mean, variance, &mut store[0..room]);
+    line(label, g, added, untouched(store));
+    added.graph
+}
+
+// As `observation`, in place of the factor of that number.
+pub fn over_observation(
+    label: &[u8],
+    g: Graph,
+    number: usize,
+    keys: &[usize],
+    rows: usize,
+    a: &[f64],
+    mean: &[f64],
+    variance: &[f64],
+    room: usize,
+) -> Graph
+    requires { ⌜ room ≤ 130 ⌝ }
+{
+    let mut store = [9.0; 130];
+    let lent = &mut store[0..room];
+    let added = g.supersede_observation(number, keys, rows, a, mean, variance, lent);
+    line(label, g, added, untouched(store));
+    added.graph
+}
+
+// Both calls in place of the factor of that number, with arguments that are accepted where it is live.
+pub fn over_each(label: &[u8], g: Graph, number: usize) {
+    let one = [1.0];
+    over_prior(label, g, number, 0, &one, &one, 32);
+    over_observation(label, g, number, &[], 1, &[], &one, &one, 32);
+}
+
+// The numbers of the live factors.
+pub fn live(label: &[u8], g: Graph) {
+    io::write_all(1, label);
+    io::write_all(1, b": live");
+    for number in 0..FACTORS {
+        if g.is_live(number) {
+            io::write_all(1, b" ");
+            io::print_decimal(1, number as u64);
+        }
+    }
+    io::write_all(1, b"\n");
 }
 
 // A record that no calls yield: each call is made on it, with arguments that a right one would accept.
