@@ -10,9 +10,7 @@ use native.Mathlib.Decide.{ℕ-discrete, decLt}
 use borrow.Author.Tests.{lt-ltb, le-ltb}
 use lib.Ieee.{Float}
 use lib.ListN.{length, take, length-set}
-use lib.Seq.{getD-set-same, getD-set-other}
 use Rattle.factor.specs.Counting.{every}
-use Rattle.factor.specs.Factor.{absent, withLive}
 use Rattle.factor.specs.declared.Factor.{Factor}
 use Rattle.graph.specs.Record.{factorAt, fresh, liveAt, factorKeys}
 use Rattle.graph.specs.Registration.{withVariable, withFactor, retired}
@@ -23,6 +21,7 @@ use Rattle.graph.specs.declared.Added.{Added}
 use Rattle.graph.proofs.Calls.{Comes, turned, named, taken, replaced, comes, fresh-reached, reached-more}
 use Rattle.graph.proofs.Keeping.{good-of}
 use Rattle.graph.proofs.Validity.{valid-count, live-below, live-of}
+use Rattle.graph.proofs.Factors.{added-at, added-else, retired-at, retired-else}
 use Rattle.schedule.specs.Count.{count, mem, putIf, keep, from, risingWhere}
 use Rattle.schedule.proofs.Counts.{hit-same, hit-other, count-cons, count-nil}
 use Rattle.plan.proofs.Membership.{mem-append, mem-nil, rising-same}
@@ -62,39 +61,27 @@ module _ (g : Graph) (f : Factor) where
   abbrev with-it : Graph
   with-it = withFactor g f
 
-  older-at : (i : ℕ) → i < g .count → factorAt with-it i ≡ factorAt g i
-  older-at i l = getD-set-other (g .factors) (g .count) i f absent (λ e. omega arith)
-
   module _ (l : g .count < length (g .factors)) where
-    new-at : factorAt with-it (g .count) ≡ f
-    new-at = getD-set-same (g .factors) (g .count) f absent l
-
     new-keys : factorKeys with-it (g .count) ≡ take (f .touched) (f .keys)
-    new-keys = keys-of with-it (g .count) (omega arith) ∙ ap (λ (x : Factor). take (x .touched) (x .keys)) new-at
+    new-keys = keys-of with-it (g .count) (omega arith) ∙ ap (λ (x : Factor). take (x .touched) (x .keys)) (added-at g f l)
 
     new-live : f .live ≡ true → liveAt with-it (g .count) ≡ true
-    new-live e = live-of with-it (g .count) (omega arith) (ap (λ (x : Factor). x .live) new-at ∙ e)
+    new-live e = live-of with-it (g .count) (omega arith) (ap (λ (x : Factor). x .live) (added-at g f l) ∙ e)
 
   old-keys : (i : ℕ) → i < g .count → factorKeys with-it i ≡ factorKeys g i
-  old-keys i l = keys-of with-it i (omega arith) ∙ ap (λ (x : Factor). take (x .touched) (x .keys)) (older-at i l) ∙ sym (keys-of g i l)
+  old-keys i l = keys-of with-it i (omega arith) ∙ ap (λ (x : Factor). take (x .touched) (x .keys)) (added-else g f i (λ e. omega arith)) ∙ sym (keys-of g i l)
 
   old-live : (i : ℕ) → i < g .count → liveAt with-it i ≡ liveAt g i
-  old-live i l = live-is with-it i (omega arith) ∙ ap (λ (x : Factor). x .live) (older-at i l) ∙ sym (live-is g i l)
+  old-live i l = live-is with-it i (omega arith) ∙ ap (λ (x : Factor). x .live) (added-else g f i (λ e. omega arith)) ∙ sym (live-is g i l)
 
 -- ---- a factor retired
 
 module _ (g : Graph) (j : ℕ) (l : j < g .count) (long : j < length (g .factors)) where
-  retired-at : (i : ℕ) → (i ≡ j → ⊥) → factorAt (retired g j) i ≡ factorAt g i
-  retired-at i d = getD-set-other (g .factors) j i (withLive (factorAt g j) false) absent d
-
-  gone-at : factorAt (retired g j) j ≡ withLive (factorAt g j) false
-  gone-at = getD-set-same (g .factors) j (withLive (factorAt g j) false) absent long
-
   gone : liveAt (retired g j) j ≡ false
-  gone = live-is (retired g j) j l ∙ ap (λ (x : Factor). x .live) gone-at
+  gone = live-is (retired g j) j l ∙ ap (λ (x : Factor). x .live) (retired-at g j long)
 
   others-live : (i : ℕ) → (i ≡ j → ⊥) → i < g .count → liveAt (retired g j) i ≡ liveAt g i
-  others-live i d m = live-is (retired g j) i m ∙ ap (λ (x : Factor). x .live) (retired-at i d) ∙ sym (live-is g i m)
+  others-live i d m = live-is (retired g j) i m ∙ ap (λ (x : Factor). x .live) (retired-else g j i d) ∙ sym (live-is g i m)
 
   retired-keys : (i : ℕ) → i < g .count → factorKeys (retired g j) i ≡ factorKeys g i
   retired-keys i m = keys-of (retired g j) i m ∙ go (ℕ-discrete i j) ∙ sym (keys-of g i m)
@@ -103,8 +90,8 @@ module _ (g : Graph) (j : ℕ) (l : j < g .count) (long : j < length (g .factors
       touched x = take (x .touched) (x .keys)
 
       go : Dec (i ≡ j) → touched (factorAt (retired g j) i) ≡ touched (factorAt g i)
-      go (yes e) = rw (e, gone-at) refl
-      go (no d) = ap touched (retired-at i d)
+      go (yes e) = rw (e, retired-at g j long) refl
+      go (no d) = ap touched (retired-else g j i d)
 
 same-keys : (g : Graph) (name : Symbol) (size i : ℕ) → factorKeys (withVariable g name size) i ≡ factorKeys g i
 unfolding factorKeys
@@ -150,7 +137,8 @@ module _ (g m h : Graph) (keys olds ks : List ℕ) (fs : List Accepted) (ss : Li
         keys = r .keys ∙ ap (λ (n : ℕ). from n (r .more-keys)) (a .variables);
         variables = omega (arith, r .variables, a .variables);
         more-factors = suc (r .more-factors);
-        numbered = ap (λ (l : List ℕ). g .count ∷ l) (r .numbered ∙ ap (λ (n : ℕ). from n (r .more-factors)) (a .count)) ∙ from-more (g .count) (r .more-factors);
+        numbered = ap (λ (l : List ℕ). g .count ∷ l) (r .numbered ∙ ap (λ (n : ℕ). from n (r .more-factors)) (a .count))
+            ∙ from-more (g .count) (r .more-factors);
         count = omega (arith, r .count, a .count);
         older = λ i l. r .older i (omega (arith, a .count)) ∙ a .older i l;
         given = given-too;

@@ -24,7 +24,7 @@ use Rattle.solver.specs.Stages.{Runnable}
 use Rattle.solver.specs.declared.Outcome.the-variants.{Done}
 use Rattle.solver.proofs.GraphOnce.{once}
 use Rattle.solver.proofs.Carriable.{graph-runnable}
-use Rattle.claims.specs.Demand3.{Accepted, keysAnswered, accepted, numbersAnswered, live, clearedBehind, Rests, Exact, Whole}
+use Rattle.claims.specs.Demand3.{Accepted, keysAnswered, numbersAnswered, live, clearedBehind, Rests, Exact, Whole}
 use Rattle.claims.proofs.Calls.{reached, keys-are, numbers-are, live-are, given-are}
 use Rattle.claims.proofs.Carrying.{run-carries}
 

@@ -8,7 +8,7 @@ use mathlib.Core.List.{List, [], _∷_}
 use native.Mathlib.Numerals.{add-one}
 use native.Mathlib.Omega.{arith}
 use lib.ListN.{length, set, replicate}
-use lib.Seq.{getD-set-same, getD-set-other, set-set, set-comm}
+use lib.Seq.{set-set, set-comm}
 use Rattle.factor.specs.Limits.{max-variables, max-total, max-factors, max-keys}
 use Rattle.factor.specs.Counting.{every, sum}
 use Rattle.factor.specs.Factor.{keyAt, noFactor, absent, withLive}
@@ -26,6 +26,7 @@ use Rattle.graph.proofs.Filling.{fill, fill-set, fill-below, fill-above
 use Rattle.graph.proofs.Keeping.{Shaped, Sound, sound-of, free-ext, clear-name, clear-size, good-of}
 use Rattle.graph.proofs.Passing.{variable-taken, room, EntersAs, plain-prior, prior-taken, plain-observation, observation-taken}
 use Rattle.graph.proofs.Validity.{live-of}
+use Rattle.graph.proofs.Factors.{added-at, added-else}
 
 module _ (g : Graph) (sh : Shaped g) (so : Sound g) where
   -- ---- the first k variables, and no factors
@@ -151,7 +152,7 @@ module _ (g : Graph) (sh : Shaped g) (so : Sound g) where
         (ap (set (facs k .factors) k) (as-it-is (factorAt g k) true e) ∙ put-next)
 
     top-at : factorAt (top k) k ≡ made k
-    top-at = getD-set-same (facs k .factors) k (made k) absent
+    top-at = added-at (facs k) (made k)
         (omega (arith, fill-length (g .factors) max-factors (sh .factors) noFactor absent k (omega (arith, below)), below))
 
     top-live : liveAt (top k) k ≡ true
@@ -160,7 +161,7 @@ module _ (g : Graph) (sh : Shaped g) (so : Sound g) where
     -- one that isn't is superseded by the next
     goes : factorAt g k .live ≡ false → (h : Factor) → retired (withFactor (top k) h) k ≡ withFactor (facs (k + 1)) h
     goes e h =
-        let old : factorAt (withFactor (top k) h) k ≡ made k = getD-set-other (top k .factors) (k + 1) k h absent (λ x. omega arith) ∙ top-at in
+        let old : factorAt (withFactor (top k) h) k ≡ made k = added-else (top k) h k (λ x. omega arith) ∙ top-at in
         ap (λ (fs : List Factor). record { symbols = g .symbols; sizes = g .sizes; variables = g .variables; factors = fs; count = k + 1 + 1 })
         (ap (λ (x : Factor). set (set (top k .factors) (k + 1) h) k (withLive x false)) old
         ∙ ap (set (set (top k .factors) (k + 1) h) k) (as-it-is (factorAt g k) false e)
@@ -208,7 +209,8 @@ module _ (g : Graph) (sh : Shaped g) (so : Sound g) where
           let v = good-of having r .1 in
           let next = next-factor v in
           reached-more having _ (supersede j (next .0) (room having (made k))) r
-          (ap (λ (x : Added). x .graph) (sym (in-place having j _ [] [] v _ h _ _ (refl, refl) refl .0) ∙ ap (λ (x : Added). replacing (x .graph) j (x .outcome)) (next .1)))
+          (ap (λ (x : Added). x .graph) (sym (in-place having j _ [] [] v _ h _ _ (refl, refl) refl .0)
+          ∙ ap (λ (x : Added). replacing (x .graph) j (x .outcome)) (next .1)))
 
   -- factor k + 1 is registered by a plain call where g has factor k live, and in place of factor k where it hasn't
   next-top : (k : ℕ) → k + 1 < g .count → Reached (top k) → Reached (top (k + 1))

@@ -27,6 +27,7 @@ use Rattle.graph.proofs.Checking.{Named, Taken}
 use Rattle.graph.proofs.Calls.{Comes, turned, named, taken, replaced, comes}
 use Rattle.graph.proofs.Validity.{valid-variables, valid-count, valid-total, valid-registered, valid-clear, valid-factor, valid-no-factor, valid-last}
 use Rattle.graph.proofs.Validity.{live-below, live-of}
+use Rattle.graph.proofs.Factors.{added-at, added-else, retired-at, retired-else}
 
 -- the arrays have the lengths that the struct declares
 pub record Shaped (g : Graph) : Type 0 where
@@ -170,16 +171,13 @@ module _ (g : Graph) (sh : Shaped g) (so : Sound g) (name : Symbol) (size : ℕ)
 module _ (g : Graph) (sh : Shaped g) (so : Sound g) (f : Factor) (h12 : g .count < max-factors) (fit : fits (g .sizes) (g .variables) f ≡ true)
     (long : length (f .keys) ≡ max-keys) (alive : f .live ≡ true) where
   factor-at : factorAt (withFactor g f) (g .count) ≡ f
-  factor-at = getD-set-same (g .factors) (g .count) f absent (omega (arith, sh .factors))
-
-  factor-else : (i : ℕ) → (i ≡ g .count → ⊥) → factorAt (withFactor g f) i ≡ factorAt g i
-  factor-else i d = getD-set-other (g .factors) (g .count) i f absent d
+  factor-at = added-at g f (omega (arith, sh .factors))
 
   good-more : (i : ℕ) → i < g .count + 1 → fits (g .sizes) (g .variables) (factorAt (withFactor g f) i) ≡ true
   good-more i l = go (decLt i (g .count))
     where
       go : Dec (i < g .count) → fits (g .sizes) (g .variables) (factorAt (withFactor g f) i) ≡ true
-      go (yes m) = rw (factor-else i (λ x. omega arith)) (so .good i m)
+      go (yes m) = rw (added-else g f i (λ x. omega arith)) (so .good i m)
       go (no m) = let e : i ≡ g .count = omega arith in rw (e, factor-at) fit
 
   factor-sound : Sound (withFactor g f)
@@ -192,13 +190,13 @@ module _ (g : Graph) (sh : Shaped g) (so : Sound g) (f : Factor) (h12 : g .count
         unused = λ i l m. clear-ext (withFactor g f) g i refl refl ∙ so .unused i l m;
         room = so .room;
         good = good-more;
-        none = λ i l m. ap isClear (factor-else i (λ x. omega arith)) ∙ so .none i (omega arith) m;
+        none = λ i l m. ap isClear (added-else g f i (λ x. omega arith)) ∙ so .none i (omega arith) m;
         last = λ i e. let at : i ≡ g .count = omega arith in rw (at, factor-at) alive;
       }
 
   keys-more : (i : ℕ) → i < max-factors → Dec (i < g .count) → Dec (g .count < i) → length (factorAt (withFactor g f) i .keys) ≡ max-keys
-  keys-more i l (yes m) d = ap (λ (x : Factor). length (x .keys)) (factor-else i (λ x. omega arith)) ∙ sh .keys i l
-  keys-more i l (no m) (yes k) = ap (λ (x : Factor). length (x .keys)) (factor-else i (λ x. omega arith)) ∙ sh .keys i l
+  keys-more i l (yes m) d = ap (λ (x : Factor). length (x .keys)) (added-else g f i (λ x. omega arith)) ∙ sh .keys i l
+  keys-more i l (no m) (yes k) = ap (λ (x : Factor). length (x .keys)) (added-else g f i (λ x. omega arith)) ∙ sh .keys i l
   keys-more i l (no m) (no k) =
       let e : i ≡ g .count = omega arith in
       ap (λ (j : ℕ). length (factorAt (withFactor g f) j .keys)) e ∙ ap (λ (x : Factor). length (x .keys)) factor-at ∙ long
@@ -215,20 +213,13 @@ module _ (g : Graph) (sh : Shaped g) (so : Sound g) (f : Factor) (h12 : g .count
 -- ---- a factor retired that isn't the last
 
 module _ (g : Graph) (sh : Shaped g) (so : Sound g) (j : ℕ) (l : j + 1 < g .count) where
-  retired-at : factorAt (retired g j) j ≡ withLive (factorAt g j) false
-  retired-at = let m : g .count ≤ max-factors = so .few-factors in
-      getD-set-same (g .factors) j (withLive (factorAt g j) false) absent (omega (arith, sh .factors))
-
-  retired-else : (i : ℕ) → (i ≡ j → ⊥) → factorAt (retired g j) i ≡ factorAt g i
-  retired-else i d = getD-set-other (g .factors) j i (withLive (factorAt g j) false) absent d
-
   -- what doesn't look at the live state stays as it was
   retired-as : (P : Factor → Type 0) → (P (factorAt g j) → P (withLive (factorAt g j) false)) → (i : ℕ) → P (factorAt g i) → P (factorAt (retired g j) i)
   retired-as P h i p = go (ℕ-discrete i j)
     where
       go : Dec (i ≡ j) → P (factorAt (retired g j) i)
-      go (yes e) = let q : P (factorAt g j) = rw e at p in rw (e, retired-at) (h q)
-      go (no d) = rw (retired-else i d) p
+      go (yes e) = let q : P (factorAt g j) = rw e at p in rw (e, retired-at g j (omega (arith, sh .factors, so .few-factors))) (h q)
+      go (no d) = rw (retired-else g j i d) p
 
   retired-sound : Sound (retired g j)
   unfolding total
@@ -241,8 +232,8 @@ module _ (g : Graph) (sh : Shaped g) (so : Sound g) (j : ℕ) (l : j + 1 < g .co
         room = so .room;
         good = λ i k. retired-as (λ f. fits (g .sizes) (g .variables) f ≡ true) (λ p. fits-live (g .sizes) (g .variables) (factorAt g j) false ∙ p) i
             (so .good i k);
-        none = λ i k m. ap isClear (retired-else i (λ x. omega arith)) ∙ so .none i k m;
-        last = λ i e. ap (λ (f : Factor). f .live) (retired-else i (λ x. omega arith)) ∙ so .last i e;
+        none = λ i k m. ap isClear (retired-else g j i (λ x. omega arith)) ∙ so .none i k m;
+        last = λ i e. ap (λ (f : Factor). f .live) (retired-else g j i (λ x. omega arith)) ∙ so .last i e;
       }
 
   retired-shaped : Shaped (retired g j)

@@ -5,6 +5,7 @@ pub mod CheckOrder
 pub mod Calls
 pub mod Places
 pub mod Validity
+pub mod Factors
 pub mod Keeping
 pub mod Filling
 pub mod Passing

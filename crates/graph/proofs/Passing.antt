@@ -18,7 +18,7 @@ use Rattle.factor.proofs.Counting.{every-3}
 use Rattle.factor.proofs.Symmetry.{diagonal-symmetric}
 use Rattle.cholesky.proofs.Forms.{identity-exchanged}
 use Rattle.graph.specs.Record.{sizeAt, offset, valid}
-use Rattle.graph.specs.Registration.{withVariable, FactorVerdict, accept, withFactor, settle, weighedVerdict, factorVerdict, priorVerdict, addPrior}
+use Rattle.graph.specs.Registration.{withVariable, accept, withFactor, settle, weighedVerdict, factorVerdict, priorVerdict, addPrior}
 use Rattle.graph.specs.Registration.{countsFit, observationVerdict, addObservation}
 use Rattle.graph.specs.Reached.{Exposure, prior, observation, variable, entered, graphAfter}
 use Rattle.graph.specs.declared.Symbol.{Symbol}

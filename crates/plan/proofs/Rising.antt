@@ -13,7 +13,7 @@ use lib.Dec.{T, ltb, ltb→lt}
 use lib.ListN.{length, getD, take, set, length-set}
 use lib.Seq.{take-all, take-suc-set, getD-set-same, getD-set-other}
 use Rattle.factor.specs.Limits.{max-variables, max-factors}
-use Rattle.schedule.specs.Count.{count, In, putIf, from, risingWhere}
+use Rattle.schedule.specs.Count.{count, In, putIf, from}
 use Rattle.schedule.proofs.Counts.{count-nil, rising-once}
 use Rattle.plan.specs.Mask.{has}
 use Rattle.plan.specs.Factors.{touchedKeys, keysAmong, Masked, liveAmong, Lists}

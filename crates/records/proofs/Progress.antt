@@ -6,7 +6,7 @@ use mathlib.Core.List.{List, [], _∷_, _++_}
 use native.Mathlib.Omega.{arith}
 use lib.Ieee.{Float}
 use lib.ListN.{length, getD, set}
-use lib.Seq.{getD-set-same, getD-set-other}
+use lib.Seq.{getD-set-other}
 use Rattle.factor.specs.Limits.{max-factors}
 use Rattle.factor.specs.Factor.{absent, keyAt, priorOf, observationOf, firstColumn, width, aNumbers, numbers, withLive}
 use Rattle.factor.specs.declared.Factor.{Factor}
@@ -24,6 +24,7 @@ use Rattle.graph.specs.declared.refusal.Refusal.{Refusal}
 use Rattle.graph.specs.declared.refusal.Refusal.the-variants.{NotLive}
 use Rattle.graph.proofs.Validity.{valid-factor, offset-more}
 use Rattle.graph.proofs.Calls.{not-live, in-place}
+use Rattle.graph.proofs.Factors.{added-at, added-else}
 use Rattle.graph.proofs.Checking.{by, Taken, variable-cases, prior-cases, observation-cases}
 use Rattle.graph.proofs.Keeping.{Shaped, Good}
 use Rattle.records.specs.Bytes.{float-bytes}
@@ -59,11 +60,11 @@ module _ (g : Graph) (v : valid g ≡ true) (name : Symbol) (size : ℕ) where
 module _ (g : Graph) (sh : Shaped g) (f : Factor) (room : g .count < max-factors) where
   factor-before : offset (withFactor g f) (g .count) ≡ offset g (g .count)
   unfolding offset
-  factor-before = sum-ext _ _ (g .count) (λ i l. ap (numbers (g .sizes)) (getD-set-other (g .factors) (g .count) i f absent (λ e. omega arith)))
+  factor-before = sum-ext _ _ (g .count) (λ i l. ap (numbers (g .sizes)) (added-else g f i (λ e. omega arith)))
 
   factor-offset : offset (withFactor g f) (g .count + 1) ≡ offset g (g .count) + numbers (g .sizes) f
   factor-offset =
-      let h : factorAt (withFactor g f) (g .count) ≡ f = getD-set-same (g .factors) (g .count) f absent (omega (arith, sh .factors)) in
+      let h : factorAt (withFactor g f) (g .count) ≡ f = added-at g f (omega (arith, sh .factors)) in
       offset-more (withFactor g f) (g .count) ∙ rw (h, factor-before)
 
 -- and after a factor is retired: no number of it goes

@@ -5,18 +5,14 @@ use mathlib.Core.Bool.{true, false}
 use mathlib.Core.List.{List}
 use native.Mathlib.Omega.{arith}
 use lib.Ieee.{Float}
-use Rattle.factor.specs.Factor.{priorOf, observationOf}
-use Rattle.factor.specs.declared.Factor.{Factor}
-use Rattle.graph.specs.Record.{sizeAt, liveAt, valid}
-use Rattle.graph.specs.Registration.{refused, FactorVerdict, accept, refuse, settle, priorVerdict, addPrior, observationVerdict, addObservation, retired}
-use Rattle.graph.specs.Registration.{replacing}
-use Rattle.graph.specs.Reached.{Exposure, prior, observation, entered, enteredStore}
+use Rattle.graph.specs.Record.{liveAt, valid}
+use Rattle.graph.specs.Registration.{retired, replacing}
+use Rattle.graph.specs.Reached.{entered, enteredStore}
 use Rattle.graph.specs.declared.Graph.{Graph}
 use Rattle.graph.specs.declared.Added.{Added}
-use Rattle.graph.specs.declared.Outcome.the-variants.{Number}
 use Rattle.graph.specs.declared.refusal.Refusal.{Refusal}
 use Rattle.graph.specs.declared.refusal.Refusal.the-variants.{BadRecord, NotLive}
-use Rattle.graph.proofs.Calls.{in-place}
+use Rattle.graph.proofs.Calls.{in-place, entered-cases}
 use Rattle.records.specs.Bytes.{byteAt, cut}
 use Rattle.records.specs.Records.{Request, number-bytes, withinAt, askInPlace, supersedingAt, wentTo, stopped}
 use Rattle.records.specs.declared.answer.Next.{Next}
@@ -30,18 +26,6 @@ abbrev pub retiring : ℕ → Graph → Next → Step
 retiring j g (next-record.At n) = record { graph = retired g j; next = next-record.At n }
 retiring j g (next-record.Refused why) = record { graph = g; next = next-record.Refused why }
 
-module _ (g : Graph) (P : Added → Type 0) (turned : (why : Refusal) → P (refused g why))
-    (taken : (h : Graph) (n : ℕ) → P (record { graph = h; outcome = Number n })) where
-  settled : (f : Factor) (v : FactorVerdict) → P (settle g f v)
-  settled f (accept numbers) = taken _ _
-  settled f (refuse why) = turned why
-
-  -- a factor's plain call is turned back or answers a number, never a key
-  entered-plain : (exposure : Exposure) (own : List Float) → P (entered g exposure own)
-  unfolding addPrior addObservation
-  entered-plain (prior key mean variance) own = settled (priorOf key (sizeAt g key)) (priorVerdict g key mean variance own)
-  entered-plain (observation keys rows a mean variance) own = settled (observationOf keys rows) (observationVerdict g keys rows a mean variance own)
-
 module _ (g : Graph) (store : List Float) (bytes : List ℕ) (start j : ℕ) (v : valid g ≡ true) (live : liveAt g j ≡ true) where
   step-in-place : {q : Request} → Plain g store bytes start q → (r : Step) (s : List Float) → Meets g store q r s
       → Meets g store (askInPlace j q) (retiring j (r .graph) (r .next)) s
@@ -50,8 +34,9 @@ module _ (g : Graph) (store : List Float) (bytes : List ℕ) (start j : ℕ) (v 
       let x : Added = entered g exposure store in
       let e = in-place g j x store (enteredStore g exposure store) v (replacing (x .graph) j (x .outcome)) live x s (refl, es) refl in
       rw (er, ← e .0, ← e .1) (
-        entered-plain g (λ x. retiring j (wentTo x next .graph) (wentTo x next .next) ≡ wentTo (replacing (x .graph) j (x .outcome)) next)
-            (λ why. refl) (λ h n. refl) exposure store,
+        entered-cases g exposure store
+            (λ x _. retiring j (wentTo x next .graph) (wentTo x next .next) ≡ wentTo (replacing (x .graph) j (x .outcome)) next)
+            (λ why. refl) (λ f a mean variance xi w t e. refl),
         refl,
       )
 

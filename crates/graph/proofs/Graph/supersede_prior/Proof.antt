@@ -1,17 +1,27 @@
--- `graph::Graph::supersede_prior` meets its contract: 30, then 19, then what `enter_prior` answers, with the old factor retired if that registered one.
--- Assumes nothing.
-use Prim.Native.Nat.{_≤_}
+-- `graph::Graph::supersede_prior` meets its contract: 30, then 19, then what `enter_prior` answers, with the old factor retired if that
+-- registered one. Assumes nothing.
+use mathlib.Core.Bool.{true}
 use mathlib.Core.Path.{_≡_}
 use native.Mathlib.Omega.{arith}
 use borrow.Author.Needs.{needs}
 use borrow.Author.Tests.{not-false, not-true}
 use Rattle.factor.proofs.Counting.{tells}
-use Rattle.factor.specs.Limits.{max-factors}
+use Rattle.graph.specs.Record.{liveAt, valid}
 use Rattle.graph.proofs.Calls.{no-graph, not-live, in-place}
 use Rattle.graph.proofs.Telling.{superseding-tells}
 use Rattle.graph.proofs.Validity.{live-below, valid-count}
 use Rattle.graph.proofs.Graph.supersede_prior.Statement.{statement}
 use Rattle.graph.proofs.Graph.supersede_prior.Tie as tie
+
+-- both tests passed
+abbrev entry : tie.Else2 → tie.Start
+entry c = c .before .before .before .before .before .before .before
+
+sound : (c : tie.Else2) → valid (entry c .args .self) ≡ true
+sound c = tells (c .before .before .before .valid .ensures .0) (not-false _ (c .before .before .if1 .left))
+
+live : (c : tie.Else2) → liveAt (entry c .args .self) (entry c .args .number) ≡ true
+live c = tells (c .before .is-live .ensures) (not-false _ (c .if2 .left))
 
 returns : tie.Need-returns
 returns c =
@@ -30,20 +40,16 @@ returns-2 c =
 
 replace-requires : tie.Need-replace-requires
 replace-requires c κs =
-    let g = c .before .before .before .before .before .before .before .before .before .before .before .args .self in
-    let valid = tells (c .before .before .before .before .before .before .before .valid .ensures .0) (not-false _ (c .before .before .before .before .before .before .if1 .left)) in
-    let live = tells (c .before .before .before .before .before .is-live .ensures) (not-false _ (c .before .before .before .before .if2 .left)) in
-    omega (arith, valid-count g valid, live-below g _ live)
+    let at = c .before .before .before .before in
+    omega (arith, valid-count _ (sound at), live-below _ _ (live at))
 
 returns-3 : tie.Need-returns-3
 returns-3 c =
-    let args = c .before .before .before .before .before .before .before .before .before .before .before .before .args in
+    let at = c .before .before .before .before .before in
+    let args = entry at .args in
     let enter-prior = c .before .before .before .enter-prior in
     superseding-tells (args .self) (args .number) _ (args .store .now) _ _ _
-    (in-place (args .self) (args .number) _ (args .store .now) _
-    (tells (c .before .before .before .before .before .before .before .before .valid .ensures .0) (not-false _ (c .before .before .before .before .before .before .before .if1 .left))) _
-    (tells (c .before .before .before .before .before .before .is-live .ensures) (not-false _ (c .before .before .before .before .before .if2 .left)))
-    (enter-prior .result) _ (enter-prior .ensures) (c .replace .ensures))
+    (in-place (args .self) (args .number) _ (args .store .now) _ (sound at) _ (live at) (enter-prior .result) _ (enter-prior .ensures) (c .replace .ensures))
 
 pub supersede-prior-spec : {M : Type 1} → statement M
 supersede-prior-spec =
@@ -54,7 +60,7 @@ supersede-prior-spec =
     (λ c κs. search needs)  -- is-live-requires
     (λ c κs. search needs)  -- refused-requires-2
     returns-2
-    (λ c κs. tells (c .before .before .before .before .valid .ensures .0) (not-false _ (c .before .before .before .if1 .left)))  -- enter-prior-requires
+    (λ c κs. sound (c .before))  -- enter-prior-requires
     replace-requires
     (λ c. search needs)  -- same-length
     returns-3)

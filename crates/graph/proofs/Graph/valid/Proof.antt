@@ -90,7 +90,8 @@ bad-place f e =
     let the-total = f .before .before .total in
     not-reached _ (bad-factor (whole f) (f .before .before .before .before .before .before .before .if1 .left)
     (f .before .before .before .before .before .if2 .left) (tells (f .before .before .before .before .variables-fit .ensures)
-    (not-false _ (f .before .before .before .if3 .left))) (the-total .result) (the-total .ensures) (f .before .if4 .left) (tells (f .factors-fit .ensures .0) e))
+    (not-false _ (f .before .before .before .if3 .left))) (the-total .result) (the-total .ensures) (f .before .if4 .left)
+    (tells (f .factors-fit .ensures .0) e))
 
 at-last : (f : tie.After-factors-fit) → f .factors-fit .result ≡ true → (r : Bool) → r ≡ lastLive (whole f)
     → (r ≡ valid (whole f)) × ((r ≡ true) ↔ Reached (whole f))
@@ -102,7 +103,8 @@ at-last f e r h =
     decided (whole f) r h
     (by-last (whole f) (f .before .before .before .before .before .before .before .if1 .left)
     (f .before .before .before .before .before .if2 .left) (tells (f .before .before .before .before .variables-fit .ensures)
-    (not-false _ (f .before .before .before .if3 .left))) (the-total .result) (the-total .ensures) (f .before .if4 .left) (tells (f .factors-fit .ensures .0) e))
+    (not-false _ (f .before .before .before .if3 .left))) (the-total .result) (the-total .ensures) (f .before .if4 .left)
+    (tells (f .factors-fit .ensures .0) e))
     (record { symbols = sy; sizes = si; factors = fa; keys = f .factors-fit .ensures .1 e })
 
 returns-7 : tie.Need-returns-7
