@@ -1,6 +1,6 @@
 -- Bytes that agree up to a place, and whose ends agree up to it, hold the same record wherever it cannot reach past that place. Assumes nothing.
 use Prim.Native.Nat.{ℕ, zero, suc, _+_, _*_, _≤_, _<_}
-use mathlib.Core.Path.{_≡_, refl, sym}
+use mathlib.Core.Path.{_≡_, refl, sym, ap, ap₂, _∙_}
 use mathlib.Core.Bool.{Bool, true, false, not, cond}
 use mathlib.Core.List.{List}
 use native.Mathlib.Nat.{mul-le-mul}
@@ -11,22 +11,22 @@ use lib.Ieee.{Float}
 use lib.ListN.{length}
 use Rattle.factor.specs.Limits.{max-size, max-total, max-keys, max-rows}
 use Rattle.factor.specs.Factor.{rising, known, observationOf, aNumbers}
-use Rattle.graph.specs.Record.{sizeAt, valid}
+use Rattle.graph.specs.Record.{sizeAt, liveAt, valid}
 use Rattle.graph.specs.Registration.{countsFit}
 use Rattle.graph.proofs.Validity.{valid-size, size-most}
 use Rattle.graph.specs.declared.Graph.{Graph}
 use Rattle.records.specs.Bytes.{float-bytes, byteAt, cut, wordAt, numberAt, listed, keysRead, numbersAt}
 use Rattle.records.specs.Records.{Request, mark-bytes, header-bytes, number-bytes, most-given, longest, variableAt, priorNumbers, priorAt, meaning}
 use Rattle.records.specs.Records.{flagKnown, givenNumbers, varianceRead, observedNumbers, observed, observationAt, markOf, markedWithin, withinAt}
-use Rattle.records.specs.Records.{supersedingAt, marked, recordAt}
+use Rattle.records.specs.Records.{askInPlace, supersedingAt, marked, recordAt}
 use Rattle.records.specs.declared.kinds.Flag.{Flag}
 use Rattle.records.specs.declared.kinds.Flag.the-variants.{Diagonal, Given, Unknown}
 use Rattle.records.specs.declared.kinds.Mark.{Mark}
 use Rattle.records.specs.declared.kinds.Mark.the-variants as mark
-use Rattle.graph.proofs.Checking.{few-keys, most-rows}
+use Rattle.graph.proofs.Checking.{by, few-keys, most-rows}
 use Rattle.records.proofs.Counts.{numbers-most}
 use Rattle.records.proofs.Listing.{listed-length}
-use Rattle.records.proofs.Requests.{byMark}
+use Rattle.records.proofs.Requests.{byMark, superseding-cut, superseding-none, superseding-live}
 
 listed-as : {A : Type 0} (f h : ℕ → A) (n : ℕ) → ((i : ℕ) → i < n → f i ≡ h i) → listed f n ≡ listed h n
 unfolding listed
@@ -144,13 +144,18 @@ module _ (b c : List ℕ) (most : ℕ) (same : Agree b c most) where
 
     superseding-as : (at : ℕ) → at + number-bytes + mark-bytes + header-bytes + max-keys + float-bytes * most-given ≤ most
         → supersedingAt g store b at ≡ supersedingAt g store c at
-    unfolding supersedingAt withinAt
+    unfolding withinAt
     superseding-as at l =
-        rw (
-          same .bytes at (omega arith),
-          same .ends (at + 1) (omega arith),
-          by-mark-as (λ m bytes. markedWithin m g store bytes (at + 1 + 2)) (at + 1) (omega arith) (within-marked-as (at + 1 + 2) (omega arith)),
-        )
+        let e : byteAt b at ≡ byteAt c at = same .bytes at (omega arith) in
+        let ends : cut b at number-bytes ≡ cut c at number-bytes = same .ends (at + number-bytes) (omega arith) in
+        by (cut c at number-bytes)
+        (λ h. superseding-cut g store b at (ends ∙ h) ∙ sym (superseding-cut g store c at h))
+        (λ h. by (liveAt g (byteAt c at))
+        (λ live. superseding-live g store b at (ends ∙ h) (ap (liveAt g) e ∙ live)
+        ∙ ap₂ (λ (j : ℕ) (q : Request). askInPlace j q) e
+        (by-mark-as (λ m bytes. markedWithin m g store bytes (at + 1 + 2)) (at + 1) (omega arith) (within-marked-as (at + 1 + 2) (omega arith)))
+        ∙ sym (superseding-live g store c at h live))
+        (λ none. superseding-none g store b at (ends ∙ h) (ap (liveAt g) e ∙ none) ∙ sym (superseding-none g store c at h none)))
 
     marked-as : (at : ℕ) → at + number-bytes + mark-bytes + header-bytes + max-keys + float-bytes * most-given ≤ most → (m : Mark)
         → marked m g store b at ≡ marked m g store c at

@@ -15,14 +15,15 @@ use Rattle.graph.specs.Registration.{countsFit}
 use Rattle.graph.specs.Reached.{Exposure, Call, prior, observation, variable, register, supersede, lent}
 use Rattle.graph.specs.declared.Graph.{Graph}
 use Rattle.graph.specs.declared.refusal.Refusal.{Refusal}
-use Rattle.graph.proofs.Checking.{few-keys}
+use Rattle.graph.proofs.Checking.{by, few-keys}
 use Rattle.records.specs.Bytes.{float-bytes, byteAt, cut, keysRead}
 use Rattle.records.specs.Records.{Request, ask, refuse, mark-bytes, variable-bytes, header-bytes, number-bytes, variable-record, factor-frame}
 use Rattle.records.specs.Records.{variableAt, priorNumbers, priorAt, meaning, flagKnown, givenNumbers, observedNumbers, observed, observationAt}
-use Rattle.records.specs.Records.{markOf, markedWithin, withinAt, askInPlace, supersedingAt, marked, recordAt}
+use Rattle.records.specs.Records.{markOf, markedWithin, withinAt, askInPlace, marked, recordAt}
 use Rattle.records.specs.declared.kinds.Flag.{Flag}
 use Rattle.records.specs.declared.kinds.Mark.{Mark}
 use Rattle.records.specs.declared.kinds.Mark.the-variants as mark
+use Rattle.records.proofs.Requests.{superseding-cut, superseding-none, superseding-live}
 use Rattle.records.proofs.Agreement.{given-most}
 
 -- the factor that a call is to register
@@ -132,16 +133,18 @@ module _ (g : Graph) (store : List Float) (bytes : List ℕ) (start : ℕ) where
   -- ---- any record
 
   marked-asks : (m : Mark) → Asks (marked m g store bytes (start + mark-bytes))
-  unfolding variableAt supersedingAt
+  unfolding variableAt
   marked-asks mark.Variable = unless Asks nothing (cut bytes (start + mark-bytes) variable-bytes) _ _
       (λ h. asked _ _ (record { later = omega arith; there = ltb-false _ _ h; near = omega arith; own = refl }))
   marked-asks mark.Prior = itself (prior-plain (start + mark-bytes) (omega arith) (omega arith))
   marked-asks mark.Observation = itself (observation-plain (start + mark-bytes) (omega arith) (omega arith))
   marked-asks mark.Superseding =
       let at = start + mark-bytes in
-      unless Asks nothing (cut bytes at number-bytes) _ _
-      (λ _. unless Asks nothing (not (liveAt g (byteAt bytes at))) _ _
-      (λ _. in-place (byteAt bytes at) (within-plain (at + number-bytes) (omega arith) (omega arith))))
+      by (cut bytes at number-bytes)
+      (λ h. rw (superseding-cut g store bytes at h) (nothing _))
+      (λ h. by (liveAt g (byteAt bytes at))
+      (λ live. rw (superseding-live g store bytes at h live) (in-place (byteAt bytes at) (within-plain (at + number-bytes) (omega arith) (omega arith))))
+      (λ none. rw (superseding-none g store bytes at h none) (nothing _)))
   marked-asks mark.Unmarked = nothing _
 
   pub asks : Asks (recordAt g store bytes start)

@@ -6,12 +6,14 @@ use mathlib.Core.List.{List}
 use borrow.Author.Tests.{ltb-false}
 use lib.Ieee.{Float}
 use lib.ListN.{length}
+use Rattle.graph.specs.Record.{liveAt}
 use Rattle.graph.specs.declared.Graph.{Graph}
 use Rattle.graph.specs.declared.refusal.Refusal.{Refusal}
-use Rattle.graph.specs.declared.refusal.Refusal.the-variants.{BadRecord}
+use Rattle.graph.specs.declared.refusal.Refusal.the-variants.{BadRecord, NotLive}
 use Rattle.graph.specs.Reached.{variable}
 use Rattle.records.specs.Bytes.{byteAt, cut, wordAt}
-use Rattle.records.specs.Records.{Request, ask, refuse, mark-bytes, variableAt, markOf, stepOf, stopped, requestStore}
+use Rattle.records.specs.Records.{Request, ask, refuse, mark-bytes, number-bytes, variableAt, markOf, withinAt, askInPlace, supersedingAt, stepOf}
+use Rattle.records.specs.Records.{stopped, requestStore}
 use Rattle.records.specs.declared.answer.Step.{Step}
 use Rattle.records.specs.declared.kinds.Mark.{Mark}
 
@@ -54,3 +56,20 @@ module _ (kinds : Mark → List ℕ → Request) (g : Graph) (store : List Float
   pub of-mark : (a b : ℕ) (m n : Mark) (r : Step) (s : List Float) → cut bytes at mark-bytes ≡ false → a ≡ byteAt bytes at → b ≡ byteAt bytes (at + 1)
       → m ≡ markOf a b → m ≡ n → Meets g store (kinds n bytes) r s → Meets g store (byMark kinds bytes at) r s
   of-mark a b m n r s h ea eb em en x = rw (h, ← ea, ← eb, ← em, en) x
+
+-- ---- a factor in place of another: by the number, whether that factor is live, and what is within
+
+module _ (g : Graph) (store : List Float) (bytes : List ℕ) (at : ℕ) where
+  pub superseding-cut : cut bytes at number-bytes ≡ true → supersedingAt g store bytes at ≡ refuse BadRecord
+  unfolding supersedingAt
+  superseding-cut h = rw h
+
+  module _ (there : cut bytes at number-bytes ≡ false) where
+    pub superseding-none : liveAt g (byteAt bytes at) ≡ false → supersedingAt g store bytes at ≡ refuse NotLive
+    unfolding supersedingAt
+    superseding-none h = rw (there, h)
+
+    pub superseding-live : liveAt g (byteAt bytes at) ≡ true
+        → supersedingAt g store bytes at ≡ askInPlace (byteAt bytes at) (withinAt g store bytes (at + number-bytes))
+    unfolding supersedingAt
+    superseding-live h = rw (there, h)

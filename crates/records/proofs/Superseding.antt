@@ -1,6 +1,6 @@
 -- What a factor's record comes to in place of a live factor: what it comes to by itself, with that one retired where it is taken. Assumes nothing.
 use Prim.Native.Nat.{ℕ, _+_}
-use mathlib.Core.Path.{_≡_, refl}
+use mathlib.Core.Path.{_≡_, refl, sym, ap, _∙_}
 use mathlib.Core.Bool.{true, false}
 use mathlib.Core.List.{List}
 use native.Mathlib.Omega.{arith}
@@ -19,7 +19,7 @@ use Rattle.records.specs.declared.answer.Next.{Next}
 use Rattle.records.specs.declared.answer.Next.the-variants as next-record
 use Rattle.records.specs.declared.answer.Step.{Step}
 use Rattle.records.proofs.Asking.{Plain, back, plain, within-plain}
-use Rattle.records.proofs.Requests.{Meets}
+use Rattle.records.proofs.Requests.{Meets, turned, met, superseding-cut, superseding-none, superseding-live}
 
 -- factor j is retired where the record was taken
 abbrev pub retiring : ℕ → Graph → Next → Step
@@ -54,17 +54,15 @@ within-refused j g next why e = rw e
 -- of the whole record
 module _ (g : Graph) (store : List Float) (bytes : List ℕ) (at : ℕ) where
   pub number-cut : (r : Step) → cut bytes at number-bytes ≡ true → r ≡ stopped g BadRecord → Meets g store (supersedingAt g store bytes at) r store
-  unfolding supersedingAt
-  number-cut r h e = rw h (e, refl)
+  number-cut r h e = turned g store store _ BadRecord r (superseding-cut g store bytes at h) e refl
 
   module _ (number : ℕ) (there : cut bytes at number-bytes ≡ false) (read : number ≡ byteAt bytes at) where
     pub not-there : (r : Step) → liveAt g number ≡ false → r ≡ stopped g NotLive → Meets g store (supersedingAt g store bytes at) r store
-    unfolding supersedingAt
-    not-there r h e = rw (there, ← read, h) (e, refl)
+    not-there r h e = turned g store store _ NotLive r (superseding-none g store bytes at there (rw read at h)) e refl
 
     pub by-within : valid g ≡ true → liveAt g number ≡ true → (r : Step) (s : List Float) → Meets g store (withinAt g store bytes (at + number-bytes)) r s
         → (t : Step) → t ≡ retiring number (r .graph) (r .next) → Meets g store (supersedingAt g store bytes at) t s
-    unfolding supersedingAt
-    by-within v h r s met t e =
-        rw (there, ← read, h, e)
-        (step-in-place g store bytes at number v h (within-plain g store bytes at (at + number-bytes) (omega arith) (omega arith)) r s met)
+    by-within v h r s within t e =
+        met g store s _ _ t (superseding-live g store bytes at there (rw read at h)
+        ∙ ap (λ (j : ℕ). askInPlace j (withinAt g store bytes (at + number-bytes))) (sym read))
+        (rw e (step-in-place g store bytes at number v h (within-plain g store bytes at (at + number-bytes) (omega arith) (omega arith)) r s within))
