@@ -297,10 +297,6 @@ module _ (cs : List Call) where
   pub numbers-are : numbersAnswered (accepted fresh cs) ≡ from 0 (g .count)
   numbers-are = let e : read .more-factors ≡ g .count = omega (arith, read .count) in read .numbered ∙ ap (from 0) e
 
-  pub given-are : (f : Accepted) → List·Memᴰ f (live fresh cs) → f .keys ≡ factorKeys g (f .number)
-  unfolding live
-  given-are f m = read .given f (kept-member _ (accepted fresh cs) f m)
-
   -- the live factors are those that the graph has
   pub live-are : numbersAnswered (live fresh cs) ≡ liveNumbers g
   unfolding live risingWhere
@@ -308,3 +304,7 @@ module _ (cs : List Call) where
       kept-numbers (λ i. not (mem i (superseded fresh cs))) (accepted fresh cs)
       ∙ ap (keep (λ i. not (mem i (superseded fresh cs)))) numbers-are
       ∙ rising-same (g .count) (λ i. not (mem i (superseded fresh cs))) (λ i. liveAt g i) (λ i l. sym (read .new i (omega arith) l))
+
+  pub given-are : (f : Accepted) → List·Memᴰ f (live fresh cs) → f .keys ≡ factorKeys g (f .number)
+  unfolding live
+  given-are f m = read .given f (kept-member _ (accepted fresh cs) f m)

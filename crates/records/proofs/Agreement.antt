@@ -17,7 +17,7 @@ use Rattle.graph.proofs.Validity.{valid-size, size-most}
 use Rattle.graph.specs.declared.Graph.{Graph}
 use Rattle.records.specs.Bytes.{float-bytes, byteAt, cut, wordAt, numberAt, listed, keysRead, numbersAt}
 use Rattle.records.specs.Records.{Request, mark-bytes, header-bytes, number-bytes, most-given, longest, variableAt, priorNumbers, priorAt, meaning}
-use Rattle.records.specs.Records.{flagKnown, givenNumbers, varianceRead, observedNumbers, observed, observationAt, markOf, markedWithin, withinAt}
+use Rattle.records.specs.Records.{flagKnown, givenNumbers, varianceRead, observedNumbers, observed, observationAt, markAt, markedWithin, withinAt}
 use Rattle.records.specs.Records.{askInPlace, supersedingAt, marked, recordAt}
 use Rattle.records.specs.declared.kinds.Flag.{Flag}
 use Rattle.records.specs.declared.kinds.Flag.the-variants.{Diagonal, Given, Unknown}
@@ -26,7 +26,7 @@ use Rattle.records.specs.declared.kinds.Mark.the-variants as mark
 use Rattle.graph.proofs.Checking.{by, few-keys, most-rows}
 use Rattle.records.proofs.Counts.{numbers-most}
 use Rattle.records.proofs.Listing.{listed-length}
-use Rattle.records.proofs.Requests.{byMark, superseding-cut, superseding-none, superseding-live}
+use Rattle.records.proofs.Requests.{superseding-cut, superseding-none, superseding-live}
 
 listed-as : {A : Type 0} (f h : ℕ → A) (n : ℕ) → ((i : ℕ) → i < n → f i ≡ h i) → listed f n ≡ listed h n
 unfolding listed
@@ -126,12 +126,9 @@ module _ (b c : List ℕ) (most : ℕ) (same : Agree b c most) where
       (λ _. rw (keys-as (at + 3) (byteAt c at) (omega arith)) (observed-as g store (keysRead c (at + 3) (byteAt c at)) (byteAt c (at + 1))
       (meaning (byteAt c (at + 2))) (at + 3 + byteAt c at) v y (omega arith)))))))
 
-  -- a record by its mark, if all kinds agree
-  by-mark-as : (kinds : Mark → List ℕ → Request) (at : ℕ) → at + mark-bytes ≤ most → ((m : Mark) → kinds m b ≡ kinds m c)
-      → byMark kinds b at ≡ byMark kinds c at
-  by-mark-as kinds at l h =
-      rw (same .bytes at (omega arith), same .bytes (at + 1) (omega arith))
-      (else-as (cut b at 2) (cut c at 2) _ _ _ (same .ends (at + 2) (omega arith)) (λ _. h (markOf (byteAt c at) (byteAt c (at + 1)))))
+  mark-as : (at : ℕ) → at + mark-bytes ≤ most → markAt b at ≡ markAt c at
+  unfolding markAt
+  mark-as at l = rw (same .ends (at + 2) l, same .bytes at (omega arith), same .bytes (at + 1) (omega arith))
 
   module _ (g : Graph) (store : List Float) (v : valid g ≡ true) where
     within-marked-as : (at : ℕ) → at + header-bytes + max-keys + float-bytes * most-given ≤ most → (m : Mark)
@@ -142,9 +139,12 @@ module _ (b c : List ℕ) (most : ℕ) (same : Agree b c most) where
     within-marked-as at l mark.Superseding = refl
     within-marked-as at l mark.Unmarked = refl
 
+    within-as : (at : ℕ) → at + mark-bytes + header-bytes + max-keys + float-bytes * most-given ≤ most → withinAt g store b at ≡ withinAt g store c at
+    unfolding withinAt
+    within-as at l = rw (mark-as at (omega arith)) (within-marked-as (at + mark-bytes) l (markAt c at))
+
     superseding-as : (at : ℕ) → at + number-bytes + mark-bytes + header-bytes + max-keys + float-bytes * most-given ≤ most
         → supersedingAt g store b at ≡ supersedingAt g store c at
-    unfolding withinAt
     superseding-as at l =
         let e : byteAt b at ≡ byteAt c at = same .bytes at (omega arith) in
         let ends : cut b at number-bytes ≡ cut c at number-bytes = same .ends (at + number-bytes) (omega arith) in
@@ -152,8 +152,7 @@ module _ (b c : List ℕ) (most : ℕ) (same : Agree b c most) where
         (λ h. superseding-cut g store b at (ends ∙ h) ∙ sym (superseding-cut g store c at h))
         (λ h. by (liveAt g (byteAt c at))
         (λ live. superseding-live g store b at (ends ∙ h) (ap (liveAt g) e ∙ live)
-        ∙ ap₂ (λ (j : ℕ) (q : Request). askInPlace j q) e
-        (by-mark-as (λ m bytes. markedWithin m g store bytes (at + 1 + 2)) (at + 1) (omega arith) (within-marked-as (at + 1 + 2) (omega arith)))
+        ∙ ap₂ (λ (j : ℕ) (q : Request). askInPlace j q) e (within-as (at + number-bytes) (omega arith))
         ∙ sym (superseding-live g store c at h live))
         (λ none. superseding-none g store b at (ends ∙ h) (ap (liveAt g) e ∙ none) ∙ sym (superseding-none g store c at h none)))
 
@@ -167,4 +166,4 @@ module _ (b c : List ℕ) (most : ℕ) (same : Agree b c most) where
 
     pub record-as : (at : ℕ) → at + longest ≤ most → recordAt g store b at ≡ recordAt g store c at
     unfolding recordAt
-    record-as at l = by-mark-as (λ m bytes. marked m g store bytes (at + 2)) at (omega arith) (marked-as (at + 2) (omega arith))
+    record-as at l = rw (mark-as at (omega arith)) (marked-as (at + mark-bytes) (omega arith) (markAt c at))

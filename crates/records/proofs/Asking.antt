@@ -19,7 +19,7 @@ use Rattle.graph.proofs.Checking.{by, few-keys}
 use Rattle.records.specs.Bytes.{float-bytes, byteAt, cut, keysRead}
 use Rattle.records.specs.Records.{Request, ask, refuse, mark-bytes, variable-bytes, header-bytes, number-bytes, variable-record, factor-frame}
 use Rattle.records.specs.Records.{variableAt, priorNumbers, priorAt, meaning, flagKnown, givenNumbers, observedNumbers, observed, observationAt}
-use Rattle.records.specs.Records.{markOf, markedWithin, withinAt, askInPlace, marked, recordAt}
+use Rattle.records.specs.Records.{markAt, markedWithin, withinAt, askInPlace, marked, recordAt}
 use Rattle.records.specs.declared.kinds.Flag.{Flag}
 use Rattle.records.specs.declared.kinds.Mark.{Mark}
 use Rattle.records.specs.declared.kinds.Mark.the-variants as mark
@@ -127,8 +127,7 @@ module _ (g : Graph) (store : List Float) (bytes : List ℕ) (start : ℕ) where
 
   pub within-plain : (at : ℕ) → start < at → at ≤ start + mark-bytes + number-bytes → Plain (withinAt g store bytes at)
   unfolding withinAt
-  within-plain at l m = unless Plain back (cut bytes at mark-bytes) _ _
-      (λ _. within-marked (at + mark-bytes) (omega arith) (omega arith) (markOf (byteAt bytes at) (byteAt bytes (at + 1))))
+  within-plain at l m = within-marked (at + mark-bytes) (omega arith) (omega arith) (markAt bytes at)
 
   -- ---- any record
 
@@ -149,4 +148,4 @@ module _ (g : Graph) (store : List Float) (bytes : List ℕ) (start : ℕ) where
 
   pub asks : Asks (recordAt g store bytes start)
   unfolding recordAt
-  asks = unless Asks nothing (cut bytes start mark-bytes) _ _ (λ _. marked-asks (markOf (byteAt bytes start) (byteAt bytes (start + 1))))
+  asks = marked-asks (markAt bytes start)

@@ -1,8 +1,9 @@
 -- What a request comes to, over plain values. Assumes nothing.
 use Prim.Native.Nat.{ℕ, _+_, _≤_}
-use mathlib.Core.Path.{_≡_, refl}
+use mathlib.Core.Path.{_≡_, refl, sym, _∙_}
 use mathlib.Core.Bool.{Bool, true, false, cond}
 use mathlib.Core.List.{List}
+use native.Mathlib.Omega.{arith}
 use borrow.Author.Tests.{ltb-false}
 use lib.Ieee.{Float}
 use lib.ListN.{length}
@@ -12,10 +13,12 @@ use Rattle.graph.specs.declared.refusal.Refusal.{Refusal}
 use Rattle.graph.specs.declared.refusal.Refusal.the-variants.{BadRecord, NotLive}
 use Rattle.graph.specs.Reached.{variable}
 use Rattle.records.specs.Bytes.{byteAt, cut, wordAt}
-use Rattle.records.specs.Records.{Request, ask, refuse, mark-bytes, number-bytes, variableAt, markOf, withinAt, askInPlace, supersedingAt, stepOf}
+use Rattle.records.specs.Records.{Request, ask, refuse, mark-bytes, number-bytes, variableAt, markOf, markAt, withinAt, askInPlace, supersedingAt, stepOf}
 use Rattle.records.specs.Records.{stopped, requestStore}
 use Rattle.records.specs.declared.answer.Step.{Step}
 use Rattle.records.specs.declared.kinds.Mark.{Mark}
+use Rattle.records.specs.declared.kinds.Mark.the-variants.{Unmarked}
+use Rattle.graph.proofs.Checking.{by}
 
 -- what a function answers for a request, and how it leaves the store
 abbrev pub Meets : Graph → List Float → Request → Step → List Float → Type 0
@@ -32,12 +35,12 @@ met g store s p q r e h = rw e h
 -- a variable stores no numbers
 pub as-it-was : (g : Graph) (store : List Float) (bytes : List ℕ) (at : ℕ) → store ≡ requestStore g store (variableAt bytes at)
 unfolding variableAt
-as-it-was g store bytes at = by (cut bytes at 9)
+as-it-was g store bytes at = go (cut bytes at 9)
   where
-    by : (b : Bool) → store ≡ requestStore g store (cond b (refuse BadRecord)
+    go : (b : Bool) → store ≡ requestStore g store (cond b (refuse BadRecord)
         (ask (variable (wordAt bytes at, wordAt bytes (at + 4)) (byteAt bytes (at + 8))) (at + 9)))
-    by true = refl
-    by false = refl
+    go true = refl
+    go false = refl
 
 -- a record that isn't cut short has its bytes
 pub there : (bytes : List ℕ) (at n : ℕ) → cut bytes at n ≡ false → at + n ≤ length bytes
@@ -45,17 +48,25 @@ there bytes at n h = ltb-false _ _ h
 
 -- ---- a record by its mark
 
+module _ (bytes : List ℕ) (at : ℕ) where
+  pub mark-cut : cut bytes at mark-bytes ≡ true → Unmarked ≡ markAt bytes at
+  unfolding markAt
+  mark-cut h = rw h
+
+  pub mark-whole : (a b : ℕ) (m : Mark) → cut bytes at mark-bytes ≡ false → a ≡ byteAt bytes at → b ≡ byteAt bytes (at + 1) → m ≡ markOf a b
+      → m ≡ markAt bytes at
+  unfolding markAt
+  mark-whole a b m h ea eb em = rw h (rw (← ea, ← eb) em)
+
+  -- what marks a kind isn't cut
+  pub mark-there : (m n : Mark) → m ≡ markAt bytes at → m ≡ n → (n ≡ Unmarked → _≡_ {A = ℕ} 0 1) → at + mark-bytes ≤ length bytes
+  mark-there m n e f d =
+      by (cut bytes at mark-bytes) (λ h. let z : _≡_ {A = ℕ} 0 1 = d (sym f ∙ e ∙ sym (mark-cut h)) in omega arith) (λ h. there bytes at mark-bytes h)
+
 -- what follows the mark here, by its kind
-abbrev pub byMark : (Mark → List ℕ → Request) → (bytes : List ℕ) (at : ℕ) → Request
-byMark kinds bytes at = cond (cut bytes at mark-bytes) (refuse BadRecord) (kinds (markOf (byteAt bytes at) (byteAt bytes (at + 1))) bytes)
-
-module _ (kinds : Mark → List ℕ → Request) (g : Graph) (store : List Float) (bytes : List ℕ) (at : ℕ) where
-  pub cut-mark : (r : Step) → cut bytes at mark-bytes ≡ true → r ≡ stopped g BadRecord → Meets g store (byMark kinds bytes at) r store
-  cut-mark r h e = rw h (e, refl)
-
-  pub of-mark : (a b : ℕ) (m n : Mark) (r : Step) (s : List Float) → cut bytes at mark-bytes ≡ false → a ≡ byteAt bytes at → b ≡ byteAt bytes (at + 1)
-      → m ≡ markOf a b → m ≡ n → Meets g store (kinds n bytes) r s → Meets g store (byMark kinds bytes at) r s
-  of-mark a b m n r s h ea eb em en x = rw (h, ← ea, ← eb, ← em, en) x
+pub of-mark : (kinds : Mark → Request) (g : Graph) (store : List Float) (bytes : List ℕ) (at : ℕ) (m n : Mark) (r : Step) (s : List Float)
+    → m ≡ markAt bytes at → m ≡ n → Meets g store (kinds n) r s → Meets g store (kinds (markAt bytes at)) r s
+of-mark kinds g store bytes at m n r s em en x = rw (← em, en) x
 
 -- ---- a factor in place of another: by the number, whether that factor is live, and what is within
 

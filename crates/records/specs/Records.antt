@@ -154,6 +154,10 @@ markOf a b =
     (cond (eqb a 0x4F && eqb b 0x42) mark.Observation
     (cond (eqb a 0x53 && eqb b 0x55) mark.Superseding mark.Unmarked)))
 
+-- the mark here; one that is cut marks no kind
+unfoldable pub markAt : (bytes : List ℕ) (at : ℕ) → Mark
+markAt bytes at = cond (cut bytes at mark-bytes) mark.Unmarked (markOf (byteAt bytes at) (byteAt bytes (at + 1)))
+
 -- a factor's record within one that supersedes: a prior's or an observation's
 abbrev pub markedWithin : Mark → (g : Graph) (store : List Float) (bytes : List ℕ) (at : ℕ) → Request
 markedWithin mark.Variable g store bytes at = refuse BadRecord
@@ -163,9 +167,7 @@ markedWithin mark.Superseding g store bytes at = refuse BadRecord
 markedWithin mark.Unmarked g store bytes at = refuse BadRecord
 
 unfoldable pub withinAt : (g : Graph) (store : List Float) (bytes : List ℕ) (at : ℕ) → Request
-withinAt g store bytes at =
-    cond (cut bytes at mark-bytes) (refuse BadRecord)
-    (markedWithin (markOf (byteAt bytes at) (byteAt bytes (at + 1))) g store bytes (at + mark-bytes))
+withinAt g store bytes at = markedWithin (markAt bytes at) g store bytes (at + mark-bytes)
 
 -- what it asks for, in place of factor j
 abbrev pub inPlace : ℕ → Call → Call
@@ -192,9 +194,7 @@ marked mark.Superseding g store bytes at = supersedingAt g store bytes at
 marked mark.Unmarked g store bytes at = refuse BadRecord
 
 unfoldable pub recordAt : (g : Graph) (store : List Float) (bytes : List ℕ) (at : ℕ) → Request
-recordAt g store bytes at =
-    cond (cut bytes at mark-bytes) (refuse BadRecord)
-    (marked (markOf (byteAt bytes at) (byteAt bytes (at + 1))) g store bytes (at + mark-bytes))
+recordAt g store bytes at = marked (markAt bytes at) g store bytes (at + mark-bytes)
 
 -- ---- what a request comes to
 

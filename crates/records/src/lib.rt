@@ -250,16 +250,24 @@ fn read_observation(g: Graph, bytes: &[u8], at: usize, store: &mut [f64]) -> Ste
     )
 }
 
+// The mark here; one that is cut marks no kind.
+fn mark_at(bytes: &[u8], at: usize) -> Mark
+    requires { ⌜ at ≤ length (now bytes) ⌝ }
+    ensures { λ r. ⌜ r ≡ spec.markAt (now (bytes .entry)) at ⌝ }
+{
+    if cut(bytes, at, MARK_BYTES) {
+        return Mark::Unmarked;
+    }
+    kinds::mark_of(byte(bytes, at), byte(bytes, at + 1))
+}
+
 // A factor's record within one that supersedes, from its mark on: a prior's or an observation's.
 fn read_within(g: Graph, bytes: &[u8], at: usize, store: &mut [f64]) -> Step
     requires { ⌜ (valid g ≡ true) × (at ≤ length (now bytes)) ⌝ }
     ensures { λ r. ⌜ r ≡ spec.stepOf g (spec.withinAt g (now (store .entry)) (now (bytes .entry)) at) ⌝ }
     ensures { λ _. ⌜ now (store .exit) ≡ spec.requestStore g (now (store .entry)) (spec.withinAt g (now (store .entry)) (now (bytes .entry)) at) ⌝ }
 {
-    if cut(bytes, at, MARK_BYTES) {
-        return stop(g, Refusal::BadRecord);
-    }
-    let mark = kinds::mark_of(byte(bytes, at), byte(bytes, at + 1));
+    let mark = mark_at(bytes, at);
     match mark {
         Mark::Variable => stop(g, Refusal::BadRecord),
         Mark::Prior => read_prior(g, bytes, at + MARK_BYTES, store),
@@ -302,10 +310,7 @@ fn read_record(g: Graph, bytes: &[u8], at: usize, store: &mut [f64]) -> Step
     ensures { λ r. ⌜ r ≡ spec.stepOf g (spec.recordAt g (now (store .entry)) (now (bytes .entry)) at) ⌝ }
     ensures { λ _. ⌜ now (store .exit) ≡ spec.requestStore g (now (store .entry)) (spec.recordAt g (now (store .entry)) (now (bytes .entry)) at) ⌝ }
 {
-    if cut(bytes, at, MARK_BYTES) {
-        return stop(g, Refusal::BadRecord);
-    }
-    let mark = kinds::mark_of(byte(bytes, at), byte(bytes, at + 1));
+    let mark = mark_at(bytes, at);
     match mark {
         Mark::Variable => read_variable(g, bytes, at + MARK_BYTES),
         Mark::Prior => read_prior(g, bytes, at + MARK_BYTES, store),
