@@ -20,7 +20,7 @@
 
 /* Past as many bytes, 19,388, nothing in a job changes its text, so that no more need be kept of it. They are those of all
  * records that there is room for, and of one record more: 11 for each of 32 variables, 8 and the keys for each of 64
- * factors that supersede, 8 for each of 2,048 numbers, and the longest record with 32 columns. */
+ * factors, each in place of another, 8 for each of 2,048 numbers, and the longest record with 32 columns. */
 #define STRIPS_INPUT \
     (11 * 32 + (8 + STRIPS_KEYS) * 64 + 8 * 2048 + \
      8 + STRIPS_KEYS + 8 * (STRIPS_ROWS * 32 + STRIPS_ROWS + STRIPS_ROWS * STRIPS_ROWS))
