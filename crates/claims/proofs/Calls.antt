@@ -10,7 +10,6 @@ use native.Mathlib.Decide.{ℕ-discrete, decLt}
 use borrow.Author.Tests.{lt-ltb, le-ltb}
 use lib.Ieee.{Float}
 use lib.ListN.{length, take, length-set}
-use Rattle.factor.specs.Counting.{every}
 use Rattle.factor.specs.declared.Factor.{Factor}
 use Rattle.graph.specs.Record.{factorAt, fresh, liveAt, factorKeys}
 use Rattle.graph.specs.Registration.{withVariable, withFactor, retired}
@@ -20,7 +19,7 @@ use Rattle.graph.specs.declared.Graph.{Graph}
 use Rattle.graph.specs.declared.Added.{Added}
 use Rattle.graph.proofs.Calls.{Comes, turned, named, taken, replaced, comes, fresh-reached, reached-more}
 use Rattle.graph.proofs.Keeping.{good-of}
-use Rattle.graph.proofs.Validity.{valid-count, live-below, live-of}
+use Rattle.graph.proofs.Validity.{valid-count, live-below, live-is, live-of}
 use Rattle.graph.proofs.Factors.{added-at, added-else, retired-at, retired-else}
 use Rattle.schedule.specs.Count.{count, mem, putIf, keep, from, risingWhere}
 use Rattle.schedule.proofs.Counts.{hit-same, hit-other, count-cons, count-nil}
@@ -49,11 +48,6 @@ record Read (g h : Graph) (ks : List ℕ) (fs : List Accepted) (ss : List ℕ) :
 keys-of : (g : Graph) (i : ℕ) → i < g .count → factorKeys g i ≡ take (factorAt g i .touched) (factorAt g i .keys)
 unfolding factorKeys
 keys-of g i l = rw (lt-ltb i (g .count) l)
-
--- whether it is live
-live-is : (g : Graph) (i : ℕ) → i < g .count → liveAt g i ≡ factorAt g i .live
-unfolding liveAt every
-live-is g i l = simp (lt-ltb i (g .count) l, and-true)
 
 -- ---- a factor more
 

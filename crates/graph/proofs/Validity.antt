@@ -1,12 +1,13 @@
 -- What a valid record tells. Assumes nothing.
 use Prim.Native.Nat.{ℕ, _+_, _-_, _<_, _≤_}
 use mathlib.Core.Path.{_≡_, refl, ap, _∙_}
-use mathlib.Core.Bool.{Bool, true, false}
+use mathlib.Core.Bool.{Bool, true, false, and-true}
 use native.Mathlib.Omega.{arith}
 use borrow.Author.Tests.{leb-true, ltb-true, lt-ltb, le-ltb, ne-eqb}
 use Rattle.factor.specs.Limits.{max-variables, max-size, max-total, max-factors, max-keys, max-rows}
+use Rattle.factor.specs.Counting.{every}
 use Rattle.factor.specs.Factor.{keyAt, fits, isClear, width, numbers}
-use Rattle.factor.proofs.Counting.{every-at, every-2, all-at, pick-true, pick-false, sum-more, sum-le}
+use Rattle.factor.proofs.Counting.{every-at, all-at, pick-true, pick-false, sum-more, sum-le}
 use Rattle.factor.specs.declared.Factor.{Factor}
 use Rattle.factor.proofs.Fitting.{fits-touched, fits-key, prior-touched, prior-rows, few-rows}
 use Rattle.factor.proofs.KeyOrder.{width-within}
@@ -29,10 +30,13 @@ module _ (g : Graph) (j : ℕ) (h : liveAt g j ≡ true) where
   unfolding liveAt
   live-told = every-at _ 1 h
 
--- and a number below the count whose record says so is that of a live factor
+-- below the count the record alone says whether a factor is live
+pub live-is : (g : Graph) (j : ℕ) → j < g .count → liveAt g j ≡ factorAt g j .live
+unfolding liveAt every
+live-is g j l = simp (lt-ltb _ _ l, and-true)
+
 pub live-of : (g : Graph) (j : ℕ) → j < g .count → factorAt g j .live ≡ true → liveAt g j ≡ true
-unfolding liveAt
-live-of g j l e = every-2 _ _ (lt-ltb _ _ l) e
+live-of g j l e = live-is g j l ∙ e
 
 module _ (g : Graph) (v : valid g ≡ true) where
   pub valid-variables : g .variables ≤ max-variables

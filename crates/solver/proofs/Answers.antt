@@ -1,18 +1,16 @@
 -- What the answers of `arrange` and `plan` mean, and what an outcome tells of the graph. Assumes nothing.
 use mathlib.Core.Path.{_≡_, refl, sym, ap, _∙_}
-use mathlib.Core.Bool.{Bool, true, false, cond, and-true}
+use mathlib.Core.Bool.{Bool, true, false, cond}
 use mathlib.Core.List.{List, []}
 use Prim.Native.Nat.{ℕ}
-use borrow.Author.Tests.{lt-ltb}
 use lib.ListN.{take}
 use Rattle.factor.specs.Limits.{max-variables}
-use Rattle.factor.specs.Counting.{every}
 use Rattle.factor.specs.Told.{value, refusal}
 use Rattle.graph.specs.Record.{factorAt, liveAt, valid}
 use Rattle.graph.specs.declared.Graph.{Graph}
 use Rattle.graph.specs.declared.refusal.Refusal.{Refusal}
 use Rattle.graph.specs.declared.refusal.Refusal.the-variants.{NoSuchGraph}
-use Rattle.graph.proofs.Validity.{valid-variables}
+use Rattle.graph.proofs.Validity.{valid-variables, live-is}
 use Rattle.schedule.specs.Count.{from}
 use Rattle.schedule.specs.Plan as schedule
 use Rattle.plan.specs.Factors.{keysAmong, liveAmong, Lists}
@@ -33,8 +31,7 @@ use Rattle.solver.specs.Stages.{read}
 
 -- below the count the record alone says whether a factor is live
 same-live : (g : Graph) → liveAmong (g .factors) (g .count) ≡ liveNumbers g
-unfolding liveAt every
-same-live g = rising-same (g .count) (λ i. factorAt g i .live) (λ i. liveAt g i) (λ i l. simp (lt-ltb _ _ l, and-true))
+same-live g = rising-same (g .count) (λ i. factorAt g i .live) (λ i. liveAt g i) (λ i l. sym (live-is g i l))
 
 -- the live originals and all keys in their order, as the plan's code is given them: the plan is the graph's
 pub graph-plan : (g : Graph) (live : Lives) (order : List ℕ) → valid g ≡ true → Lists (g .factors) (g .count) live → order ≡ from 0 max-variables

@@ -1,17 +1,18 @@
 -- `graph::Graph::is_live` meets its contract: a number below the count has a place, and past the places there is no factor. Assumes nothing.
 use Prim.Native.Nat.{_<_, _≤_, ℕ}
-use mathlib.Core.Bool.{and-true, false}
+use mathlib.Core.Bool.{false}
 use mathlib.Core.Path.{_≡_, sym, _∙_, ap}
 use native.Mathlib.Omega.{arith}
 use borrow.Author.Needs.{needs}
-use borrow.Author.Tests.{le-ltb, lt-ltb}
+use borrow.Author.Tests.{le-ltb}
 use lib.ListN.{length, List·getD-eq-default}
 use Rattle.factor.specs.Counting.{every}
 use Rattle.factor.specs.Limits.{max-factors}
 use Rattle.factor.specs.Factor.{absent}
 use Rattle.factor.specs.declared.Factor.{Factor}
 use Rattle.graph.proofs.Filling.{unmapped}
-use Rattle.graph.specs.Record.{factorAt, liveAt}
+use Rattle.graph.proofs.Validity.{live-is}
+use Rattle.graph.specs.Record.{liveAt}
 use Rattle.graph.specs.declared.Graph.{Graph}
 use Rattle.graph.proofs.Graph.is_live.Statement.{statement}
 use Rattle.graph.proofs.Graph.is_live.Tie as tie
@@ -22,12 +23,8 @@ module _ (g : Graph) (j : ℕ) where
   unfolding liveAt every
   no-such l = simp (le-ltb _ _ l)
 
-  there : j < g .count → factorAt g j .live ≡ liveAt g j
-  unfolding liveAt every
-  there l = simp (lt-ltb _ _ l, and-true)
-
   no-place : j < g .count → length (g .factors) ≡ max-factors → max-factors ≤ j → false ≡ liveAt g j
-  no-place l n h = ap (λ (f : Factor). f .live) (sym (List·getD-eq-default (g .factors) absent (omega arith))) ∙ there l
+  no-place l n h = ap (λ (f : Factor). f .live) (sym (List·getD-eq-default (g .factors) absent (omega arith))) ∙ sym (live-is g j l)
 
 returns-2 : tie.Need-returns-2
 returns-2 c =
@@ -41,4 +38,4 @@ is-live-spec = tie.close (tie.spec
     returns-2
     (λ c. search needs)  -- mul-f
     (λ c. search needs)  -- element-copy-out-f
-    (λ c. there (c .before .before .before .args .t1) (c .before .before .before .args .number) (c .before .before .if1 .left)))  -- returns-3
+    (λ c. sym (live-is (c .before .before .before .args .t1) (c .before .before .before .args .number) (c .before .before .if1 .left))))  -- returns-3
