@@ -1,7 +1,8 @@
 """A small model of `strips` in Python, for the tests of tools/job only.
 
 It shares no code with the tool. `run(job)` answers what `strips` should print, the plan's
-text and the message store needed. It is a check of the examples, not of the product.
+text and the message store needed; `run(job, order)` the same under an order of the keys.
+It is a check of the examples, not of the product.
 """
 
 import math
@@ -193,10 +194,10 @@ def leaves(messages, number):
     return found
 
 
-def gather(originals, passes, key, count):
-    """Messages of each pass, uncovered originals and leaves of a key."""
+def gather(originals, passes, place, count):
+    """Messages of each pass, uncovered originals and leaves of the key at this place of the order."""
     tops = []
-    for messages, last in zip(passes, (key, count - 1 - key)):
+    for messages, last in zip(passes, (place, count - 1 - place)):
         early = [j for j, message in enumerate(messages) if message[0] <= last]
         inner = {i for j in early for kind, i in messages[j][1] if kind}
         tops.append([j for j in early if j not in inner])
@@ -308,15 +309,15 @@ def marginal(factors, key, sizes):
     return mean, covariance
 
 
-def plan_text(originals, passes, count):
+def plan_text(originals, passes, order):
     join = lambda *words: " ".join(str(word) for word in words)
     lines = []
     for name, messages in zip(("forward", "backward"), passes):
         for j, (step, content, kept, cleared) in enumerate(messages):
             slots = [f"{kind}{i}" for kind, i in content]
             lines.append(join(name, j, "step", step, "content", *slots, "kept", *kept, "cleared", *cleared))
-    for key in range(count):
-        forward, backward, rest, below = gather(originals, passes, key, count)
+    for key in sorted(order):
+        forward, backward, rest, below = gather(originals, passes, order.index(key), len(order))
         touched = {other for messages, top in zip(passes, (forward, backward)) for j in top for other in messages[j][2]}
         touched |= {other for i in rest for other in originals[i]}
         lines.append(join("key", key, "forward", *forward, "backward", *backward, "originals", *rest,
@@ -336,25 +337,27 @@ def need(originals, factors, messages, sizes):
     return figure
 
 
-def smooth(job):
-    """(marginals, plan's text, numbers of the message store)."""
+def smooth(job, order):
+    """(marginals, plan's text, numbers of the message store). In a pass the key of a refusal is that of the step."""
     sizes, count = job.sizes, len(job.sizes)
+    if sorted(order) != list(range(count)):
+        return (21, 1, 0), "", 0
     originals = [factor[0] if number in job.live else None for number, factor in enumerate(job.factors)]
-    passes = [full_pass(originals, order) for order in (range(count), reversed(range(count)))]
+    passes = [full_pass(originals, along) for along in (order, order[::-1])]
     figure = sum(need(originals, job.factors, messages, sizes) for messages in passes)
-    text = plan_text(originals, passes, count)
+    text = plan_text(originals, passes, order)
     made = [[], []]
     pick = lambda side, slot: made[side][slot[1]] if slot[0] else job.factors[slot[1]]
     try:
         refuse(figure > MESSAGE_STORE, 14, 1, 0)
         for side, messages in enumerate(passes):
             for step, content, kept, cleared in messages:
-                key = count - 1 - step if side else step
+                key = order[count - 1 - step if side else step]
                 message = at((side + 1, key), eliminate, [pick(side, slot) for slot in content], kept, cleared, sizes)
                 made[side].append((tuple(kept), *message))
         marginals = []
         for key in range(count):
-            forward, backward, rest, _ = gather(originals, passes, key, count)
+            forward, backward, rest, _ = gather(originals, passes, order.index(key), count)
             factors = [made[0][j] for j in forward] + [made[1][j] for j in backward] + [job.factors[i] for i in rest]
             marginals.append(at((3, key), marginal, factors, key, sizes))
     except Refused as refused:
@@ -362,17 +365,24 @@ def smooth(job):
     return marginals, text, figure
 
 
-def run(data):
-    """What strips prints, the plan's text, the numbers of the message store."""
+def run(data, order=None):
+    """What strips prints, the plan's text, the numbers of the message store. Without an order the keys rise."""
     job = Job.__new__(Job)
     try:
         job.__init__(data)
     except Refused as refused:
         return f"refused {refused.args[0]} 0 {job.record}\n", "", 0
-    answer, text, figure = smooth(job)
+    answer, text, figure = smooth(job, list(range(len(job.sizes)) if order is None else order))
     if isinstance(answer, tuple):
         return "refused {} {} {}\n".format(*answer), text, figure
     digits = lambda value: f"{struct.unpack('<Q', struct.pack('<d', value))[0]:016X}"
     lines = [" ".join([str(key), *map(digits, mean), *(digits(v) for column in transposed(cov) for v in column)])
              for key, (mean, cov) in enumerate(answer)]
     return "".join(line + "\n" for line in lines), text, figure
+
+
+def ordered(order, data):
+    """What the program ordered prints for one case: a refusal by reading or of the order stands in place of the plan too."""
+    answer, text, figure = run(data, order)
+    unplanned = answer.startswith("refused ") and (answer.split()[1] == "21" or answer.split()[2] == "0")
+    return f"figure {figure}\n{answer}{answer if unplanned else text}"

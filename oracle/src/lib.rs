@@ -6,7 +6,9 @@ pub mod cases;
 pub mod graph;
 pub mod input;
 pub mod job;
+pub mod order;
 pub mod plan;
+mod plan_text;
 pub mod refusal;
 pub mod run;
 

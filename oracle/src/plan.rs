@@ -127,6 +127,11 @@ impl Plan {
     pub fn figure(&self) -> usize {
         self.forward.iter().chain(&self.backward).map(|message| message.work.stored()).sum()
     }
+
+    /// The marginal store that it needs: mean and covariance of each key.
+    pub fn marginals(&self) -> usize {
+        self.gathered.iter().map(|gathered| gathered.work.dimension * (1 + gathered.work.dimension)).sum()
+    }
 }
 
 /// A pass between two steps: active keys, active slots, and the messages so far with their shapes.

@@ -22,6 +22,7 @@ pub enum Reason {
     CountedTwice = 18,
     NotLive = 19,
     NotSymmetric = 20,
+    OrderUnlike = 21,
 }
 
 /// A stage's number is its case's value.

@@ -33,6 +33,28 @@ pub enum End {
     Outside(Outside),
 }
 
+/// How many numbers the lent stores of a run take.
+#[derive(Debug, Clone, Copy)]
+pub struct Rooms {
+    pub messages: usize,
+    pub marginals: usize,
+}
+
+/// Those of the program `strips`.
+pub const STRIPS: Rooms = Rooms { messages: MESSAGE_STORE, ..AMPLE };
+
+pub const AMPLE: Rooms = Rooms { messages: usize::MAX, marginals: usize::MAX };
+
+impl Rooms {
+    /// Else the run is refused before any arithmetic.
+    pub fn hold(self, plan: &Plan) -> bool {
+        plan.figure() <= self.messages && plan.marginals() <= self.marginals
+    }
+}
+
+/// A store is short.
+pub const SHORT: End = End::Refused(Refusal { reason: Reason::MessageStoreShort, stage: Stage::Forward, place: 0 });
+
 /// As far as a run came.
 pub struct Run {
     pub plan: Plan,
@@ -51,10 +73,15 @@ pub fn expected(job: &[u8]) -> Result<String, Outside> {
     let order: Vec<usize> = graph.all.keys().collect();
     let run = run(&graph, &order);
     agrees_with_smoother(&run, graph.live().graph);
-    match run.end {
+    text(run.end, &run.marginals)
+}
+
+/// What is printed of a run that ended so.
+pub fn text(end: Option<End>, marginals: &[Marginal<f64>]) -> Result<String, Outside> {
+    match end {
         Some(End::Refused(refusal)) => Ok(format!("{refusal}\n")),
         Some(End::Outside(outside)) => Err(outside),
-        None => Ok(lines(&run.marginals)),
+        None => Ok(lines(marginals)),
     }
 }
 
@@ -69,19 +96,38 @@ pub fn digits(numbers: &[f64]) -> String {
     numbers.iter().map(|x| format!(" {:016X}", x.to_bits())).collect()
 }
 
-/// Both passes and every marginal, with the keys taken in this order.
+/// Both passes and every marginal in the stores of `strips`, with the keys taken in this order.
 pub fn run(graph: &Graph, order: &[usize]) -> Run {
+    run_in(STRIPS, graph, order)
+}
+
+/// The same in these stores.
+pub fn run_in(rooms: Rooms, graph: &Graph, order: &[usize]) -> Run {
     let shapes = Shapes::of(graph);
     let plan = Plan::new(&shapes, order);
     let mut run = Run { plan, forward: Vec::new(), backward: Vec::new(), marginals: Vec::new(), end: None };
-    run.end = carry_out(&graph.all, &mut run).err();
+    run.end = carry_out(rooms, &graph.all, &mut run).err();
     agrees_with_passes(&graph.live(), &run, order);
     run
 }
 
-fn carry_out(graph: &FactorGraph<f64>, run: &mut Run) -> Result<(), End> {
-    if run.plan.figure() > MESSAGE_STORE {
-        return Err(refused(Reason::MessageStoreShort, Stage::Forward, 0));
+impl Run {
+    /// The numbers of the finished messages, as they stand in the message store.
+    pub fn message_numbers(&self) -> Vec<f64> {
+        let finished = self.forward.iter().chain(&self.backward).map(|message| parts(&message.factor));
+        finished.flat_map(|(a, xi, w)| [a, xi, w].concat()).collect()
+    }
+
+    /// The numbers in the marginal store: none where the run was refused.
+    pub fn marginal_numbers(&self) -> Vec<f64> {
+        let found = if self.end.is_none() { &self.marginals[..] } else { &[] };
+        found.iter().flat_map(|m| [&m.mean.data[..], &m.cov.data].concat()).collect()
+    }
+}
+
+fn carry_out(rooms: Rooms, graph: &FactorGraph<f64>, run: &mut Run) -> Result<(), End> {
+    if !rooms.hold(&run.plan) {
+        return Err(SHORT);
     }
     for message in &run.plan.forward {
         run.forward.push(close(graph, message, &run.forward, Stage::Forward)?);
@@ -176,35 +222,39 @@ pub fn parts(likelihood: &Likelihood<f64>) -> (&[f64], &[f64], &[f64]) {
 /// Holds the replay against the original's passes and gathering over the live factors.
 fn agrees_with_passes(live: &Live, run: &Run, order: &[usize]) {
     let reversed: Vec<usize> = order.iter().rev().copied().collect();
-    let ahead = agrees_with_pass(live, order, &run.plan.forward, &run.forward, ended_by_pivot(run, Stage::Forward));
+    let ahead = agrees_with_pass(live, order, &run.plan.forward, &run.forward, refused_pivot(run, Stage::Forward));
     let behind =
-        agrees_with_pass(live, &reversed, &run.plan.backward, &run.backward, ended_by_pivot(run, Stage::Backward));
-    if run.end.is_none() {
-        let (ahead, behind) = (ahead.expect("its forward pass"), behind.expect("its backward pass"));
+        agrees_with_pass(live, &reversed, &run.plan.backward, &run.backward, refused_pivot(run, Stage::Backward));
+    assert!(run.end.is_some() || ahead.is_some() && behind.is_some(), "the original's passes don't go through");
+    if let (Some(ahead), Some(behind)) = (ahead, behind) {
         run.plan.gathered.iter().for_each(|gathered| agrees_with_gathering(live, &ahead, &behind, gathered, order));
     }
 }
 
-fn ended_by_pivot(run: &Run, at: Stage) -> bool {
-    matches!(run.end, Some(End::Refused(Refusal { reason: Reason::ClearedPivot, stage, .. })) if stage == at)
+/// The key that is told where a refused pivot ended the run in this stage.
+fn refused_pivot(run: &Run, at: Stage) -> Option<usize> {
+    match run.end {
+        Some(End::Refused(Refusal { reason: Reason::ClearedPivot, stage, place })) if stage == at => Some(place),
+        _ => None,
+    }
 }
 
 /// A whole pass runs through messages that aren't finite and may panic outside the domain, so what it shows is: the plan
-/// wherever it succeeds, the numbers of the messages that the replay finished, and a failure exactly at a refused pivot.
-/// Answers the original's messages where its pass went through.
+/// wherever it succeeds, the numbers of the messages that the replay finished, and a failure exactly at a refused pivot, with
+/// its key. Answers the original's messages where its pass went through.
 fn agrees_with_pass(
     live: &Live,
     order: &[usize],
     planned: &[Message],
     done: &[ClosedFactor<f64>],
-    ended_by_pivot: bool,
+    refused_pivot: Option<usize>,
 ) -> Option<Vec<ClosedFactor<f64>>> {
     if !planned.iter().all(|message| message.work.in_domain) {
         return None;
     }
     match passes::pass(&live.graph, order) {
         Ok(messages) => {
-            assert!(!ended_by_pivot, "the original's pass goes on past a refused pivot");
+            assert_eq!(refused_pivot, None, "the original's pass goes on past a refused pivot");
             assert_eq!(messages.len(), planned.len(), "messages of the original and of the plan");
             assert!(
                 messages.iter().zip(planned).all(|(m, p)| follows(live, m, p)),
@@ -215,6 +265,8 @@ fn agrees_with_pass(
         }
         Err(error) => {
             assert!(done.len() < planned.len(), "the original's pass fails without cause: {error:?}");
+            let told = |key| error.0.starts_with(&format!("Failed to compute factor for key {key}: "));
+            assert!(refused_pivot.is_none_or(told), "the original tells another key: {error:?}");
             None
         }
     }
@@ -251,8 +303,8 @@ fn agrees_with_gathering(
     assert_eq!(uncovered, gathered.originals, "originals that the original leaves uncovered");
 }
 
-/// The original's whole run must give the same marginals, and fail where a pivot was refused.
-fn agrees_with_smoother(run: &Run, graph: FactorGraph<f64>) {
+/// The original's whole run, which takes rising keys, must give the same marginals, and fail where a pivot was refused.
+pub fn agrees_with_smoother(run: &Run, graph: FactorGraph<f64>) {
     match run.end {
         None => {
             let marginals = Smoother::new(graph).run().expect("the original's run goes through");

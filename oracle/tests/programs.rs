@@ -51,8 +51,24 @@ fn the_dump_follows_an_order() {
     assert!(text(&rising.stdout).contains("forward 0: step 1, key 1\n  content original 0, original 1\n"));
     let falling = fed(DUMP, &["-", "1,0"], &chain);
     assert!(text(&falling.stdout).contains("forward 0: step 1, key 0\n  content original 1\n"));
-    assert_eq!(fed(DUMP, &["-", "0,0"], &chain).status.code(), Some(2));
     assert_eq!(fed(DUMP, &["-"], &outside()).status.code(), Some(3));
+}
+
+#[test]
+fn the_dump_refuses_another_order() {
+    let chain = || Job::with(&[1, 1]).plain_prior(0, 1.0);
+    for order in ["0,0", "0", "0,1,2", "0,2", ""] {
+        let output = fed(DUMP, &["-", order], &chain());
+        assert_eq!(output.status.code(), Some(0));
+        assert!(text(&output.stdout).ends_with("\nrefused 21 1 0\n"), "{order}");
+    }
+    // A record's refusal comes first.
+    let refused = fed(DUMP, &["-", "0,0"], &chain().raw(b"XX"));
+    assert!(text(&refused.stdout).ends_with("\nrefused 8 0 3\n"));
+    for words in ["0;1", "0,256", "0,,1", "-1"] {
+        assert_eq!(fed(DUMP, &["-", words], &chain()).status.code(), Some(2), "{words}");
+    }
+    assert!(text(&fed(DUMP, &["-", ""], &Job::new()).stdout).ends_with("\norder [], message store 0 numbers\n"));
 }
 
 #[test]

@@ -2,8 +2,10 @@
 use std::collections::BTreeSet;
 use std::path::PathBuf;
 
+use oracle::cases::orders::shuffled;
 use oracle::cases::{Random, all, any_graph, figures, read, write};
 use oracle::job;
+use oracle::order::keys;
 use oracle::run::{expected, run};
 
 fn recorded() -> String {
@@ -49,13 +51,7 @@ fn random_graphs_agree_with_the_original() {
         let bytes = any_graph(&mut random, [0, 40, 300][at % 3]).bytes();
         let _ = expected(&bytes);
         let graph = job::read(&bytes).graph;
-        run(&graph, &some_order(&mut random, graph.all.n_keys()));
+        let order = shuffled(&mut random, graph.all.n_keys());
+        run(&graph, &keys(&order, order.len()).unwrap());
     }
-}
-
-fn some_order(random: &mut Random, keys: usize) -> Vec<usize> {
-    (0..keys).fold(Vec::new(), |mut order, key| {
-        order.insert(random.below(key + 1), key);
-        order
-    })
 }

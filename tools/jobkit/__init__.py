@@ -1,4 +1,4 @@
-"""What `tools/job` is made of: floats, records, text, output, plan, drawing."""
+"""What `tools/job` is made of: floats, records, text, orders, output, plan, drawing."""
 
 
 class Wrong(Exception):

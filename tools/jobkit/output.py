@@ -1,11 +1,11 @@
-"""What the program `strips` prints, read for a person."""
+"""What the programs `strips` and `ordered` print, read for a person."""
 
 import csv
 import io
 import math
 import re
 
-from . import Wrong, floats
+from . import Wrong, floats, ordered
 from .records import Variable, decode, only
 from .text import names, show
 
@@ -15,6 +15,9 @@ STAGES = (("reading the job", "record {}, counted from 0"),
           ("forward pass", "the step of key {}; the keys cleared there are below it"),
           ("backward pass", "the step of key {}; the keys cleared there are above it"),
           ("marginals", "key {}"))
+LENT = {1: "the step of key {}; the keys cleared there come before it in the order",
+        2: "the step of key {}; the keys cleared there come after it in the order"}
+NOWHERE = (14, 21)  # refusals of the whole run: their place says nothing
 MEANINGS = {
     1: "the letter of a variable is no Unicode scalar value",
     2: "the size of a variable is outside 1 to 6",
@@ -33,17 +36,18 @@ MEANINGS = {
     17: "a message or a marginal isn't finite",
     19: "the factor to be superseded isn't there, or has been superseded already",
     20: "a variance isn't symmetric: an entry differs from the one across the diagonal",
+    21: "the order names a key twice or not at all, or one that isn't registered",
 }
 
 
-def parse(text, name):
-    """For each key a pair of mean and covariance."""
+def parse(text, name, first=1):
+    """For each key a pair of mean and covariance. The text begins at the line first."""
     marginals = []
-    for line, content in enumerate(text.removesuffix("\n").split("\n") if text else [], 1):
+    for key, content in enumerate(text.removesuffix("\n").split("\n") if text else []):
         words = content.split(" ")
         size = math.isqrt(len(words) - 1)
-        if not MARGINAL.fullmatch(content) or size + size * size != len(words) - 1 or int(words[0]) != line - 1:
-            raise Wrong(f"{name}:{line}: expected key {line - 1} and s + s*s numbers of 16 hexadecimal digits,"
+        if not MARGINAL.fullmatch(content) or size + size * size != len(words) - 1 or int(words[0]) != key:
+            raise Wrong(f"{name}:{first + key}: expected key {key} and s + s*s numbers of 16 hexadecimal digits,"
                         " or one line 'refused NUMBER STAGE PLACE'")
         values = [floats.to_value(int(word, 16)) for word in words[1:]]
         marginals.append((values[:size], values[size:]))
@@ -65,12 +69,15 @@ def table(marginals, called, parts, number, ratio):
     return rows
 
 
-def explain(number, stage, place, job):
-    """Rows that say what a refusal means and which record it comes from."""
+def explain(number, stage, place, job, figure):
+    """Rows that say what a refusal means and which record it comes from. There is a figure where an order was lent."""
+    where = STAGES[stage][1] if figure is None else LENT.get(stage, STAGES[stage][1])
     rows = [["refused", str(number), MEANINGS.get(number, "not a number that a job can reach")],
             ["stage", str(stage), STAGES[stage][0]],
-            ["place", str(place), "says nothing here" if number == 14 else STAGES[stage][1].format(place)]]
-    if job is None or number == 14:
+            ["place", str(place), "says nothing here" if number in NOWHERE else where.format(place)]]
+    if number == 14 and figure is not None:
+        rows.append(["figure", str(figure), "the numbers that the messages take under this order"])
+    if job is None or number in NOWHERE:
         return rows
     records = decode(job)
     lines = [at for at, record in enumerate(records) if not stage or isinstance(record, Variable)]
@@ -94,13 +101,14 @@ def comma_separated(rows):
 
 
 def read(text, name, job, parts, as_csv):
-    """The output as a table; with a job it must have the job's keys. One that was cut is told."""
-    refusal, form = REFUSAL.fullmatch(text), comma_separated if as_csv else aligned
-    marginals = None if refusal else parse(text, name)
+    """The output as a table; with a job it must have the job's keys. One that was cut is told. Figure and plan are passed over."""
+    figure, answer, *_ = ordered.split(text, name)
+    refusal, form = REFUSAL.fullmatch(answer), comma_separated if as_csv else aligned
+    marginals = None if refusal else parse(answer, name, 1 if figure is None else 2)
     if text and not text.endswith("\n"):
         raise Wrong(f"{name}: expected a line feed at the end, so not all was written")
     if refusal:
-        return form(explain(*map(int, refusal.groups()), job))
+        return form(explain(*map(int, refusal.groups()), job, figure))
     called = [str(key) for key in range(len(marginals))]
     if job is not None:
         variables, called = only(Variable, decode(job)), names(decode(job))

@@ -14,6 +14,7 @@ LINE = {kind: re.compile(f"{kind} ([0-9]+) " + " ".join(f"{field}((?: m?[0-9]{{1
 LEFT, LANE, BOX, ROW, COLUMN, ARC, LETTERS = 164, 128, 114, 17, 96, 30, 17  # pixels; letters in a box
 COLOUR = {"forward": "#1d5fa6", "backward": "#b3541e", "direct": "#2e7d3a", "plain": "#444", "missing": "#c00",
           "superseded": "#999"}
+ALONG = {"forward": ("keys rising", "along the order"), "backward": ("keys falling", "order reversed")}
 TINT = {"forward": "#e3eefa", "backward": "#fbeadd"}
 HEAD = """<svg xmlns="http://www.w3.org/2000/svg" viewBox="0 0 {0} {1}" width="{0}" height="{1}" xml:space="preserve">
 <style>text{{font:10px 'DejaVu Sans Mono',Menlo,Consolas,monospace;fill:#222}}.b{{font-weight:bold}}</style>
@@ -22,15 +23,18 @@ HEAD = """<svg xmlns="http://www.w3.org/2000/svg" viewBox="0 0 {0} {1}" width="{
 """
 NOTE = ("F2 is message 2 of the forward pass, B2 of the backward pass; the box stands in the lane of its step's key. "
         "A dot is a key that the exposure touches (drawn with --job).")
+LENT = " Lanes stand in the order lent: forward goes from left to right, backward from right to left."
 STRUCK = " A row struck through is a superseded exposure; it must stand behind no key."
 UNNAMED = " Without --job an exposure that the plan doesn't name counts as superseded."
 
 
-def parse(text, name):
-    """The lines of each kind as lists by field. In a content, message j of the pass is -1 - j."""
+def parse(text, name, first=1):
+    """The lines of each kind as lists by field. In a content, message j of the pass is -1 - j. The text begins at the line first."""
     plan = {kind: [] for kind in FIELDS}
-    for line, content in enumerate(text.splitlines(), 1):
+    for line, content in enumerate(text.splitlines(), first):
         kind = content.split(" ")[0]
+        if kind == "refused":
+            raise Wrong(f"{name}:{line}: expected a plan, found {content!r}; tools/job read tells what it means")
         if kind not in FIELDS:
             raise Wrong(f"{name}:{line}: expected forward, backward or key, found {kind!r}")
         found, number = LINE[kind].fullmatch(content.rstrip()), len(plan[kind])
@@ -52,6 +56,25 @@ def check(plan, name):
         for number, key in enumerate(plan["key"]):
             if max(key[kind], default=-1) >= len(plan[kind]):
                 raise Wrong(f"{name}: key {number} names a message that isn't there")
+
+
+def check_order(plan, order, label):
+    """What a plan shows of its order: at a step only keys that came before can be cleared, the step's key is kept unless
+    just the key before it is cleared, and a key gathers messages of steps up to its own."""
+    for kind in PASSES:
+        along = order if kind == "forward" else order[::-1]
+        for number, (step, _, kept, cleared) in enumerate(map(dict.values, plan[kind])):
+            here, before = along[step[0]], along[:step[0]]
+            wrong = [f"clears key {key}, which comes later" for key in cleared if key not in [*before, here]]
+            wrong += [f"clears key {here}"] if here in cleared else []
+            wrong += [f"keeps key {key}, which comes later" for key in kept if key not in [*before, here]]
+            wrong += [f"doesn't keep key {here}"] if here not in kept and cleared != before[-1:] else []
+            if wrong:
+                raise Wrong(f"{label} can't be the order of this plan: {kind} {number} at the step of key {here} {wrong[0]}")
+        for key, gathered in enumerate(plan["key"]):
+            late = [number for number in gathered[kind] if plan[kind][number]["step"][0] > along.index(key)]
+            if late:
+                raise Wrong(f"{label} can't be the order of this plan: key {key} gathers {kind} {late[0]}, whose step comes later")
 
 
 def inner(message):
@@ -88,10 +111,12 @@ def mark(kind, number):
 
 
 class Drawing:
-    """Grows downwards: y is where the next part begins. superseded: number to that of the factor in its place."""
+    """Grows downwards: y is where the next part begins. superseded: number to that of the factor in its place.
+    Lanes stand in the order; told has lines for the head."""
 
-    def __init__(self, plan, names, factors, superseded, key):
+    def __init__(self, plan, names, factors, superseded, key, order=None, told=()):
         self.plan, self.names, self.factors, self.key = plan, names, factors, key
+        self.order, self.lent, self.told = order or list(range(len(names))), order is not None, told
         seen = [slot for kind in FIELDS for one in plan[kind] for slot in one.get("content", one.get("leaves"))]
         self.total = max([len(factors) - 1, *seen]) + 1
         self.superseded = superseded if factors else dict.fromkeys(set(range(self.total)).difference(seen))
@@ -109,11 +134,14 @@ class Drawing:
         self.add("path", d=d, fill="none", stroke=colour, stroke_width=1.5, marker_end=end)
 
     def lane(self, key):
-        return LEFT + LANE * key + LANE // 2
+        return LEFT + LANE * self.order.index(key) + LANE // 2
+
+    def step_key(self, kind, number):
+        step = self.plan[kind][number]["step"][0]
+        return self.order[step if kind == "forward" else len(self.order) - 1 - step]
 
     def step_lane(self, kind, number):
-        step = self.plan[kind][number]["step"][0]
-        return self.lane(step if kind == "forward" else len(self.names) - 1 - step)
+        return self.lane(self.step_key(kind, number))
 
     def gathered(self, kind):
         return [] if self.key is None else self.plan["key"][self.key][kind]
@@ -124,7 +152,7 @@ class Drawing:
         content = [mark(kind, -1 - slot) if slot < 0 else slot for slot in content]
         lists = [f"{word} " + (" ".join(map(str, listed)) or "none")
                  for word, listed in (("clears", cleared), ("keeps", kept), ("takes", content))]
-        return [f"{mark(kind, number)}  step {step[0]}"] + [
+        return [f"{mark(kind, number)}  step {step[0]}"] + [f"at key {self.step_key(kind, number)}"] * self.lent + [
             line for words in lists for line in wrap(words, LETTERS, subsequent_indent="  ")]
 
     def box(self, kind, number, top, height):
@@ -143,7 +171,7 @@ class Drawing:
         bottom = top + 8 + 13 * max((len(self.lines(kind, number)) for number in range(len(messages))), default=1)
         away, near = (top, bottom) if out < 0 else (bottom, top)
         self.text(10, top + 14, f"{kind} pass", True, COLOUR[kind])
-        self.text(10, top + 28, "keys rising" if out < 0 else "keys falling")
+        self.text(10, top + 28, ALONG[kind][self.lent])
         for number, message in enumerate(messages):
             self.box(kind, number, top, bottom - top)
             for one in inner(message):
@@ -197,8 +225,9 @@ class Drawing:
     def dots(self, factor, colour, ink):
         kind = "prior" if factor.kind == b"PR" else f"observation, {factor.rows} row" + "s" * (factor.rows != 1)
         self.text(36, self.y + 12, kind + ("" if factor.keys else ", no key"), False, ink)
-        if factor.keys:
-            self.path(f"M{self.lane(factor.keys[0])} {self.y + 8}H{self.lane(factor.keys[-1])}", colour, "none")
+        lanes = sorted(map(self.lane, factor.keys))
+        if lanes:
+            self.path(f"M{lanes[0]} {self.y + 8}H{lanes[-1]}", colour, "none")
         for key in factor.keys:
             self.add("circle", cx=self.lane(key), cy=self.y + 8, r=4.5, fill=colour)
 
@@ -226,7 +255,10 @@ class Drawing:
         forward, backward = (len(self.plan[kind]) for kind in PASSES)
         old = f" ({len(self.superseded)} superseded)" if self.superseded else ""
         self.text(10, self.y, f"{len(self.names)} keys, {self.total} exposures{old}, {forward} forward and {backward} backward messages", True)
-        note = NOTE + ("" if self.key is None else f" Key {self.key} gathers the thick frames; grey isn't behind it.")
+        for line in self.told:
+            self.y += 15
+            self.text(10, self.y, line, True)
+        note = NOTE + LENT * self.lent + ("" if self.key is None else f" Key {self.key} gathers the thick frames; grey isn't behind it.")
         note += STRUCK + (UNNAMED if not self.factors else "") if self.superseded else ""
         for line in wrap(note, int(width / 6.2)):
             self.y += 15
@@ -240,8 +272,8 @@ class Drawing:
         for part in (lambda: self.band("forward"), self.keys, self.exposures, self.keys, lambda: self.band("backward")):
             part()
         front, self.parts = self.parts[back:], self.parts[:back]
-        for key in range(count):
-            self.add("rect", x=LEFT + LANE * key, y=top, width=LANE - 2, height=self.y - top - 2,
+        for key in self.order:
+            self.add("rect", x=self.lane(key) - LANE // 2, y=top, width=LANE - 2, height=self.y - top - 2,
                      fill="#fff3c4" if key == self.key else "#f7f7f7")
         self.parts += front
         self.y += 14

@@ -2,32 +2,31 @@
 -- eliminations give, and without keys there is no marginal. Assumes nothing.
 use mathlib.Core.Path.{_≡_, refl, sym, ap, subst, _∙_}
 use mathlib.Core.Logic.{_≢_}
-use mathlib.Core.Bool.{Bool, true, false, not, cond, true≢false, false≢true}
+use mathlib.Core.Bool.{Bool, true, false, true≢false, false≢true}
 use mathlib.Core.List.{List, [], _∷_, _++_}
 use Prim.Native.Nat.{ℕ, suc, _+_, _≤_, _<_}
 use native.Mathlib.Omega.{arith}
-use lib.Dec.{leb}
 use lib.ListN.{length, getD}
 use lib.Ieee.{Float}
-use Rattle.factor.specs.Counting.{every}
 use Rattle.graph.specs.Refusals.{refusalNumber}
-use Rattle.graph.specs.Record.{sizeAt, offset, valid}
+use Rattle.graph.specs.Record.{sizeAt}
 use Rattle.graph.specs.declared.Graph.{Graph}
 use Rattle.graph.specs.declared.refusal.Refusal.{Refusal}
-use Rattle.graph.specs.declared.refusal.Refusal.the-variants.{FactorStoreShort, StoreShort, CountedTwice, NoSuchGraph}
+use Rattle.graph.specs.declared.refusal.Refusal.the-variants.{FactorStoreShort, StoreShort, CountedTwice, OrderUnlike, NoSuchGraph}
 use Rattle.schedule.specs.Count.{count}
 use Rattle.schedule.specs.Gather.{Gathered}
 use Rattle.schedule.specs.Plan as schedule
 use Rattle.schedule.proofs.Counts.{hit-same}
-use Rattle.workspace.specs.Frames.{work-numbers}
 use Rattle.gaussian.specs.Elimination as gaussian
 use Rattle.cholesky.specs.Forms.{Form, form, pivot, notFinite}
 use Rattle.gaussian.specs.Marginals.{momentsOf}
 use Rattle.messages.specs.Values.{values, FirstRefusal, none, refusedAt, refusalFrom, finishedNumbers, overlaid}
-use Rattle.solver.specs.Plan.{graphPlan}
-use Rattle.marginals.specs.Marginals.{marginalNumbers, twice, Found, found, refused, foundBy, foundIn, marginal, marginalsFrom, missingFrom, marginalsIn}
-use Rattle.solver.specs.Run.{figureOf, RunVerdict, refuse, third, second, first, carried, checked, run}
+use Rattle.solver.specs.Plan.{planAlong}
+use Rattle.marginals.specs.Marginals.{twice, Found, found, refused, foundBy, foundIn, marginal, marginalsFrom, missingFrom, marginalsIn}
+use Rattle.solver.specs.Run.{figureOf, RunVerdict, refuse, keyAt, runAlong}
 use Rattle.solver.specs.Stages.{Runnable}
+use Rattle.solver.proofs.Carriable.{along-runnable}
+use Rattle.solver.proofs.Cases.{Ends, along-cases}
 use Rattle.solver.specs.declared.run.Ended.{Ended}
 use Rattle.solver.specs.declared.run.Ended.the-variants.{Done, Refused}
 use Rattle.claims.specs.Demand3.{solvedAt, solvedFrom, Exact}
@@ -122,7 +121,7 @@ Single p = (i : ℕ) → i < length (p .at-key) → (d : Gathered) → twice (ge
 single : (g : Graph) (p : schedule.Plan) → Runnable g p → Single p
 single g p run i l d = not-twice (getD (p .at-key) i d .leaves) (run .single i (omega (arith, run .for-each)) d)
 
-module _ (g : Graph) (p : schedule.Plan) (factors messages marginals : List Float) (once : Single p) where
+module _ (g : Graph) (p : schedule.Plan) (factors messages marginals : List Float) where
   abbrev Right : RunVerdict → Type 0
   Right = Carries g p factors messages marginals
 
@@ -135,12 +134,6 @@ module _ (g : Graph) (p : schedule.Plan) (factors messages marginals : List Floa
   abbrev keys : List Found
   keys = marginalsFrom g factors p fw bw 0 (p .at-key)
 
-  abbrev solved : List Found
-  solved = solvedFrom g factors p 0 (p .at-key)
-
-  same : keys ≡ solved
-  same = solved-from g factors p 0 (p .at-key) once
-
   refused-run : (figure : ℕ) (why : Refusal) (stage key : ℕ) (l : List Float) → Other why → Right (refuse figure why stage key l marginals)
   unfolding told isDone
   refused-run figure why stage key l o = record { never-twice = λ s k e. o (ap told e); exact = λ e. absurd (false≢true (ap isDone e)); bare = λ e. refl }
@@ -149,64 +142,38 @@ module _ (g : Graph) (p : schedule.Plan) (factors messages marginals : List Floa
   unfolding marginalsFrom marginalsIn
   no-marginals e = ap (λ (qs : List Gathered). overlaid marginals (marginalsIn (marginalsFrom g factors p fw bw 0 qs))) e
 
-  abbrev laid : List Float
-  laid = overlaid messages (finishedNumbers fw ++ finishedNumbers bw)
-
-  third-carries : (figure : ℕ) (s : FirstRefusal) → refusalFrom 0 fw ≡ none → refusalFrom 0 bw ≡ none → missingFrom 0 keys ≡ s
-      → Right (third figure laid marginals keys s)
-  unfolding third isDone OtherStop
-  third-carries figure none ef eb ek =
+  ends : Single p → (key : ℕ → ℕ) (figure : ℕ) → Ends Right g key p figure factors messages marginals
+  unfolding isDone OtherStop
+  ends once key figure =
+      let same : keys ≡ solvedFrom g factors p 0 (p .at-key) = solved-from g factors p 0 (p .at-key) once in
       record {
-        never-twice = λ s k e. absurd (true≢false (ap isDone e));
-        exact =
-            λ e. record {
-              forward-made = ef;
-              backward-made = eb;
-              messages-are = refl;
-              all-found = rw same at ek;
-              marginals-are = ap (λ (l : List Found). overlaid marginals (marginalsIn l)) same;
+        factors-short = refused-run figure FactorStoreShort 1 0 messages (λ e. omega arith);
+        short = refused-run figure StoreShort 1 0 messages (λ e. omega arith);
+        first = λ j why e. refused-run figure why 1 _ (overlaid messages (finishedNumbers fw)) (subst OtherStop e (stop-other 0 fw));
+        second = λ j why e. refused-run figure why 2 _ (overlaid messages (finishedNumbers fw ++ finishedNumbers bw)) (subst OtherStop e (stop-other 0 bw));
+        third =
+            λ k why e. refused-run figure why 3 k (overlaid messages (finishedNumbers fw ++ finishedNumbers bw))
+            (subst OtherStop (ap (missingFrom 0) (sym same) ∙ e) (from-other g factors p 0 0 (p .at-key)));
+        done =
+            λ ef eb ek. record {
+              never-twice = λ s k e. absurd (true≢false (ap isDone e));
+              exact =
+                  λ e. record {
+                    forward-made = ef;
+                    backward-made = eb;
+                    messages-are = refl;
+                    all-found = rw same at ek;
+                    marginals-are = ap (λ (l : List Found). overlaid marginals (marginalsIn l)) same;
+                  };
+              bare = no-marginals;
             };
-        bare = no-marginals;
       }
-  third-carries figure (refusedAt k why) ef eb ek = refused-run figure why 3 k laid
-      (subst OtherStop (ap (missingFrom 0) (sym same) ∙ ek) (from-other g factors p 0 0 (p .at-key)))
 
-  second-carries : (figure : ℕ) (s : FirstRefusal) (next : RunVerdict) → refusalFrom 0 bw ≡ s → (refusalFrom 0 bw ≡ none → Right next)
-      → Right (second figure (g .variables) (p .backward) laid marginals s next)
-  unfolding second OtherStop
-  second-carries figure none next e c = c e
-  second-carries figure (refusedAt j why) next e c = refused-run figure why 2 _ laid (subst OtherStop e (stop-other 0 bw))
-
-  first-carries : (figure : ℕ) (s : FirstRefusal) (next : RunVerdict) → refusalFrom 0 fw ≡ s → (refusalFrom 0 fw ≡ none → Right next)
-      → Right (first figure (p .forward) (overlaid messages (finishedNumbers fw)) marginals s next)
-  unfolding first OtherStop
-  first-carries figure none next e c = c e
-  first-carries figure (refusedAt j why) next e c = refused-run figure why 1 _ (overlaid messages (finishedNumbers fw)) (subst OtherStop e (stop-other 0 fw))
-
-  carried-carries : (figure : ℕ) → Right (carried g p figure factors messages marginals)
-  unfolding carried
-  carried-carries figure =
-      first-carries figure (refusalFrom 0 fw) _ refl
-      (λ ef. second-carries figure (refusalFrom 0 bw) _ refl
-      (λ eb. third-carries figure (missingFrom 0 keys) ef eb refl))
-
-  either : (b : Bool) (x y : RunVerdict) → Right x → Right y → Right (cond (not b) x y)
-  either true x y c d = d
-  either false x y c d = c
-
-  checked-carries : (figure work : ℕ) → Right (checked g p figure factors messages work marginals)
-  unfolding checked
-  checked-carries figure work =
-      either (leb (offset g (g .count)) (length factors)) _ _ (refused-run figure FactorStoreShort 1 0 messages (λ e. omega arith))
-      (either (every (leb figure (length messages) ∷ leb work-numbers work ∷ leb (marginalNumbers g) (length marginals) ∷ [])) _ _
-      (refused-run figure StoreShort 1 0 messages (λ e. omega arith))
-      (carried-carries figure))
-
-pub run-carries : (g : Graph) → Runnable g (graphPlan g) → (factors messages : List Float) (work : ℕ) (marginals : List Float)
-    → Carries g (graphPlan g) factors messages marginals (run g factors messages work marginals)
-unfolding run
-run-carries g run factors messages work marginals =
-    let p : schedule.Plan = graphPlan g in
-    let once : Single p = single g p run in
-    either g p factors messages marginals once (valid g) _ _ (refused-run g p factors messages marginals once 0 NoSuchGraph 1 0 messages (λ e. omega arith))
-    (checked-carries g p factors messages marginals once (figureOf g p) work)
+pub run-carries : (g : Graph) (order : List ℕ) (factors messages : List Float) (work : ℕ) (marginals : List Float)
+    → Carries g (planAlong g order) factors messages marginals (runAlong g order factors messages work marginals)
+run-carries g order factors messages work marginals =
+    let p : schedule.Plan = planAlong g order in
+    along-cases (Right g p factors messages marginals) g order factors messages work marginals
+    (refused-run g p factors messages marginals 0 NoSuchGraph 1 0 messages (λ e. omega arith))
+    (refused-run g p factors messages marginals 0 OrderUnlike 1 0 messages (λ e. omega arith))
+    (λ v o. ends g p factors messages marginals (single g p (along-runnable g order v o)) (keyAt order) (figureOf g p))

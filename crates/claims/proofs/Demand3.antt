@@ -1,16 +1,17 @@
 -- Demand 3, whole: for every list of registering calls. What the calls answered is what the graph holds (`Calls`), over the graph's plan the claim is
--- `once`, and its counts give what a run needs (`Carrying`). Assumes nothing.
-use mathlib.Core.Path.{_≡_, refl, sym, ap, subst, _∙_}
+-- `once` along every order, and its counts give what a run needs (`Carrying`). Assumes nothing.
+use mathlib.Core.Path.{_≡_, refl, sym, ap, subst, subst₂, fun-ext, _∙_}
 use mathlib.Core.Bool.{true}
 use mathlib.Core.List.{List, [], _∷_, List·Memᴰ, List·Memᴰ·head, List·Memᴰ·tail}
 use Prim.Native.Nat.{ℕ, _+_, _<_}
 use native.Mathlib.Omega.{arith}
+use lib.Ieee.{Float}
 use lib.ListN.{length, getD}
 use Rattle.graph.specs.Record.{fresh, liveAt, valid, factorKeys}
 use Rattle.graph.specs.Reached.{Call, yields}
 use Rattle.graph.specs.declared.Graph.{Graph}
 use Rattle.graph.proofs.Keeping.{good-of}
-use Rattle.schedule.specs.Count.{hit, count, In, from}
+use Rattle.schedule.specs.Count.{hit, count, In, from, eachOnce}
 use Rattle.schedule.specs.Gather.{Gathered}
 use Rattle.schedule.specs.Once.{Once}
 use Rattle.schedule.specs.Plan as schedule
@@ -18,21 +19,19 @@ use Rattle.schedule.proofs.Counts.{hit-same, hit-other, count-cons, rising-once
 use Rattle.schedule.proofs.Runs.{from-lt}
 use Rattle.schedule.proofs.Sums.{length-from}
 use Rattle.schedule.proofs.Demand3.{from-once}
-use Rattle.solver.specs.Plan.{liveNumbers, graphPlan, Answer, planned}
-use Rattle.solver.specs.Run.{run}
+use Rattle.schedule.proofs.Orders.{counts-each}
+use Rattle.plan.proofs.Membership.{sure-true}
+use Rattle.solver.specs.Plan.{liveNumbers, planAlong, Answer, plannedAlong}
+use Rattle.solver.specs.Plan as plans
+use Rattle.solver.specs.Run.{RunVerdict, runAlong}
 use Rattle.solver.specs.Stages.{Runnable}
 use Rattle.solver.specs.declared.Outcome.the-variants.{Done}
 use Rattle.solver.proofs.GraphOnce.{once}
-use Rattle.solver.proofs.Carriable.{graph-runnable}
-use Rattle.claims.specs.Demand3.{Accepted, keysAnswered, numbersAnswered, live, clearedBehind, Rests, Exact, Whole}
+use Rattle.solver.proofs.Carriable.{along-runnable}
+use Rattle.solver.proofs.Rising.{rising-order, rising-plan, rising-run}
+use Rattle.claims.specs.Demand3.{Accepted, keysAnswered, numbersAnswered, live, clearedBehind, Rests, Exact, Order, Smooths, Whole}
 use Rattle.claims.proofs.Calls.{reached, keys-are, numbers-are, live-are, given-are}
 use Rattle.claims.proofs.Carrying.{run-carries}
-
--- ---- the plan
-
-planned-is : (g : Graph) → valid g ≡ true → planned g ≡ record { outcome = Done; keys = g .variables; plan = graphPlan g }
-unfolding planned
-planned-is g v = rw v
 
 -- ---- a key
 
@@ -80,37 +79,56 @@ module _ (cs : List Call) where
   sound : valid g ≡ true
   sound = good-of g (reached cs) .1
 
-  -- with what `plan` answers in place of the plan
-  by-answer : (P : Answer → Type 0) → P (record { outcome = Done; keys = g .variables; plan = graphPlan g }) → P (planned g)
-  by-answer P h = subst P (sym (planned-is g sound)) h
+  -- an order of the registered keys passes the test
+  passes : (order : List ℕ) → Order cs order → eachOnce (g .variables) order ≡ true
+  passes order h = sure-true (eachOnce (g .variables) order) (counts-each (g .variables) order (λ j. h j ∙ ap (count j) (keys-are cs)))
 
-  can-run : Runnable g (graphPlan g)
-  can-run = graph-runnable g sound
+  module _ (order : List ℕ) (o : eachOnce (g .variables) order ≡ true) where
+    abbrev p : schedule.Plan
+    p = planAlong g order
 
-  empty : keysAnswered fresh cs ≡ [] → graphPlan g .at-key ≡ []
-  empty e = go (graphPlan g .at-key) (can-run .for-each ∙ sym (length-from 0 (g .variables)) ∙ ap length (sym (keys-are cs) ∙ e))
-    where
-      go : (qs : List Gathered) → length qs ≡ 0 → qs ≡ []
-      go [] l = refl
-      go (q ∷ qs) l = absurd (omega arith)
+    -- with what the plan's call answers in place of the plan
+    by-answer : (P : Answer → Type 0) → P (plans.made g p) → P (plannedAlong g order)
+    unfolding plannedAlong
+    by-answer P h = rw (sound, o) h
+
+    can-run : Runnable g p
+    can-run = along-runnable g order sound o
+
+    empty : keysAnswered fresh cs ≡ [] → p .at-key ≡ []
+    empty e = go (p .at-key) (can-run .for-each ∙ sym (length-from 0 (g .variables)) ∙ ap length (sym (keys-are cs) ∙ e))
+      where
+        go : (qs : List Gathered) → length qs ≡ 0 → qs ≡ []
+        go [] l = refl
+        go (q ∷ qs) l = absurd (omega arith)
+
+    smooths : Smooths cs (plannedAlong g order) (runAlong g order)
+    smooths =
+        record {
+          made = by-answer (λ (a : Answer). a .outcome ≡ Done) refl;
+          for-each = by-answer (λ (a : Answer). length (a .plan .at-key) ≡ length (keysAnswered fresh cs))
+              (can-run .for-each ∙ sym (length-from 0 (g .variables)) ∙ ap length (sym (keys-are cs)));
+          rests =
+              λ k h d. let l : k < g .variables = from-lt k (g .variables) (subst (λ (l : List ℕ). In k l) (keys-are cs) h) in
+              by-answer (λ (a : Answer). Rests (keysAnswered fresh cs) (live fresh cs) (a .plan) k (getD (a .plan .at-key) k d))
+              (rests g (keysAnswered fresh cs) (live fresh cs) (keys-are cs) (live-are cs) (given-are cs) p k
+              (getD (p .at-key) k d) l (once g order sound o k l d));
+          never-twice = λ factors messages work marginals. run-carries g order factors messages work marginals .never-twice;
+          exact =
+              λ factors messages work marginals e. by-answer (λ (a : Answer). Exact g (a .plan) factors messages marginals
+              (runAlong g order factors messages work marginals))
+              (run-carries g order factors messages work marginals .exact e);
+          none-without-keys = λ e factors messages work marginals. run-carries g order factors messages work marginals .bare (empty e);
+        }
 
   pub demand3 : Whole cs
   demand3 =
       record {
         keys-apart = λ k. omega (arith, ap (count k) (keys-are cs), from-once (g .variables) k);
         numbers-apart = λ i. omega (arith, ap (count i) (numbers-are cs), from-once (g .count) i);
-        made = by-answer (λ (a : Answer). a .outcome ≡ Done) refl;
-        for-each = by-answer (λ (a : Answer). length (a .plan .at-key) ≡ length (keysAnswered fresh cs))
-            (can-run .for-each ∙ sym (length-from 0 (g .variables)) ∙ ap length (sym (keys-are cs)));
-        rests =
-            λ k h d. let l : k < g .variables = from-lt k (g .variables) (subst (λ (l : List ℕ). In k l) (keys-are cs) h) in
-            by-answer (λ (a : Answer). Rests (keysAnswered fresh cs) (live fresh cs) (a .plan) k (getD (a .plan .at-key) k d))
-            (rests g (keysAnswered fresh cs) (live fresh cs) (keys-are cs) (live-are cs) (given-are cs) (graphPlan g) k
-            (getD (graphPlan g .at-key) k d) l (once g sound k l d));
-        never-twice = λ factors messages work marginals. run-carries g can-run factors messages work marginals .never-twice;
-        exact =
-            λ factors messages work marginals e. by-answer (λ (a : Answer). Exact g (a .plan) factors messages marginals
-            (run g factors messages work marginals))
-            (run-carries g can-run factors messages work marginals .exact e);
-        none-without-keys = λ e factors messages work marginals. run-carries g can-run factors messages work marginals .bare (empty e);
+        along = λ order h. smooths order (passes order h);
+        rising =
+            subst₂ (λ (a : Answer) (ran : List Float → List Float → ℕ → List Float → RunVerdict). Smooths cs a ran) (rising-plan g)
+            (fun-ext (λ factors. fun-ext (λ messages. fun-ext (λ work. fun-ext (λ marginals. rising-run g factors messages work marginals)))))
+            (smooths (from 0 (g .variables)) (rising-order (g .variables)));
       }

@@ -91,4 +91,5 @@ unfolding jobText readAll Held offset sum
 no-lines bytes w e =
     let all : Reading = readAll bytes (zeros factor-room) in
     let h = read-held (length bytes) bytes 0 0 fresh (zeros factor-room) fresh-reached (omega arith) w in
-    ap (λ x. readText x (all .answer .graph) (all .store)) w ∙ no-text (all .answer .graph) (all .store) (good-of (all .answer .graph) (h .0) .1) e (h .1)
+    ap (λ x. readText x (runText (all .answer .graph) (all .store))) w
+    ∙ no-text (all .answer .graph) (all .store) (good-of (all .answer .graph) (h .0) .1) e (h .1)

@@ -153,11 +153,12 @@ ended =
       marginals = zer ∷ float 0x3FD5555555555556 ∷ float 0x4010000000000001 ∷ float 0x3FF5555555555556 ∷ nan ∷ [];
     }
 
-carried-is : carried graph plan 6 store (replicate 7 nan) (replicate 5 nan) ≡ ended
+carried-is : carried graph (λ place. place) plan 6 store (replicate 7 nan) (replicate 5 nan) ≡ ended
 unfolding carried first second third refusalFrom finishedNumbers numbersIn missingFrom marginalsIn
 carried-is = rw (forward-is, backward-is, marginals-are)
 
-checked-is : checked graph plan 6 store (replicate 7 nan) work-numbers (replicate 5 nan) ≡ carried graph plan 6 store (replicate 7 nan) (replicate 5 nan)
+checked-is : checked graph (λ place. place) plan 6 store (replicate 7 nan) work-numbers (replicate 5 nan)
+    ≡ carried graph (λ place. place) plan 6 store (replicate 7 nan) (replicate 5 nan)
 unfolding checked startOf computedCalls
 checked-is = refl
 

@@ -20,9 +20,9 @@ use Rattle.schedule.specs.Once.{behind, AllUnder, clearedBy}
 use Rattle.schedule.specs.Plan as schedule
 use Rattle.gaussian.specs.Elimination as gaussian
 use Rattle.messages.specs.Values.{none, values, refusalFrom, finishedNumbers, overlaid}
-use Rattle.solver.specs.Plan.{planned}
+use Rattle.solver.specs.Plan.{Answer, planned, plannedAlong}
 use Rattle.marginals.specs.Marginals.{Found, foundIn, gatheredViews, missingFrom, marginalsIn}
-use Rattle.solver.specs.Run.{RunVerdict, run}
+use Rattle.solver.specs.Run.{RunVerdict, run, runAlong}
 use Rattle.solver.specs.declared.Outcome.the-variants as plans
 use Rattle.solver.specs.declared.run.Ended.the-variants as ended
 
@@ -126,29 +126,36 @@ pub record Exact (g : Graph) (p : schedule.Plan) (factors messages marginals : L
 
 -- ---- the demand
 
--- the graph after the calls, from a fresh one, and what `plan` answers for it
+-- the graph after the calls, from a fresh one
 abbrev pub graphOf : List Call → Graph
 graphOf cs = yields fresh cs
 
-abbrev pub planAfter : List Call → schedule.Plan
-planAfter cs = planned (graphOf cs) .plan
+-- the order names each registered key exactly once, and nothing else
+abbrev pub Order : List Call → List ℕ → Type 0
+Order cs order = (k : ℕ) → count k order ≡ count k (keysAnswered fresh cs)
+
+-- what is claimed of a plan's answer, and of the run that is made with that plan
+pub record Smooths (cs : List Call) (answer : Answer) (ran : (factors messages : List Float) (work : ℕ) (marginals : List Float) → RunVerdict) : Type 0 where
+  -- the plan is made, and has one gathering for each registered key
+  pub made : answer .outcome ≡ plans.Done
+  pub for-each : length (answer .plan .at-key) ≡ length (keysAnswered fresh cs)
+  -- behind each registered key stands the whole graph, once
+  pub rests : (k : ℕ) → In k (keysAnswered fresh cs) → (d : Gathered)
+      → Rests (keysAnswered fresh cs) (live fresh cs) (answer .plan) k (getD (answer .plan .at-key) k d)
+  -- no run gives the double-count refusal, whatever stores it is lent
+  pub never-twice : (factors messages : List Float) (work : ℕ) (marginals : List Float) (stage key : ℕ)
+      → ran factors messages work marginals .answer .ended ≢ ended.Refused CountedTwice stage key
+  -- an unrefused run's messages, means and covariances are those that the plan's eliminations give from its factor store
+  pub exact : (factors messages : List Float) (work : ℕ) (marginals : List Float) → ran factors messages work marginals .answer .ended ≡ ended.Done
+      → Exact (graphOf cs) (answer .plan) factors messages marginals (ran factors messages work marginals)
+  -- where no key is registered no run gives a marginal: the marginal store is as it was
+  pub none-without-keys : keysAnswered fresh cs ≡ [] → (factors messages : List Float) (work : ℕ) (marginals : List Float)
+      → ran factors messages work marginals .marginals ≡ marginals
 
 pub record Whole (cs : List Call) : Type 0 where
   -- the calls answered no key twice, and no number twice
   pub keys-apart : (k : ℕ) → count k (keysAnswered fresh cs) ≤ 1
   pub numbers-apart : (i : ℕ) → count i (numbersAnswered (accepted fresh cs)) ≤ 1
-  -- the plan is made, and has one gathering for each registered key
-  pub made : planned (graphOf cs) .outcome ≡ plans.Done
-  pub for-each : length (planAfter cs .at-key) ≡ length (keysAnswered fresh cs)
-  -- behind each registered key stands the whole graph, once
-  pub rests : (k : ℕ) → In k (keysAnswered fresh cs) → (d : Gathered)
-      → Rests (keysAnswered fresh cs) (live fresh cs) (planAfter cs) k (getD (planAfter cs .at-key) k d)
-  -- no run gives the double-count refusal, whatever stores it is lent
-  pub never-twice : (factors messages : List Float) (work : ℕ) (marginals : List Float) (stage key : ℕ)
-      → run (graphOf cs) factors messages work marginals .answer .ended ≢ ended.Refused CountedTwice stage key
-  -- an unrefused run's messages, means and covariances are those that the plan's eliminations give from its factor store
-  pub exact : (factors messages : List Float) (work : ℕ) (marginals : List Float) → run (graphOf cs) factors messages work marginals .answer .ended ≡ ended.Done
-      → Exact (graphOf cs) (planAfter cs) factors messages marginals (run (graphOf cs) factors messages work marginals)
-  -- where no key is registered no run gives a marginal: the marginal store is as it was
-  pub none-without-keys : keysAnswered fresh cs ≡ [] → (factors messages : List Float) (work : ℕ) (marginals : List Float)
-      → run (graphOf cs) factors messages work marginals .marginals ≡ marginals
+  -- along every order of the registered keys, and without an order
+  pub along : (order : List ℕ) → Order cs order → Smooths cs (plannedAlong (graphOf cs) order) (runAlong (graphOf cs) order)
+  pub rising : Smooths cs (planned (graphOf cs)) (run (graphOf cs))

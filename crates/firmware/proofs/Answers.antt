@@ -3,10 +3,9 @@ use Prim.Native.Nat.{ℕ, _≤_}
 use mathlib.Core.Path.{_≡_, ap}
 use mathlib.Core.List.{List}
 use lib.ListN.{length}
-use Rattle.lines.specs.Lines.{written}
+use Rattle.lines.specs.Lines.{written, lengthOf}
 use Rattle.job.specs.Job.{jobText}
 use Rattle.job.proofs.Longest.{never-short}
-use Rattle.firmware.specs.Firmware.{lengthOf}
 
 -- what C calls STRIPS_OUTPUT
 abbrev pub output-bytes : ℕ

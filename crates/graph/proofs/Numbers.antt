@@ -8,9 +8,9 @@ use Rattle.graph.specs.declared.refusal.Refusal.{Refusal}
 use Rattle.graph.specs.declared.refusal.Refusal.the-variants.{NeitherKeptNorCleared, NotALetter, SizeOutside, KeysNotRising, CountOutside}
 use Rattle.graph.specs.declared.refusal.Refusal.the-variants.{LengthUnlike, NotFinite, VariancePivot, BadRecord, KeptAndCleared, NameTaken}
 use Rattle.graph.specs.declared.refusal.Refusal.the-variants.{NoSuchKey, PastLimit, FactorStoreShort, StoreShort, ClearedPivot, MarginalPivot}
-use Rattle.graph.specs.declared.refusal.Refusal.the-variants.{ResultNotFinite, CountedTwice, NotLive, NotSymmetric, NoSuchGraph}
+use Rattle.graph.specs.declared.refusal.Refusal.the-variants.{ResultNotFinite, CountedTwice, NotLive, NotSymmetric, OrderUnlike, NoSuchGraph}
 
--- the refusal of a number: 0 to 20 in their order, and 30 is past them; 19 is none, so anything may stand there
+-- the refusal of a number: 0 to 21 in their order, and 30 is past them
 abbrev named : ℕ → Refusal
 named n =
     getD
@@ -35,6 +35,7 @@ named n =
     ∷ CountedTwice
     ∷ NotLive
     ∷ NotSymmetric
+    ∷ OrderUnlike
     ∷ [])
     n
     NoSuchGraph
@@ -61,6 +62,7 @@ back ResultNotFinite = refl
 back CountedTwice = refl
 back NotLive = refl
 back NotSymmetric = refl
+back OrderUnlike = refl
 back NoSuchGraph = refl
 
 pub same-refusal : (a b : Refusal) → refusalNumber a ≡ refusalNumber b → a ≡ b

@@ -4,7 +4,7 @@ use Rattle.graph.specs.declared.refusal.Refusal.{Refusal}
 use Rattle.graph.specs.declared.refusal.Refusal.the-variants.{NeitherKeptNorCleared, NotALetter, SizeOutside, KeysNotRising, CountOutside}
 use Rattle.graph.specs.declared.refusal.Refusal.the-variants.{LengthUnlike, NotFinite, VariancePivot, BadRecord, KeptAndCleared, NameTaken, NoSuchKey}
 use Rattle.graph.specs.declared.refusal.Refusal.the-variants.{PastLimit, FactorStoreShort, StoreShort, ClearedPivot, MarginalPivot}
-use Rattle.graph.specs.declared.refusal.Refusal.the-variants.{ResultNotFinite, CountedTwice, NotLive, NotSymmetric, NoSuchGraph}
+use Rattle.graph.specs.declared.refusal.Refusal.the-variants.{ResultNotFinite, CountedTwice, NotLive, NotSymmetric, OrderUnlike, NoSuchGraph}
 
 abbrev pub refusalNumber : Refusal → ℕ
 -- a direct elimination meets a key that is neither kept nor cleared
@@ -37,5 +37,7 @@ refusalNumber CountedTwice = 18
 refusalNumber NotLive = 19
 -- a variance whose triangles differ
 refusalNumber NotSymmetric = 20
+-- a lent order that isn't each registered key exactly once
+refusalNumber OrderUnlike = 21
 -- a record that no list of registering calls yields
 refusalNumber NoSuchGraph = 30

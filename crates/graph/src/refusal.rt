@@ -24,6 +24,7 @@ pub enum Refusal {
     CountedTwice,
     NotLive,
     NotSymmetric,
+    OrderUnlike,
     NoSuchGraph,
 }
 
@@ -53,6 +54,7 @@ pub fn code(why: Refusal) -> usize
         Refusal::CountedTwice => 18,
         Refusal::NotLive => 19,
         Refusal::NotSymmetric => 20,
+        Refusal::OrderUnlike => 21,
         Refusal::NoSuchGraph => 30,
     }
 }

@@ -18,16 +18,16 @@ use Rattle.graph.proofs.Validity.{valid-variables}
 use Rattle.records.specs.Records.{readAll}
 use Rattle.records.specs.declared.answer.Read.{Read}
 use Rattle.records.specs.declared.answer.Ended.the-variants as reading
-use Rattle.workspace.specs.Frames.{work-numbers}
 use Rattle.marginals.proofs.Rooms.{numbers-most}
-use Rattle.solver.specs.Run.{run, runVerdict}
+use Rattle.solver.specs.Run.{RunVerdict, runVerdict}
 use Rattle.solver.specs.declared.run.Ran.{Ran}
+use Rattle.solver.specs.declared.run.Ended.{Ended}
 use Rattle.solver.specs.declared.run.Ended.the-variants as ending
 use Rattle.graph.specs.Moments.{startOf}
 use Rattle.lines.specs.Lines.{lineNumbers, linesText, refusalText, written, laidIn}
 use Rattle.lines.specs.declared.Written.{Written}
 use Rattle.lines.specs.declared.Written.the-variants.{Length, Short}
-use Rattle.job.specs.Job.{factor-room, message-room, marginal-room, zeros, reading-stage, endedText, verdictText, runText, readText, jobText}
+use Rattle.job.specs.Job.{factor-room, marginal-room, zeros, reading-stage, endedText, verdictText, readText, readingText}
 
 -- what a laying answers, and how it leaves the buffer
 abbrev pub Lays : List ℕ → List ℕ → Written → List ℕ → Type 0
@@ -62,28 +62,31 @@ marginals-fit g v = omega (arith, sum-le (λ k. lineNumbers g k) (g .variables) 
 
 -- ---- how the run ended
 
-module _ (g : Graph) (factors messages marginals : List Float) (ran : Ran)
-    (is : runVerdict ran messages marginals ≡ run g factors (zeros message-room) work-numbers (zeros marginal-room)) where
-  ended : endedText g (ran .ended) marginals ≡ runText g factors
-  unfolding runText
-  ended = ap (verdictText g) is
+-- a line a key, or a refusal alone
+module _ (g : Graph) (e : Ended) (marginals : List Float) where
+  pub ended-done : e ≡ ending.Done → linesText g marginals (g .variables) ≡ endedText g e marginals
+  ended-done h = sym (ap (λ x. endedText g x marginals) h)
 
-  pub all-done : ran .ended ≡ ending.Done → linesText g marginals (g .variables) ≡ runText g factors
-  all-done e = sym (ap (λ x. endedText g x marginals) e) ∙ ended
+  pub ended-refused : (why : Refusal) (stage key : ℕ) → e ≡ ending.Refused why stage key → refusalText (refusalNumber why) stage key ≡ endedText g e marginals
+  ended-refused why stage key h = sym (ap (λ x. endedText g x marginals) h)
 
-  pub run-refused : (why : Refusal) (stage key : ℕ) → ran .ended ≡ ending.Refused why stage key → refusalText (refusalNumber why) stage key ≡ runText g factors
-  run-refused why stage key e = sym (ap (λ x. endedText g x marginals) e) ∙ ended
+-- a run's verdict v, and the answer and marginals that it is
+pub ended : (g : Graph) (ran : Ran) (messages marginals : List Float) (v : RunVerdict) → runVerdict ran messages marginals ≡ v
+    → endedText g (ran .ended) marginals ≡ verdictText g v
+ended g ran messages marginals v is = ap (verdictText g) is
 
 -- ---- how the reading ended
 
-module _ (bytes : List ℕ) (store : List Float) (r : Read) (is : r ≡ readAll bytes (zeros factor-room) .answer)
+module _ (text : Graph → List Float → List ℕ) (bytes : List ℕ) (store : List Float) (r : Read) (is : r ≡ readAll bytes (zeros factor-room) .answer)
     (stored : store ≡ readAll bytes (zeros factor-room) .store) where
-  read : readText (r .ended) (r .graph) store ≡ jobText bytes
-  unfolding jobText
+  abbrev all : List ℕ
+  all = readingText text (readAll bytes (zeros factor-room))
+
+  read : readText (r .ended) (text (r .graph) store) ≡ all
   read = rw (is, stored)
 
-  pub whole : r .ended ≡ reading.Done → runText (r .graph) store ≡ jobText bytes
-  whole e = sym (ap (λ x. readText x (r .graph) store) e) ∙ read
+  pub whole : r .ended ≡ reading.Done → text (r .graph) store ≡ all
+  whole e = sym (ap (λ x. readText x (text (r .graph) store)) e) ∙ read
 
-  pub reading-refused : (why : Refusal) (place : ℕ) → r .ended ≡ reading.Refused why place → refusalText (refusalNumber why) reading-stage place ≡ jobText bytes
-  reading-refused why place e = sym (ap (λ x. readText x (r .graph) store) e) ∙ read
+  pub reading-refused : (why : Refusal) (place : ℕ) → r .ended ≡ reading.Refused why place → refusalText (refusalNumber why) reading-stage place ≡ all
+  reading-refused why place e = sym (ap (λ x. readText x (text (r .graph) store)) e) ∙ read

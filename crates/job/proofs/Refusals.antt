@@ -1,15 +1,15 @@
 -- What a refusal of a job names: its number, its stage and its place are small. Assumes nothing.
-use Prim.Native.Nat.{ℕ, zero, suc, _+_, _≤_, _<_}
-use mathlib.Core.Path.{_≡_, refl, ap}
-use mathlib.Core.Bool.{Bool, true, false, not, cond}
+use Prim.Native.Nat.{ℕ, zero, suc, _+_, _-_, _≤_, _<_}
+use mathlib.Core.Path.{_≡_, refl, ap, subst}
+use mathlib.Core.Bool.{Bool, true, false, cond}
 use mathlib.Core.List.{List, [], _∷_}
 use native.Mathlib.Omega.{arith}
-use lib.Dec.{ltb, leb}
+use native.Mathlib.Decide.{decLt}
+use lib.Dec.{ltb}
 use lib.Ieee.{Float}
-use lib.ListN.{length}
+use lib.ListN.{length, getD, List·getD-eq-default}
 use Rattle.factor.specs.Limits.{max-variables}
-use Rattle.factor.specs.Counting.{every}
-use Rattle.graph.specs.Record.{offset, valid}
+use Rattle.graph.specs.Record.{valid}
 use Rattle.graph.specs.Reached.{Reached}
 use Rattle.graph.specs.Refusals.{refusalNumber}
 use Rattle.graph.specs.declared.Graph.{Graph}
@@ -22,19 +22,21 @@ use Rattle.records.specs.declared.answer.Next.the-variants as next-record
 use Rattle.records.specs.declared.answer.Ended as records
 use Rattle.records.specs.declared.answer.Ended.the-variants as reads
 use Rattle.records.proofs.Reading.{step-reached}
-use Rattle.schedule.specs.Pass.{ClosedFactor, at}
+use Rattle.schedule.specs.Count.{from, eachOnce}
+use Rattle.schedule.specs.Pass.{at}
 use Rattle.schedule.specs.Gather.{Gathered}
 use Rattle.schedule.specs.Plan as schedule
+use Rattle.schedule.proofs.Orders.{order-each, order-low}
 use Rattle.gaussian.specs.Elimination.{Outcome}
 use Rattle.messages.specs.Values as messages
-use Rattle.workspace.specs.Frames.{work-numbers}
-use Rattle.marginals.specs.Marginals.{marginalNumbers, Found, found, refused, marginalsFrom, missingFrom}
-use Rattle.solver.specs.Plan.{graphPlan}
-use Rattle.solver.specs.Run.{figureOf, RunVerdict, refuse, first, second, third, carried, checked, run}
-use Rattle.solver.specs.Stages.{Runnable}
+use Rattle.marginals.specs.Marginals.{Found, found, refused, marginalsFrom, missingFrom}
+use Rattle.solver.specs.Plan.{planAlong}
+use Rattle.solver.specs.Run.{RunVerdict, run, keyAt, runAlong}
 use Rattle.solver.specs.declared.run.Ended.{Ended}
 use Rattle.solver.specs.declared.run.Ended.the-variants.{Done, Refused}
-use Rattle.solver.proofs.Carriable.{graph-runnable}
+use Rattle.solver.proofs.Carriable.{along-runnable}
+use Rattle.solver.proofs.Cases.{along-cases}
+use Rattle.solver.proofs.Rising.{as-rising}
 
 -- ---- the number
 
@@ -60,6 +62,7 @@ number-most why.ResultNotFinite = omega arith
 number-most why.CountedTwice = omega arith
 number-most why.NotLive = omega arith
 number-most why.NotSymmetric = omega arith
+number-most why.OrderUnlike = omega arith
 number-most why.NoSuchGraph = omega arith
 
 -- ---- the record, and the graph that was read
@@ -121,63 +124,34 @@ unfolding marginalsFrom
 marginals-long g store p fw bw k [] = refl
 marginals-long g store p fw bw k (q ∷ qs) = ap suc (marginals-long g store p fw bw (k + 1) qs)
 
-third-keyed : (figure : ℕ) (m r : List Float) (all : List Found) (s : messages.FirstRefusal) → Within max-variables s → KeyedBy (third figure m r all s)
-unfolding third
-third-keyed figure m r all messages.none l = omega arith
-third-keyed figure m r all (messages.refusedAt k w) l = (omega arith, l)
+-- the keys of an order are below the count of variables
+order-small : (g : Graph) (order : List ℕ) → valid g ≡ true → eachOnce (g .variables) order ≡ true → (place : ℕ) → keyAt order place ≤ max-variables
+order-small g order v o place = go (decLt place (length order))
+  where
+    go : Dec (place < length order) → getD order place 0 ≤ max-variables
+    go (yes l) = omega (arith, order-low (g .variables) order (order-each (g .variables) order o) place l, valid-variables g v)
+    go (no l) = rw (List·getD-eq-default order 0 {n = place} (omega arith)) (omega arith)
 
-second-keyed : (figure n : ℕ) (bw : List ClosedFactor) (m r : List Float) (s : messages.FirstRefusal) (next : RunVerdict) → n ≤ max-variables → KeyedBy next
-    → KeyedBy (second figure n bw m r s next)
-unfolding second
-second-keyed figure n bw m r messages.none next l h = h
-second-keyed figure n bw m r (messages.refusedAt j w) next l h = (omega arith, omega arith)
-
-first-keyed : (figure : ℕ) (fw : List ClosedFactor) (m r : List Float) (s : messages.FirstRefusal) (next : RunVerdict)
-    → ((j : ℕ) → at fw j .step ≤ max-variables) → KeyedBy next → KeyedBy (first figure fw m r s next)
-unfolding first
-first-keyed figure fw m r messages.none next l h = h
-first-keyed figure fw m r (messages.refusedAt j w) next l h = (omega arith, l j)
-
--- a step that is there has its bound; there is none past the end
-steps-all : (ms : List ClosedFactor) (b : ℕ) → ((j : ℕ) → j < length ms → at ms j .step ≤ b) → (j : ℕ) → at ms j .step ≤ b
-steps-all [] b h j = omega arith
-steps-all (m ∷ ms) b h zero = h 0 (omega arith)
-steps-all (m ∷ ms) b h (suc j) = steps-all ms b (λ i l. h (suc i) (omega arith)) j
-
-carried-keyed : (g : Graph) (p : schedule.Plan) → Runnable g p → (figure : ℕ) (factors m r : List Float) → KeyedBy (carried g p figure factors m r)
-unfolding carried
-carried-keyed g p run figure factors m r =
-    let l : g .variables ≤ max-variables = valid-variables g (run .forward .sound) in
-    first-keyed _ _ _ _ _ _ (steps-all (p .forward) max-variables (λ j h. omega (arith, run .forward-steps j h)))
-    (second-keyed _ (g .variables) _ _ _ _ _ l
-    (third-keyed _ _ _ _ _ (missing-within 0 _ max-variables (omega
-    (arith, run .for-each, marginals-long g factors p (messages.values g factors (p .forward)) (messages.values g factors (p .backward)) 0 (p .at-key))))))
-
-by-test : (b : Bool) (x y : RunVerdict) → KeyedBy x → KeyedBy y → KeyedBy (cond b x y)
-by-test true x y h k = h
-by-test false x y h k = k
-
-by-valid : (b : Bool) (x y : RunVerdict) → KeyedBy x → (b ≡ true → KeyedBy y) → KeyedBy (cond (not b) x y)
-by-valid false x y h k = h
-by-valid true x y h k = k refl
-
-store-keyed : (figure : ℕ) (w : Refusal) (m r : List Float) → KeyedBy (refuse figure w 1 0 m r)
-store-keyed figure w m r = (omega arith, omega arith)
-
-checked-keyed : (g : Graph) (p : schedule.Plan) → Runnable g p → (figure : ℕ) (factors m : List Float) (work : ℕ) (r : List Float)
-    → KeyedBy (checked g p figure factors m work r)
-unfolding checked
-checked-keyed g p run figure factors m work r =
-    let rest : RunVerdict = carried g p figure factors m r in
-    let short : Bool = not (every (leb figure (length m) ∷ leb work-numbers work ∷ leb (marginalNumbers g) (length r) ∷ [])) in
-    let none : RunVerdict = refuse figure why.StoreShort 1 0 m r in
-    by-test (not (leb (offset g (g .count)) (length factors))) (refuse figure why.FactorStoreShort 1 0 m r) (cond short none rest)
-    (store-keyed figure why.FactorStoreShort m r)
-    (by-test short none rest (store-keyed figure why.StoreShort m r) (carried-keyed g p run figure factors m r))
+pub along-keyed : (g : Graph) (order : List ℕ) (factors m : List Float) (work : ℕ) (r : List Float) → KeyedBy (runAlong g order factors m work r)
+along-keyed g order factors m work r =
+    along-cases KeyedBy g order factors m work r (omega arith, omega arith) (omega arith, omega arith)
+    (λ v o. let p : schedule.Plan = planAlong g order in
+    let fw = messages.values g factors (p .forward) in
+    let bw = messages.values g factors (p .backward) in
+    let small : (place : ℕ) → keyAt order place ≤ max-variables = order-small g order v o in
+    let for-each = along-runnable g order v o .for-each in
+    record {
+      factors-short = (omega arith, omega arith);
+      short = (omega arith, omega arith);
+      first = λ j w e. (omega arith, small (at (p .forward) j .step));
+      second = λ j w e. (omega arith, small (g .variables - 1 - at (p .backward) j .step));
+      third = λ k w e. (
+        omega arith,
+        subst (Within max-variables) e (missing-within 0 (marginalsFrom g factors p fw bw 0 (p .at-key)) max-variables
+            (omega (arith, for-each, marginals-long g factors p fw bw 0 (p .at-key), valid-variables g v))),
+      );
+      done = λ a b c. omega arith;
+    })
 
 pub run-keyed : (g : Graph) (factors m : List Float) (work : ℕ) (r : List Float) → KeyedBy (run g factors m work r)
-unfolding run
-run-keyed g factors m work r =
-    let p : schedule.Plan = graphPlan g in
-    by-valid (valid g) (refuse 0 why.NoSuchGraph 1 0 m r) (checked g p (figureOf g p) factors m work r) (store-keyed 0 why.NoSuchGraph m r)
-    (λ v. checked-keyed g p (graph-runnable g v) (figureOf g p) factors m work r)
+run-keyed g factors m work r = as-rising g factors m work r KeyedBy (along-keyed g (from 0 (g .variables)) factors m work r)

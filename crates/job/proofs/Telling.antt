@@ -13,7 +13,7 @@ use Rattle.solver.specs.Told as ran
 use Rattle.solver.specs.declared.run.Ended as solver
 use Rattle.solver.specs.declared.run.Ended.the-variants as ending
 use Rattle.lines.specs.Lines.{linesText, refusalText}
-use Rattle.job.specs.Job.{reading-stage, endedText, runText, readText}
+use Rattle.job.specs.Job.{reading-stage, endedText, readText}
 
 -- a run's text: with a refusal come the figure, which isn't printed, the stage and the key
 abbrev ranLine : Graph → List Float → Told → List ℕ
@@ -26,11 +26,11 @@ run-printed g marginals figure ending.Done = refl
 run-printed g marginals figure (ending.Refused why stage key) = refl
 
 -- a reading's text: with a refusal comes the place of the record
-abbrev readLine : Graph → List Float → Told → List ℕ
-readLine g factors (value values) = runText g factors
-readLine g factors (refusal number values) = refusalText number reading-stage (getD values 0 0)
+abbrev readLine : (text : List ℕ) → Told → List ℕ
+readLine text (value values) = text
+readLine text (refusal number values) = refusalText number reading-stage (getD values 0 0)
 
-pub reading-printed : (g : Graph) (factors : List Float) (e : records.Ended) → readText e g factors ≡ readLine g factors (read.readTold e)
+pub reading-printed : (text : List ℕ) (e : records.Ended) → readText e text ≡ readLine text (read.readTold e)
 unfolding read.readTold
-reading-printed g factors reading.Done = refl
-reading-printed g factors (reading.Refused why place) = refl
+reading-printed text reading.Done = refl
+reading-printed text (reading.Refused why place) = refl

@@ -12,7 +12,7 @@ use Rattle.records.specs.Records.{enough, Reading, readAll}
 use Rattle.records.specs.declared.answer.Ended as records
 use Rattle.records.specs.declared.answer.Ended.the-variants as reading
 use Rattle.workspace.specs.Frames.{work-numbers}
-use Rattle.solver.specs.Run.{RunVerdict, run}
+use Rattle.solver.specs.Run.{RunVerdict, run, runAlong}
 use Rattle.solver.specs.declared.run.Ended as solver
 use Rattle.solver.specs.declared.run.Ended.the-variants as ending
 use Rattle.lines.specs.Lines.{linesText, refusalText}
@@ -50,16 +50,24 @@ verdictText g v = endedText g (v .answer .ended) (v .marginals)
 unfoldable pub runText : Graph → List Float → List ℕ
 runText g factors = verdictText g (run g factors (zeros message-room) work-numbers (zeros marginal-room))
 
--- how the reading ended: a refused job isn't run
-abbrev pub readText : records.Ended → Graph → List Float → List ℕ
-readText reading.Done g factors = runText g factors
-readText (reading.Refused why place) g factors = refusalText (refusalNumber why) reading-stage place
+-- along a lent order
+unfoldable pub runAlongText : (order : List ℕ) → Graph → List Float → List ℕ
+runAlongText order g factors = verdictText g (runAlong g order factors (zeros message-room) work-numbers (zeros marginal-room))
 
-abbrev pub readingText : Reading → List ℕ
-readingText r = readText (r .answer .ended) (r .answer .graph) (r .store)
+-- how the reading ended: for a refused job nothing else is looked at
+abbrev pub readText : records.Ended → (text : List ℕ) → List ℕ
+readText reading.Done text = text
+readText (reading.Refused why place) text = refusalText (refusalNumber why) reading-stage place
+
+-- with the text that the graph and its factors come to
+abbrev pub readingText : (Graph → List Float → List ℕ) → Reading → List ℕ
+readingText text r = readText (r .answer .ended) (text (r .answer .graph) (r .store))
 
 unfoldable pub jobText : List ℕ → List ℕ
-jobText bytes = readingText (readAll bytes (zeros factor-room))
+jobText bytes = readingText runText (readAll bytes (zeros factor-room))
+
+unfoldable pub jobAlongText : (bytes order : List ℕ) → List ℕ
+jobAlongText bytes order = readingText (runAlongText order) (readAll bytes (zeros factor-room))
 
 -- ---- the bytes that decide
 

@@ -79,3 +79,13 @@ written out text = cond (leb (length text) (length out)) (Length (length text)) 
 
 unfoldable pub laidIn : (out text : List ℕ) → List ℕ
 laidIn out text = cond (leb (length text) (length out)) (lay out 0 text) out
+
+-- ---- the number that stands for it in C
+
+-- the largest number of 64 bits, which no text has as its length
+abbrev pub short : ℕ
+short = 0xFFFFFFFFFFFFFFFF
+
+abbrev pub lengthOf : Written → ℕ
+lengthOf (Length n) = n
+lengthOf Short = short

@@ -28,6 +28,19 @@ pub enum Written {
     Short,
 }
 
+// The answer in C where the buffer is too short. No text has that length.
+const SHORT: usize = 0xFFFFFFFFFFFFFFFF;
+
+// The number that stands for it in C.
+pub fn length_of(answer: Written) -> usize
+    ensures { λ r. ⌜ r ≡ spec.lengthOf answer ⌝ }
+{
+    match answer {
+        Written::Length(n) => n,
+        Written::Short => SHORT,
+    }
+}
+
 // A hexadecimal digit in upper case.
 fn hex_digit(d: u8) -> u8
     requires { ⌜ d < 16 ⌝ }

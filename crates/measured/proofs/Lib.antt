@@ -1,2 +1,3 @@
 -- Laws of what is measured.
 pub mod Runs
+pub mod Ordered

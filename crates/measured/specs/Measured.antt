@@ -1,4 +1,4 @@
--- Inner: a job's factors, eliminated directly, and a job's graph, run several times; roots and lookups as numbers.
+-- Inner: a job's factors, eliminated directly; a job's graph, run several times or along an order; roots and lookups as numbers.
 use Prim.Native.Nat.{ℕ, zero, suc, _+_, _*_}
 use mathlib.Core.List.{List}
 use lib.Ieee.{Float}
@@ -12,13 +12,19 @@ use Rattle.factor.specs.declared.lists.Place.{Place}
 use Rattle.factor.specs.declared.lists.Place.the-variants.{At, Nowhere}
 use Rattle.graph.specs.Refusals.{refusalNumber}
 use Rattle.graph.specs.declared.Graph.{Graph}
+use Rattle.graph.specs.declared.refusal.Refusal.{Refusal}
 use Rattle.records.specs.Records.{Reading, readAll}
-use Rattle.job.specs.Job.{factor-room, zeros}
+use Rattle.records.specs.declared.answer.Ended as records
+use Rattle.records.specs.declared.answer.Ended.the-variants as reading
+use Rattle.job.specs.Job.{factor-room, zeros, reading-stage}
 use Rattle.direct.specs.Direct.{DirectVerdict, directVerdict}
 use Rattle.direct.specs.declared.Direct.{Direct}
 use Rattle.direct.specs.declared.Direct.the-variants.{Rows, Refused}
 use Rattle.solver.specs.Plan.{planned}
 use Rattle.solver.specs.Run as solver
+use Rattle.solver.specs.declared.run.Ended as solver-ended
+use Rattle.solver.specs.declared.run.Ended.the-variants as ending
+use Rattle.solver.specs.declared.run.Ran.{Ran}
 
 -- what a job registers, in the factor store that `job` lends
 abbrev pub readJob : List ℕ → Reading
@@ -55,6 +61,35 @@ again g factors s (suc n) = let t = again g factors s n in storesIn (solver.run 
 -- the stores after n runs of a job's graph
 unfoldable pub repeated : Reading → Stores → ℕ → Stores
 repeated r s n = again (r .answer .graph) (r .store) s n
+
+-- ---- the run along an order, as a number
+
+-- a refusal with its stage and its place
+abbrev pub marked : (why : Refusal) (stage place : ℕ) → ℕ
+marked why stage place = 0x1000000 + refusalNumber why * 0x10000 + stage * 0x100 + place
+
+abbrev pub endedNumber : solver-ended.Ended → ℕ
+endedNumber ending.Done = 0
+endedNumber (ending.Refused why stage key) = marked why stage key
+
+-- the figure 2^32 times, and how the run ended
+abbrev pub ranNumber : Ran → ℕ
+ranNumber r = r .figure * 0x100000000 + endedNumber (r .ended)
+
+-- a job's graph run along an order
+unfoldable pub runOf : Reading → (order : List ℕ) → Stores → solver.RunVerdict
+runOf r order s = solver.runAlong (r .answer .graph) order (r .store) (s .messages) work-numbers (s .marginals)
+
+-- a job that is refused in reading isn't run: its number has figure 0, and the stores stay
+abbrev pub orderedNumber : records.Ended → solver.RunVerdict → ℕ
+orderedNumber reading.Done v = ranNumber (v .answer)
+orderedNumber (reading.Refused why place) v = marked why reading-stage place
+
+abbrev pub orderedStores : records.Ended → solver.RunVerdict → Stores → Stores
+orderedStores reading.Done v s = storesIn v
+orderedStores (reading.Refused why place) v s = s
+
+-- ---- plans, roots, lookups
 
 -- the forward messages of a graph's plan, made n times; none where it is made no time
 unfoldable pub replanned : Graph → ℕ → ℕ

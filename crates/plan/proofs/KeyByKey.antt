@@ -3,7 +3,7 @@
 use mathlib.Core.Path.{_≡_, refl, sym, ap, ap₂, subst, _∙_}
 use mathlib.Core.Bool.{true, false}
 use mathlib.Core.List.{List, [], _∷_, _++_, map, reverse, reverse-cons}
-use Prim.Native.Nat.{ℕ, zero, suc, _+_, _-_, _≤_, _<_}
+use Prim.Native.Nat.{ℕ, suc, _+_, _-_, _≤_, _<_}
 use native.Mathlib.Numerals.{add-one}
 use native.Mathlib.Nat.{zero-add}
 use native.Mathlib.Omega.{arith}
@@ -19,7 +19,7 @@ use Rattle.schedule.specs.Gather.{gather, gatherAt}
 use Rattle.schedule.specs.Plan.{placeIn}
 use Rattle.schedule.specs.Gather as schedule
 use Rattle.schedule.specs.Plan as plan
-use Rattle.schedule.proofs.Counts.{from-in, count-cons, count-reverse, hit-same}
+use Rattle.schedule.proofs.Counts.{from-in, count-reverse, in-list}
 use Rattle.schedule.proofs.Runs.{from-lt}
 use Rattle.schedule.proofs.Demand3.{found-at}
 use Rattle.plan.specs.Mask.{keysIn}
@@ -98,10 +98,6 @@ pub sought-none : (k : ℕ) (order : List ℕ) (n i : ℕ) → n ≤ i → Sough
 sought-none k order n i h inv = omega (arith, inv, ap (placeIn k) (drop-none i n order h), place-nil k)
 
 -- ---- the plan
-in-list : (l : List ℕ) (i : ℕ) → i < length l → In (getD l i 0) l
-in-list [] i h = absurd (omega arith)
-in-list (x ∷ l) zero h = omega (arith, count-cons x x l, hit-same x)
-in-list (x ∷ l) (suc i) h = omega (arith, count-cons (getD l i 0) x l, in-list l i (omega arith))
 
 low-of : (l : List ℕ) (n : ℕ) → length (take n l) ≡ n → ((j : ℕ) → count j (take n l) ≡ count j (from 0 n)) → (i : ℕ) → i < n → getD l i 0 < n
 low-of l n e each i h =

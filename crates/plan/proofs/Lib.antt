@@ -18,3 +18,4 @@ pub mod Gatherable
 pub mod KeyByKey
 pub mod FactorMasks
 pub mod Rising
+pub mod Orders

@@ -12,9 +12,10 @@ use borrow.Author.Tests.{lt-ltb, le-ltb}
 use lib.Dec.{T, ltb, ltb→lt}
 use lib.ListN.{length, getD, take, set, length-set}
 use lib.Seq.{take-all, take-suc-set, getD-set-same, getD-set-other}
-use Rattle.factor.specs.Limits.{max-variables, max-factors}
+use Rattle.factor.specs.Limits.{max-factors}
 use Rattle.schedule.specs.Count.{count, In, putIf, from}
 use Rattle.schedule.proofs.Counts.{count-nil, rising-once}
+use Rattle.schedule.proofs.Orders.{Each}
 use Rattle.plan.specs.Mask.{has}
 use Rattle.plan.specs.Factors.{touchedKeys, keysAmong, Masked, liveAmong, Lists}
 use Rattle.plan.specs.Plan.{Ordered, Registered, Sound}
@@ -102,16 +103,14 @@ module _ (factors : List Factor) where
     are = t .is ∙ ap (liveAmong factors) e;
   }
 
--- Keys and live originals rising name each key once, and no original twice.
-pub rising-ordered : (factors : List Factor) (number : ℕ) (r : Lives) (order : List ℕ) (n : ℕ) → Lists factors number r → order ≡ from 0 max-variables
-    → n ≤ max-variables → Ordered (r .numbers) (r .count) order n
-rising-ordered factors number r order n l eo few =
-    rw eo
-    (record {
-      originals = l .originals;
-      distinct = λ f. omega (arith, ap (count f) (l .are), rising-once number (λ i. getD factors i absent .live) f);
-      each = λ j. ap (count j) (take-from 0 max-variables n few);
-    })
+-- The live originals, rising, are none twice; the keys are those of an order.
+pub live-ordered : (factors : List Factor) (number : ℕ) (r : Lives) (keys : List ℕ) (n : ℕ) → Lists factors number r → Each n (take n keys)
+    → Ordered (r .numbers) (r .count) keys n
+live-ordered factors number r keys n l each = record {
+  originals = l .originals;
+  distinct = λ f. omega (arith, ap (count f) (l .are), rising-once number (λ i. getD factors i absent .live) f);
+  each = each;
+}
 
 -- ---- what the plan asks
 module _ (factors : List Factor) (number n : ℕ) (reg : Registered factors number n) (keys : List ℕ) (masked : Masked factors number keys) where

@@ -4,6 +4,7 @@
 pub mod factors;
 pub mod gather;
 pub mod masks;
+pub mod order;
 pub mod pass;
 pub mod plan;
 

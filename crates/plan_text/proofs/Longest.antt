@@ -2,25 +2,21 @@
 use Prim.Native.Nat.{ℕ, zero, suc, _+_, _-_, _*_, _^_, _≤_, _<_}
 use mathlib.Core.Path.{_≡_, refl, sym, ap, _∙_}
 use mathlib.Core.Bool.{Bool, true, false}
-use mathlib.Core.List.{List, [], _∷_, _++_, map, reverse}
+use mathlib.Core.List.{List, [], _∷_, _++_, map}
 use native.Mathlib.Omega.{arith}
 use native.Mathlib.Numerals.{add-one}
 use borrow.Author.Tests.{ltb-true, ltb-false}
 use lib.Dec.{ltb}
-use lib.ListN.{length, getD, take, drop, length-append, length-map, length-reverse}
+use lib.ListN.{length, getD, take, drop, length-append, length-map}
 use Rattle.factor.specs.Limits.{max-variables, max-factors}
-use Rattle.graph.specs.Record.{valid, factorKeys}
+use Rattle.graph.specs.Record.{valid}
 use Rattle.graph.specs.Refusals.{refusalNumber}
 use Rattle.graph.specs.declared.Graph.{Graph}
 use Rattle.graph.specs.declared.refusal.Refusal.{Refusal}
 use Rattle.graph.proofs.Validity.{valid-variables}
 use Rattle.schedule.specs.Count.{count, joined, putIf, from, risingWhere}
-use Rattle.schedule.specs.Pass.{ClosedFactor, at, full-pass}
-use Rattle.schedule.specs.Plan as schedule
-use Rattle.schedule.proofs.Counts.{count-reverse}
+use Rattle.schedule.specs.Pass.{ClosedFactor, at}
 use Rattle.schedule.proofs.Sums.{length-from}
-use Rattle.schedule.proofs.Runs.{from-lt, running}
-use Rattle.schedule.proofs.Demand3.{from-once}
 use Rattle.plan.specs.Limits.{pass-slots}
 use Rattle.plan.specs.Mask.{has, keysIn}
 use Rattle.plan.specs.Pass.{passSlot, msgAt, messagesOf, Codes, PassReady}
@@ -31,7 +27,11 @@ use Rattle.plan.specs.declared.gather.Gathered.{Gathered}
 use Rattle.plan.specs.declared.plan.Plan.{Plan}
 use Rattle.plan.proofs.Stepping.{ready-later}
 use Rattle.plan.proofs.Unions.{slot-low, slot-high, at-msg, joined-zero}
-use Rattle.solver.specs.Plan.{Answer, liveNumbers, graphPlan, planned}
+use Rattle.solver.specs.Plan.{Answer, planned, planAlong, plannedAlong}
+use Rattle.solver.specs.Plan as plans
+use Rattle.solver.proofs.Answers.{made-of}
+use Rattle.solver.proofs.Carriable.{along-runnable}
+use Rattle.solver.proofs.Rising.{rising-plan}
 use Rattle.solver.specs.declared.Arranged.{Arranged}
 use Rattle.solver.specs.declared.Outcome.the-variants.{Done}
 use Rattle.text.specs.Decimals.{space, fieldText}
@@ -39,7 +39,6 @@ use Rattle.lines.specs.Lines.{refusalText, written, laidIn}
 use Rattle.lines.specs.declared.Written.{Written}
 use Rattle.lines.proofs.Longest.{refusal-most}
 use Rattle.text.proofs.Decimals.{few-digits, field-length}
-use Rattle.job.specs.Job.{reading-stage}
 use Rattle.job.proofs.Endings.{Lays}
 use Rattle.job.proofs.Refusals.{number-most}
 use Rattle.plan_text.specs.Shown.{text-room}
@@ -194,14 +193,6 @@ plan-most n p few b fw bw =
 
 -- ---- the plan of a graph
 
-order-steps : (n : ℕ) (K : ℕ → List ℕ) (N order : List ℕ) → ((j : ℕ) → count j order ≡ count j (from 0 n)) → (j : ℕ)
-    → j < length (full-pass n K N order) → at (full-pass n K N order) j .step < length order
-unfolding full-pass
-order-steps n K N order each =
-    let run = running n K N (reverse order) (λ j. omega (arith, count-reverse j order, each j, from-once n j))
-    (λ j h. from-lt j n (omega (arith, count-reverse j order, each j))) in
-    λ j l. omega (arith, run .steps j l, length-reverse order)
-
 low-steps : (p : Pass) (ms : List ClosedFactor) (most : ℕ) → messagesOf p ≡ ms → most ≤ max-variables
     → ((j : ℕ) → j < length ms → at ms j .step < most) → LowSteps p
 unfolding msgAt messagesOf
@@ -210,30 +201,29 @@ low-steps p ms most e few low j l =
     let s : at ms j .step ≡ getD (p .steps) j 0 = sym (ap (λ x. at x j .step) e) ∙ ap (λ (m : ClosedFactor). m .step) (at-msg p j l) in
     omega (arith, low j (omega arith))
 
-pub arranged-most : (g : Graph) (made : Arranged) → read made ≡ planned g → valid g ≡ true → Bounded (made .keys) (made .plan)
-    → length (arraysText made) ≤ text-room
-unfolding planned read planIn graphPlan schedule.plan
-arranged-most g made is v b =
+pub arranged-most : (g : Graph) (order : List ℕ) (made : Arranged) → read made ≡ plannedAlong g order → Bounded (made .keys) (made .plan)
+    → made .outcome ≡ Done → length (arraysText made) ≤ text-room
+unfolding read planIn plannedAlong
+arranged-most g order made is b e =
     let n = g .variables in
-    let few : n ≤ max-variables = valid-variables g v in
-    let a : Answer = record { outcome = Done; keys = n; plan = graphPlan g } in
-    let e : read made ≡ a = is ∙ rw v refl in
-    let k : made .keys ≡ n = ap (λ (x : Answer). x .keys) e in
+    let of = made-of g order made is e in
+    let few : n ≤ max-variables = valid-variables g (of .0) in
+    let a : read made ≡ plans.made g (planAlong g order) = is ∙ rw (of .0, of .1) refl in
+    let k : made .keys ≡ n = ap (λ (x : Answer). x .keys) a in
+    let can = along-runnable g order (of .0) (of .1) in
     plan-most (made .keys) (made .plan) (omega arith) b
-    (low-steps (made .plan .forward) _ n (ap (λ (x : Answer). x .plan .forward) e) few
-    (λ j l. omega (arith, order-steps n (factorKeys g) (liveNumbers g) (from 0 n) (λ i. refl) j l, length-from 0 n)))
-    (low-steps (made .plan .backward) _ n (ap (λ (x : Answer). x .plan .backward) e) few
-    (λ j l. omega (
-      arith,
-      order-steps n (factorKeys g) (liveNumbers g) (reverse (from 0 n)) (λ i. count-reverse i (from 0 n)) j l,
-      length-reverse (from 0 n),
-      length-from 0 n,
-    )))
+    (low-steps (made .plan .forward) _ n (ap (λ (x : Answer). x .plan .forward) a) few (can .forward-steps))
+    (low-steps (made .plan .backward) _ n (ap (λ (x : Answer). x .plan .backward) a) few (can .backward-steps))
+
+pub rising-most : (g : Graph) (made : Arranged) → read made ≡ planned g → valid g ≡ true → Bounded (made .keys) (made .plan)
+    → length (arraysText made) ≤ text-room
+unfolding read planned
+rising-most g made is v b = arranged-most g (from 0 (g .variables)) made (is ∙ sym (rising-plan g)) b (ap (λ (x : Answer). x .outcome) is ∙ rw v)
 
 -- ---- what a job shows
 
-pub refusal-within : (why : Refusal) (place : ℕ) → place < 2 ^ 64 → length (refusalText (refusalNumber why) reading-stage place) ≤ text-room
-refusal-within why place l = omega (arith, refusal-most (refusalNumber why) reading-stage place (omega (arith, number-most why)) (omega arith) l)
+pub refusal-within : (why : Refusal) (stage place : ℕ) → stage < 2 ^ 64 → place < 2 ^ 64 → length (refusalText (refusalNumber why) stage place) ≤ text-room
+refusal-within why stage place k l = omega (arith, refusal-most (refusalNumber why) stage place (omega (arith, number-most why)) k l)
 
 -- an equal text is laid alike, and is as long
 pub all-same : (out s t : List ℕ) (r : Written) (after : List ℕ) → s ≡ t → Lays out s r after → length s ≤ text-room

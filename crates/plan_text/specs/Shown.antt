@@ -4,15 +4,13 @@ use Prim.Native.Nat.{ℕ}
 use Rattle.graph.specs.Refusals.{refusalNumber}
 use Rattle.graph.specs.declared.Graph.{Graph}
 use Rattle.records.specs.Records.{readAll}
-use Rattle.records.specs.declared.answer.Ended as records
-use Rattle.records.specs.declared.answer.Ended.the-variants as reading
-use Rattle.solver.specs.Plan.{Answer, planned, graphPlan}
+use Rattle.solver.specs.Plan.{Answer, planned, plannedAlong, graphPlan}
 use Rattle.solver.specs.declared.Outcome.{Outcome}
 use Rattle.solver.specs.declared.Outcome.the-variants as outcome
 use Rattle.lines.specs.Lines.{refusalText, written, laidIn}
 use Rattle.lines.specs.declared.Written.{Written}
 use Rattle.lines.specs.declared.Written.the-variants as laying
-use Rattle.job.specs.Job.{factor-room, zeros, reading-stage}
+use Rattle.job.specs.Job.{factor-room, zeros, readingText}
 use Rattle.plan_text.specs.Text.{planText}
 use Rattle.plan_text.specs.declared.Shown.{Shown}
 use Rattle.plan_text.specs.declared.Shown.the-variants.{Length, Short, Refused}
@@ -42,15 +40,21 @@ shown g out = shownOf (planned g) out
 unfoldable pub shownIn : Graph → List ℕ → List ℕ
 shownIn g out = leftOf (planned g) out
 
+-- along a lent order: the plan's text, or the line of its refusal, which has stage 1 and key 0 as in the run
+abbrev pub outcomeText : Outcome → (text : List ℕ) → List ℕ
+outcomeText outcome.Done text = text
+outcomeText (outcome.Refused why) text = refusalText (refusalNumber why) 1 0
+
+unfoldable pub alongText : Graph → (order : List ℕ) → List ℕ
+alongText g order = outcomeText (plannedAlong g order .outcome) (planText (plannedAlong g order .plan))
+
 -- ---- the plan of a job
 
--- how the reading ended: a refused job has no plan
-abbrev pub shownText : records.Ended → Graph → List ℕ
-shownText reading.Done g = planText (graphPlan g)
-shownText (reading.Refused why place) g = refusalText (refusalNumber why) reading-stage place
-
 unfoldable pub showText : List ℕ → List ℕ
-showText bytes = shownText (readAll bytes (zeros factor-room) .answer .ended) (readAll bytes (zeros factor-room) .answer .graph)
+showText bytes = readingText (λ g factors. planText (graphPlan g)) (readAll bytes (zeros factor-room))
+
+unfoldable pub showAlongText : (bytes order : List ℕ) → List ℕ
+showAlongText bytes order = readingText (λ g factors. alongText g order) (readAll bytes (zeros factor-room))
 
 -- no text of a job's plan is longer
 abbrev pub text-room : ℕ

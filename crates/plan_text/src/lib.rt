@@ -37,7 +37,7 @@ ghost use Rattle.plan.specs.Pass.{PassReady, passSlot, msgAt, messagesOf};
 ghost use Rattle.plan.specs.Gather.{Held, gatheredOf};
 ghost use Rattle.plan.specs.Plan.{Bounded, planIn};
 ghost use Rattle.plan_text.specs.Text as spec;
-ghost use Rattle.plan_text.specs.Shown.{shown, shownIn, showText, text-room};
+ghost use Rattle.plan_text.specs.Shown.{shown, shownIn, alongText, showText, showAlongText, text-room};
 
 // Room for the text of any job's plan.
 pub const TEXT_ROOM: usize = 65536;
@@ -254,6 +254,38 @@ pub fn show(bytes: &[u8], out: &mut [u8]) -> Written
             let p = made.plan;
             lay_arrays(p, made.keys, out)
         }
+        records::answer::Ended::Refused(why, place) => lay_refusal(why, READING, place, out),
+    }
+}
+
+// The text of a graph's plan along a lent order of its keys, or the line of the refusal, at the start of a lent buffer, and its length. A
+// buffer that is too short for it is left as it was.
+pub fn lay_along(g: Graph, order: &[u8], out: &mut [u8]) -> Written
+    ensures { λ r. ⌜ r ≡ written (now (out .entry)) (alongText g (now (order .entry))) ⌝ }
+    ensures { λ _. ⌜ now (out .exit) ≡ laidIn (now (out .entry)) (alongText g (now (order .entry))) ⌝ }
+    ensures { λ _. ⌜ length (alongText g (now (order .entry))) ≤ text-room ⌝ }
+{
+    let made = solver::arrange_along(g, order);
+    let p = made.plan;
+    let outcome = made.outcome;
+    match outcome {
+        Outcome::Done => lay_arrays(p, made.keys, out),
+        Outcome::Refused(why) => lay_refusal(why, 1, 0, out),
+    }
+}
+
+// `show` along a lent order of the job's keys.
+pub fn show_along(bytes: &[u8], order: &[u8], out: &mut [u8]) -> Written
+    ensures { λ r. ⌜ r ≡ written (now (out .entry)) (showAlongText (now (bytes .entry)) (now (order .entry))) ⌝ }
+    ensures { λ _. ⌜ now (out .exit) ≡ laidIn (now (out .entry)) (showAlongText (now (bytes .entry)) (now (order .entry))) ⌝ }
+    ensures { λ _. ⌜ length (showAlongText (now (bytes .entry)) (now (order .entry))) ≤ text-room ⌝ }
+{
+    let mut factors = [0.0; FACTOR_ROOM];
+    let read = records::read(bytes, &mut factors);
+    let g = read.graph;
+    let ended = read.ended;
+    match ended {
+        records::answer::Ended::Done => lay_along(g, order, out),
         records::answer::Ended::Refused(why, place) => lay_refusal(why, READING, place, out),
     }
 }

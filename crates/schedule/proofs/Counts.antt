@@ -8,6 +8,7 @@ use Prim.Native.Nat.{ℕ, zero, suc, _+_, _≤_, _<_}
 use native.Mathlib.Omega.{arith}
 use native.Mathlib.Decide.{ℕ-discrete, decLt}
 use lib.Dec.{T, eqb, eqb→eq, eqb-refl, T-not, not-T}
+use lib.ListN.{length, getD}
 use Rattle.schedule.specs.Count.{bit, hit, count, In, putIf, keep, any, sumOver, joined, from, risingWhere}
 
 -- ---- tests
@@ -110,6 +111,11 @@ unfolding count
 count-reverse x a = omega (arith, count-reverseAux x a [])
 
 -- a member, by its place
+pub in-list : (l : List ℕ) (i : ℕ) → i < length l → In (getD l i 0) l
+in-list [] i h = absurd (omega arith)
+in-list (x ∷ l) zero h = omega (arith, count-cons x x l, hit-same x)
+in-list (x ∷ l) (suc i) h = omega (arith, count-cons (getD l i 0) x l, in-list l i (omega arith))
+
 pub in-mem : {x : ℕ} (l : List ℕ) → In x l → List·Memᴰ x l
 unfolding count
 in-mem [] h = absurd (omega arith)

@@ -19,7 +19,7 @@ use Rattle.schedule.specs.Once.{behind, clearedBy, Once}
 use Rattle.schedule.proofs.Counts.{sure, hit-other, hit-cases, count-cons, count-append, count-reverse, count-joined, from-in, from-above}
 use Rattle.schedule.proofs.Counts.{mem-in, in-mem, sum-some, sum-member}
 use Rattle.schedule.proofs.Runs.{from-lt}
-use Rattle.schedule.proofs.Sums.{sum-perm, length-sum, length-from}
+use Rattle.schedule.proofs.Orders.{order-long}
 use Rattle.schedule.proofs.Meanings.{covered-not, uncovered-all, uncovered-in, own-never, last-once, last-none}
 use Rattle.schedule.proofs.Sides.{gatheredLeaves, Side, a-side}
 
@@ -263,8 +263,8 @@ from-once n j = go (decLt j n)
 module _ (n : ℕ) (K : ℕ → List ℕ) (N order : List ℕ) (distinct : (f : ℕ) → count f N ≤ 1) (registered : (f : ℕ) → In f N → (j : ℕ) → In j (K f) → j < n)
     (each : (j : ℕ) → count j order ≡ count j (from 0 n)) where
   -- the order is as long as there are keys
-  pub long : length order ≡ n
-  long = omega (arith, length-sum order, sum-perm (λ x. 1) order (from 0 n) each, length-sum (from 0 n), length-from 0 n)
+  long : length order ≡ n
+  long = order-long n order each
 
   reversed : (k : ℕ) (pre q : List ℕ) → order ≡ pre ++ (k ∷ q) → reverse order ≡ reverse q ++ (k ∷ reverse pre)
   reversed k pre q e = ap reverse e ∙ reverse-append pre (k ∷ q) ∙ ap (λ (l : List ℕ). l ++ reverse pre) (reverse-cons k q)

@@ -6,6 +6,7 @@ pub mod Meanings
 pub mod Steps
 pub mod Trees
 pub mod Runs
+pub mod Orders
 pub mod Sides
 pub mod Demand3
 pub mod Messages

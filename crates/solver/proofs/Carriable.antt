@@ -1,6 +1,6 @@
 -- A plan over originals of a valid graph, along any order of its keys, can be carried out: its messages and its gatherings have what a run relies on.
--- The graph's own plan is one such. Assumes nothing.
-use mathlib.Core.Path.{_≡_, refl, _∙_}
+-- Assumes nothing.
+use mathlib.Core.Path.{_≡_, _∙_}
 use mathlib.Core.Bool.{true}
 use mathlib.Core.List.{List, reverse}
 use Prim.Native.Nat.{ℕ, _-_, _≤_, _<_}
@@ -9,21 +9,22 @@ use lib.ListN.{length, length-map, length-reverse}
 use Rattle.graph.specs.Record.{liveAt, valid, factorKeys}
 use Rattle.graph.specs.declared.Graph.{Graph}
 use Rattle.graph.proofs.Validity.{valid-variables}
-use Rattle.schedule.specs.Count.{count, In, from}
+use Rattle.schedule.specs.Count.{count, In, from, eachOnce}
 use Rattle.schedule.specs.Pass.{full-pass}
 use Rattle.schedule.specs.Gather.{gather}
 use Rattle.schedule.specs.Plan as schedule
 use Rattle.schedule.proofs.Counts.{count-reverse, from-in, rising-in, rising-once}
 use Rattle.schedule.proofs.Messages.{tidy, tidy-more, older, steps, few-messages, settled, settled-more}
-use Rattle.schedule.proofs.Demand3.{long, gathered-at, demand3}
+use Rattle.schedule.proofs.Demand3.{gathered-at, demand3}
+use Rattle.schedule.proofs.Orders.{Each, order-each, order-long}
 use Rattle.schedule.proofs.Sums.{length-from}
 use Rattle.messages.specs.Tables.{Carriable}
-use Rattle.solver.specs.Plan.{liveNumbers, graphPlan}
+use Rattle.solver.specs.Plan.{liveNumbers, planAlong}
 use Rattle.solver.specs.Stages.{Runnable}
 use Rattle.solver.proofs.GraphOnce.{low}
 
 module _ (g : Graph) (v : valid g ≡ true) (N order : List ℕ) (live : (i : ℕ) → In i N → i < g .count) (distinct : (f : ℕ) → count f N ≤ 1)
-    (each : (j : ℕ) → count j order ≡ count j (from 0 (g .variables))) where
+    (each : Each (g .variables) order) where
   abbrev n : ℕ
   n = g .variables
 
@@ -33,34 +34,34 @@ module _ (g : Graph) (v : valid g ≡ true) (N order : List ℕ) (live : (i : �
   known : (i : ℕ) → In i N → In i (from 0 (g .count))
   known i h = omega (arith, from-in i 0 (g .count) (omega arith) (omega (arith, live i h)))
 
-  order-long : length order ≡ n
-  order-long = long n K N order distinct (λ f s. low g v f) each
+  long : length order ≡ n
+  long = order-long n order each
 
   -- a pass along an order of all keys
-  carriable : (o : List ℕ) → ((j : ℕ) → count j o ≡ count j (from 0 n)) → length o ≡ n → Carriable g (full-pass n K N o)
-  carriable o all e =
+  carriable : (o : List ℕ) → Each n o → Carriable g (full-pass n K N o)
+  carriable o all =
       record {
         sound = v;
-        few = omega (arith, few-messages n K N o all, valid-variables g v);
+        few = omega (arith, few-messages n K N o all, order-long n o all, valid-variables g v);
         tidy = λ j h. tidy-more known (tidy n K N o all j h);
         older = older n K N o all;
       }
 
-  back : (j : ℕ) → count j (reverse order) ≡ count j (from 0 n)
+  back : Each n (reverse order)
   back j = count-reverse j order ∙ each j
 
   back-long : length (reverse order) ≡ n
-  back-long = length-reverse order ∙ order-long
+  back-long = length-reverse order ∙ long
 
   pub runnable : Runnable g (schedule.plan n K N order)
   unfolding schedule.plan gather
   runnable =
-      let fw : Carriable g (full-pass n K N order) = carriable order each order-long in
-      let bw : Carriable g (full-pass n K N (reverse order)) = carriable (reverse order) back back-long in
+      let fw : Carriable g (full-pass n K N order) = carriable order each in
+      let bw : Carriable g (full-pass n K N (reverse order)) = carriable (reverse order) back in
       record {
         forward = fw;
         backward = bw;
-        forward-steps = λ j h. omega (arith, steps n K N order each j h, order-long);
+        forward-steps = λ j h. omega (arith, steps n K N order each j h, long);
         backward-steps = λ j h. omega (arith, steps n K N (reverse order) back j h, back-long);
         for-each = length-map (from 0 n) _ ∙ length-from 0 n;
         settled =
@@ -71,8 +72,9 @@ module _ (g : Graph) (v : valid g ≡ true) (N order : List ℕ) (live : (i : �
         single = λ k h d f. omega (arith, demand3 n K N order distinct (λ f s. low g v f) each k h d .listed f, distinct f);
       }
 
--- over the live factors and with keys rising
-pub graph-runnable : (g : Graph) → valid g ≡ true → Runnable g (graphPlan g)
-unfolding graphPlan
-graph-runnable g v =
-    runnable g v (liveNumbers g) (from 0 (g .variables)) (λ i h. rising-in (g .count) (liveAt g) i h .1) (rising-once (g .count) (liveAt g)) (λ j. refl)
+-- over the live factors
+pub along-runnable : (g : Graph) (order : List ℕ) → valid g ≡ true → eachOnce (g .variables) order ≡ true → Runnable g (planAlong g order)
+unfolding planAlong
+along-runnable g order v o =
+    runnable g v (liveNumbers g) order (λ i h. rising-in (g .count) (liveAt g) i h .1) (rising-once (g .count) (liveAt g))
+    (order-each (g .variables) order o)

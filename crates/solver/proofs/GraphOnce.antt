@@ -1,5 +1,5 @@
--- Demand 3 over the plan of a valid graph: behind each key every live factor stands exactly once, every other key is cleared exactly once and the key
--- itself never. Assumes nothing.
+-- Demand 3 over the plan of a valid graph, along any order of its keys: behind each key every live factor stands exactly once, every other key is cleared
+-- exactly once and the key itself never. Assumes nothing.
 use mathlib.Core.Path.{_≡_, refl, sym, subst}
 use mathlib.Core.Bool.{Bool, true, false, cond}
 use mathlib.Core.List.{List, []}
@@ -13,13 +13,14 @@ use Rattle.factor.proofs.Fitting.{fits-key}
 use Rattle.graph.specs.Record.{factorAt, liveAt, valid, factorKeys}
 use Rattle.graph.specs.declared.Graph.{Graph}
 use Rattle.graph.proofs.Validity.{valid-factor, live-below}
-use Rattle.schedule.specs.Count.{count, In, from}
+use Rattle.schedule.specs.Count.{count, In, from, eachOnce}
 use Rattle.schedule.specs.Gather.{Gathered}
 use Rattle.schedule.specs.Once.{Once}
 use Rattle.schedule.proofs.Counts.{rising-yes, rising-once}
 use Rattle.schedule.proofs.Demand3 as schedule
 use Rattle.schedule.proofs.Demand3.{demand3}
-use Rattle.solver.specs.Plan.{liveNumbers, graphPlan}
+use Rattle.schedule.proofs.Orders.{order-each}
+use Rattle.solver.specs.Plan.{liveNumbers, graphPlan, planAlong}
 use Rattle.solver.proofs.Tables.{bounded}
 
 none-in : (j : ℕ) → In j [] → ⊥
@@ -40,11 +41,11 @@ low g v i j = go (ltb i (g .count)) refl
         j s
     go false e s = absurd (none-in j s)
 
-pub once : (g : Graph) → valid g ≡ true → (k : ℕ) → k < g .variables → (d : Gathered)
-    → Once (g .variables) (factorKeys g) (liveNumbers g) k (graphPlan g .forward) (graphPlan g .backward) (getD (graphPlan g .at-key) k d)
-unfolding graphPlan
-once g v k h d = demand3 (g .variables) (factorKeys g) (liveNumbers g) (from 0 (g .variables)) (rising-once (g .count) (liveAt g))
-    (λ f s j u. low g v f j u) (λ j. refl) k h d
+pub once : (g : Graph) (order : List ℕ) → valid g ≡ true → eachOnce (g .variables) order ≡ true → (k : ℕ) → k < g .variables → (d : Gathered)
+    → Once (g .variables) (factorKeys g) (liveNumbers g) k (planAlong g order .forward) (planAlong g order .backward) (getD (planAlong g order .at-key) k d)
+unfolding planAlong
+once g order v o k h d = demand3 (g .variables) (factorKeys g) (liveNumbers g) order (rising-once (g .count) (liveAt g))
+    (λ f s j u. low g v f j u) (order-each (g .variables) order o) k h d
 
 -- a live factor without keys is uncovered at every key
 pub keyless : (g : Graph) → valid g ≡ true → (i k : ℕ) → liveAt g i ≡ true → factorKeys g i ≡ [] → k < g .variables → (d : Gathered)

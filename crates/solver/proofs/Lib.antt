@@ -4,6 +4,8 @@ pub mod Answers
 pub mod GraphOnce
 pub mod Carriable
 pub mod Stages
+pub mod Cases
+pub mod Rising
 pub mod Refused
 pub mod Figures
 pub mod Telling

@@ -20,8 +20,9 @@ use Rattle.factor.proofs.Counting.{every-at}
 use Rattle.graph.specs.Record.{offset, valid}
 use Rattle.graph.specs.declared.Graph.{Graph}
 use Rattle.graph.specs.declared.refusal.Refusal.{Refusal}
-use Rattle.graph.specs.declared.refusal.Refusal.the-variants.{FactorStoreShort, StoreShort, NoSuchGraph}
+use Rattle.graph.specs.declared.refusal.Refusal.the-variants.{FactorStoreShort, StoreShort}
 use Rattle.graph.proofs.Validity.{valid-variables}
+use Rattle.schedule.specs.Count.{eachOnce}
 use Rattle.schedule.specs.Pass.{ClosedFactor, at}
 use Rattle.schedule.specs.Plan as schedule
 use Rattle.plan.specs.Pass.{messagesOf, msgAt}
@@ -54,18 +55,18 @@ use Rattle.marginals.specs.Marginals.{marginalNumbers, missingFrom, marginalsIn
 use Rattle.marginals.proofs.Rooms.{numbers-most}
 use Rattle.marginals.proofs.Gathering.{findable}
 use Rattle.factor.proofs.Laying.{lay-lay}
-use Rattle.solver.specs.Plan.{graphPlan}
+use Rattle.solver.specs.Plan.{planAlong, plannedAlong}
 use Rattle.solver.specs.Plan as spec
 use Rattle.solver.specs.declared.Arranged as calls
 use Rattle.solver.specs.declared.Outcome.the-variants as solver
-use Rattle.solver.specs.Run.{RunVerdict, refusal, refuse, first, second, third, carried, checked, figureOf, run, runVerdict}
+use Rattle.solver.specs.Run.{RunVerdict, refusal, refuse, first, second, third, carried, checked, figureOf, keyAt, runAlong, runVerdict}
 use Rattle.solver.specs.Stages.{Planned, RunReady, Enough, storesOf, ThirdPlanned, read}
 use Rattle.solver.specs.declared.run.Places.{Places}
 use Rattle.solver.specs.declared.run.Ran.{Ran}
 use Rattle.solver.specs.declared.run.Ended.the-variants.{Done}
 use Rattle.solver.specs.declared.run.Stores.the-variants as stores
-use Rattle.solver.proofs.Answers.{made-valid}
-use Rattle.solver.proofs.Carriable.{graph-runnable}
+use Rattle.solver.proofs.Answers.{made-of}
+use Rattle.solver.proofs.Carriable.{along-runnable}
 use Rattle.tables.specs.Heads.{Originals}
 
 -- ---- leaves
@@ -142,12 +143,12 @@ need-to-most g ms c (suc j) h =
     let small = products (rowsAt g ms j) (widthAt g ms j) (message-rows-most g ms c j (omega arith)) (message-kept g ms c j (omega arith) .total) in
     omega (arith, need-to-most g ms c j (omega arith), small .0, small .1, message-rows-most g ms c j (omega arith))
 
-need-most : (g : Graph) (ms : List ClosedFactor) → Carriable g ms → need g ms ≤ 66560
+pub need-most : (g : Graph) (ms : List ClosedFactor) → Carriable g ms → need g ms ≤ 66560
 unfolding need
 need-most g ms c = omega (arith, need-to-most g ms c (length ms) (omega arith), c .few)
 
 -- where a pass was stopped is one of its messages
-stop-from : (i : ℕ) (vs : List Outcome) (j : ℕ) (why : Refusal) → refusalFrom i vs ≡ refusedAt j why → j < i + length vs
+pub stop-from : (i : ℕ) (vs : List Outcome) (j : ℕ) (why : Refusal) → refusalFrom i vs ≡ refusedAt j why → j < i + length vs
 unfolding refusalFrom
 stop-from i [] j why e = absurd (let z : _≡_ {A = ℕ} 0 1 = cc in omega arith)
 stop-from i (pivot ∷ vs) j why e = let z : i ≡ j = cc in omega arith
@@ -190,6 +191,13 @@ module _ (g : Graph) (p : Plan) (pl : Planned g p (planIn (g .variables) p)) whe
   forward-most = need-most g (messagesOf (p .forward)) (forwards .1)
 
   -- a refused message has a step
+  pub step-forward : (factors : List Float) (j : ℕ) (why : Refusal) (r : Carried) → refusalIn r ≡ refusalFrom 0 (values g factors (messagesOf (p .forward)))
+      → r ≡ carried-pass.Refused j why
+      → at (messagesOf (p .forward)) j .step < g .variables
+  unfolding planIn
+  step-forward factors j why r et er = pl .runnable .forward-steps j
+      (omega (arith, stop-low g factors (p .forward) j why r et er, messages-length (p .forward)))
+
   pub step-fits : (factors : List Float) (j : ℕ) (why : Refusal) (r : Carried) → refusalIn r ≡ refusalFrom 0 (values g factors (messagesOf (p .backward)))
       → r ≡ carried-pass.Refused j why
       → at (messagesOf (p .backward)) j .step < g .variables
@@ -287,18 +295,18 @@ module _ (g : Graph) (p : Plan) (pl : Planned g p (planIn (g .variables) p)) whe
 
 -- ---- the stages in turn
 
-module _ (g : Graph) (q : schedule.Plan) (figure : ℕ) (factors messages marginals : List Float) where
+module _ (g : Graph) (key : ℕ → ℕ) (q : schedule.Plan) (figure : ℕ) (factors messages marginals : List Float) where
   abbrev fw : List Outcome
   fw = values g factors (q .forward)
 
   abbrev bw : List Outcome
   bw = values g factors (q .backward)
 
-  pub first-refused : (after : List Float) (j step : ℕ) (why : Refusal) (r : Carried) → refusalIn r ≡ refusalFrom 0 fw → r ≡ carried-pass.Refused j why → after
-      ≡ lay messages 0 (finishedNumbers fw) → step ≡ at (q .forward) j .step
-      → runVerdict (refusal figure why 1 step) after marginals ≡ carried g q figure factors messages marginals
+  pub first-refused : (after : List Float) (j k : ℕ) (why : Refusal) (r : Carried) → refusalIn r ≡ refusalFrom 0 fw → r ≡ carried-pass.Refused j why → after
+      ≡ lay messages 0 (finishedNumbers fw) → k ≡ key (at (q .forward) j .step)
+      → runVerdict (refusal figure why 1 k) after marginals ≡ carried g key q figure factors messages marginals
   unfolding carried first
-  first-refused after j step why r et er ea es =
+  first-refused after j k why r et er ea es =
       let s : refusalFrom 0 fw ≡ refusedAt j why = sym et ∙ ap refusalIn er in
       rw (s, es, ea, laid-first messages (finishedNumbers fw)) refl
 
@@ -314,16 +322,16 @@ module _ (g : Graph) (q : schedule.Plan) (figure : ℕ) (factors messages margin
     both = ea₂ ∙ rw ea₁ (lay-lay messages (finishedNumbers fw) 0 (omega arith) (finishedNumbers bw) _ eh)
         ∙ laid-first messages (finishedNumbers fw ++ finishedNumbers bw)
 
-    pub second-refused : (j step : ℕ) (why : Refusal) → r₂ ≡ carried-pass.Refused j why → step ≡ at (q .backward) j .step
-        → runVerdict (refusal figure why 2 (g .variables - 1 - step)) after₂ marginals ≡ carried g q figure factors messages marginals
+    pub second-refused : (j k : ℕ) (why : Refusal) → r₂ ≡ carried-pass.Refused j why → k ≡ key (g .variables - 1 - at (q .backward) j .step)
+        → runVerdict (refusal figure why 2 k) after₂ marginals ≡ carried g key q figure factors messages marginals
     unfolding carried first second
-    second-refused j step why er es =
+    second-refused j k why er es =
         let s : refusalFrom 0 bw ≡ refusedAt j why = sym et₂ ∙ ap refusalIn er in
         rw (through, s, es, both) refl
 
     pub third-told : (r : Ran) (marginals′ : List Float) → r₂ ≡ carried-pass.Done → runVerdict r after₂ marginals′
         ≡ third figure after₂ marginals (plannedMarginals g factors q) (missingFrom 0 (plannedMarginals g factors q))
-        → runVerdict r after₂ marginals′ ≡ carried g q figure factors messages marginals
+        → runVerdict r after₂ marginals′ ≡ carried g key q figure factors messages marginals
     unfolding carried first second
     third-told r marginals′ er e =
         let s : refusalFrom 0 bw ≡ none = sym et₂ ∙ ap refusalIn er in
@@ -359,9 +367,9 @@ enough-told g figure factors messages work marginals e = go (leb (offset g (g .c
     go false b ea eb z = absurd (let x : _≡_ {A = ℕ} 0 1 = cc in omega arith)
 
 -- the test is the definition's
-module _ (g : Graph) (q : schedule.Plan) (figure : ℕ) (factors messages marginals : List Float) (work : ℕ) where
+module _ (g : Graph) (key : ℕ → ℕ) (q : schedule.Plan) (figure : ℕ) (factors messages marginals : List Float) (work : ℕ) where
   pub short-checked : (why : Refusal) → storesOf g figure (length factors) (length messages) work (length marginals) ≡ stores.Refused why
-      → runVerdict (refusal figure why 1 0) messages marginals ≡ checked g q figure factors messages work marginals
+      → runVerdict (refusal figure why 1 0) messages marginals ≡ checked g key q figure factors messages work marginals
   unfolding storesOf checked
   short-checked why e = go (leb (offset g (g .count)) (length factors))
       (every (leb figure (length messages) ∷ leb work-numbers work ∷ leb (marginalNumbers g) (length marginals) ∷ [])) e
@@ -369,13 +377,13 @@ module _ (g : Graph) (q : schedule.Plan) (figure : ℕ) (factors messages margin
       go : (a b : Bool) → cond (not a) (stores.Refused FactorStoreShort) (cond (not b) (stores.Refused StoreShort) stores.Enough) ≡ stores.Refused why
           → runVerdict (refusal figure why 1 0) messages marginals
           ≡ cond (not a) (refuse figure FactorStoreShort 1 0 messages marginals)
-          (cond (not b) (refuse figure StoreShort 1 0 messages marginals) (carried g q figure factors messages marginals))
+          (cond (not b) (refuse figure StoreShort 1 0 messages marginals) (carried g key q figure factors messages marginals))
       go false b z = let x : why ≡ FactorStoreShort = cc in rw x
       go true false z = let x : why ≡ StoreShort = cc in rw x
       go true true z = absurd (let x : _≡_ {A = ℕ} 0 1 = cc in omega arith)
 
-  pub enough-checked : Enough g figure (length factors) (length messages) work (length marginals) → carried g q figure factors messages marginals
-      ≡ checked g q figure factors messages work marginals
+  pub enough-checked : Enough g figure (length factors) (length messages) work (length marginals) → carried g key q figure factors messages marginals
+      ≡ checked g key q figure factors messages work marginals
   unfolding checked every
   enough-checked e =
       rw (
@@ -417,17 +425,17 @@ all-ready g p forward-need figure keys heads keys′ heads′ pl eh ef fw b t bw
 
 -- ---- the run
 
-pub made-planned : (r : calls.Arranged) (g : Graph) → read r ≡ spec.planned g → Bounded (r .keys) (r .plan) → r .outcome ≡ solver.Done
-    → Planned g (r .plan) (graphPlan g)
-unfolding read spec.planned
-made-planned r g e b h =
-    let v : valid g ≡ true = made-valid r g e h in
-    let a : read r ≡ record { outcome = solver.Done; keys = g .variables; plan = graphPlan g } = e ∙ rw v refl in
+pub made-planned : (r : calls.Arranged) (g : Graph) (order : List ℕ) → read r ≡ plannedAlong g order → Bounded (r .keys) (r .plan)
+    → r .outcome ≡ solver.Done → Planned g (r .plan) (planAlong g order)
+unfolding read plannedAlong
+made-planned r g order e b h =
+    let of : (valid g ≡ true) × (eachOnce (g .variables) order ≡ true) = made-of g order r e h in
+    let a : read r ≡ spec.made g (planAlong g order) = e ∙ rw (of .0, of .1) refl in
     let k : r .keys ≡ g .variables = ap (λ (x : spec.Answer). x .keys) a in
     record {
       bounded = subst (λ (n : ℕ). Bounded n (r .plan)) k b;
       is = ap (λ (n : ℕ). planIn n (r .plan)) (sym k) ∙ ap (λ (x : spec.Answer). x .plan) a;
-      runnable = graph-runnable g v;
+      runnable = along-runnable g order (of .0) (of .1);
     }
 
 -- what the arrays hold is what they are said to hold
@@ -435,17 +443,12 @@ pub as-held : (g : Graph) (p : Plan) (q : schedule.Plan) → Planned g p q → P
 as-held g p q pl = record { bounded = pl .bounded; is = refl; runnable = rw (pl .is) (pl .runnable) }
 
 -- the plan is the graph's, and the figure that of its messages
-module _ (g : Graph) (p : Plan) (places : Places) (keys heads : List ℕ) (factors messages marginals : List Float) (work : ℕ) (pl : Planned g p (graphPlan g))
-    (ready : RunReady g (planIn (g .variables) p) places keys heads) where
-  pub run-made : (v : RunVerdict) → v ≡ checked g (planIn (g .variables) p) (places .figure) factors messages work marginals → v
-      ≡ run g factors messages work marginals
-  unfolding run figureOf
+module _ (g : Graph) (order : List ℕ) (p : Plan) (places : Places) (keys heads : List ℕ) (factors messages marginals : List Float) (work : ℕ)
+    (o : eachOnce (g .variables) order ≡ true) (pl : Planned g p (planAlong g order)) (ready : RunReady g (planIn (g .variables) p) places keys heads) where
+  pub run-made : (v : RunVerdict) → v ≡ checked g (keyAt order) (planIn (g .variables) p) (places .figure) factors messages work marginals → v
+      ≡ runAlong g order factors messages work marginals
+  unfolding runAlong figureOf
   run-made v e =
       let f : places .figure ≡ need g (planIn (g .variables) p .forward) + need g (planIn (g .variables) p .backward) = omega
       (arith, ready .forward-need-is, ready .figure-is) in
-      e ∙ rw (f, pl .is, pl .runnable .forward .sound) refl
-
-pub run-refused : (g : Graph) (factors messages marginals : List Float) (work : ℕ) (why : Refusal) → (valid g ≡ false) × (why ≡ NoSuchGraph)
-    → runVerdict (refusal 0 why 1 0) messages marginals ≡ run g factors messages work marginals
-unfolding run
-run-refused g factors messages marginals work why h = rw (h .1, h .0) refl
+      e ∙ rw (f, pl .is, pl .runnable .forward .sound, o) refl

@@ -40,40 +40,41 @@ module _ (m m′ r r′ : List Float) where
   thirds figure n n′ all none = record { answers = refl; found = marginalsIn all; laid = refl; laid′ = refl }
   thirds figure n n′ all (refusedAt k why) = refusals figure why 3 k n n′
 
-  seconds : (figure k : ℕ) (bw : List ClosedFactor) (n n′ : List Float) (s : FirstRefusal) (v v′ : RunVerdict) → Alike r r′ v v′
-      → Alike r r′ (second figure k bw n r s v) (second figure k bw n′ r′ s v′)
+  seconds : (figure k : ℕ) (key : ℕ → ℕ) (bw : List ClosedFactor) (n n′ : List Float) (s : FirstRefusal) (v v′ : RunVerdict) → Alike r r′ v v′
+      → Alike r r′ (second figure k key bw n r s v) (second figure k key bw n′ r′ s v′)
   unfolding second
-  seconds figure k bw n n′ none v v′ a = a
-  seconds figure k bw n n′ (refusedAt j why) v v′ a = refusals figure why 2 _ n n′
+  seconds figure k key bw n n′ none v v′ a = a
+  seconds figure k key bw n n′ (refusedAt j why) v v′ a = refusals figure why 2 _ n n′
 
-  firsts : (figure : ℕ) (fw : List ClosedFactor) (n n′ : List Float) (s : FirstRefusal) (v v′ : RunVerdict) → Alike r r′ v v′
-      → Alike r r′ (first figure fw n r s v) (first figure fw n′ r′ s v′)
+  firsts : (figure : ℕ) (key : ℕ → ℕ) (fw : List ClosedFactor) (n n′ : List Float) (s : FirstRefusal) (v v′ : RunVerdict) → Alike r r′ v v′
+      → Alike r r′ (first figure key fw n r s v) (first figure key fw n′ r′ s v′)
   unfolding first
-  firsts figure fw n n′ none v v′ a = a
-  firsts figure fw n n′ (refusedAt j why) v v′ a = refusals figure why 1 _ n n′
+  firsts figure key fw n n′ none v v′ a = a
+  firsts figure key fw n n′ (refusedAt j why) v v′ a = refusals figure why 1 _ n n′
 
-  carries : (g : Graph) (p : schedule.Plan) (figure : ℕ) (factors : List Float) → Alike r r′ (carried g p figure factors m r) (carried g p figure factors m′ r′)
+  carries : (g : Graph) (key : ℕ → ℕ) (p : schedule.Plan) (figure : ℕ) (factors : List Float)
+      → Alike r r′ (carried g key p figure factors m r) (carried g key p figure factors m′ r′)
   unfolding carried
-  carries g p figure factors = firsts figure (p .forward) _ _ _ _ _ (seconds figure (g .variables) (p .backward) _ _ _ _ _ (thirds figure _ _ _ _))
+  carries g key p figure factors = firsts figure key (p .forward) _ _ _ _ _ (seconds figure (g .variables) key (p .backward) _ _ _ _ _ (thirds figure _ _ _ _))
 
-  module _ (g : Graph) (p : schedule.Plan) (figure : ℕ) (factors : List Float) (work : ℕ) where
+  module _ (g : Graph) (key : ℕ → ℕ) (p : schedule.Plan) (figure : ℕ) (factors : List Float) (work : ℕ) where
     -- `checked`, with the lengths of the two stores apart
     abbrev by : (lm lr : ℕ) (n s : List Float) → RunVerdict
     by lm lr n s =
         cond (not (leb (offset g (g .count)) (length factors))) (refuse figure FactorStoreShort 1 0 n s)
         (cond (not (every (leb figure lm ∷ leb work-numbers work ∷ leb (marginalNumbers g) lr ∷ []))) (refuse figure StoreShort 1 0 n s)
-        (carried g p figure factors n s))
+        (carried g key p figure factors n s))
 
-    checks : length m ≡ length m′ → length r ≡ length r′ → Alike r r′ (checked g p figure factors m work r) (checked g p figure factors m′ work r′)
+    checks : length m ≡ length m′ → length r ≡ length r′ → Alike r r′ (checked g key p figure factors m work r) (checked g key p figure factors m′ work r′)
     unfolding checked
     checks e f =
         subst₂ (λ (lm lr : ℕ). Alike r r′ (by (length m) (length r) m r) (by lm lr m′ r′)) e f
         (either (not (leb (offset g (g .count)) (length factors))) _ _ _ _ (refusals figure FactorStoreShort 1 0 m m′)
         (either (not (every (leb figure (length m) ∷ leb work-numbers work ∷ leb (marginalNumbers g) (length r) ∷ []))) _ _ _ _
-        (refusals figure StoreShort 1 0 m m′) (carries g p figure factors)))
+        (refusals figure StoreShort 1 0 m m′) (carries g key p figure factors)))
 
   pub run-lengths : (g : Graph) (factors : List Float) (work : ℕ) → length m ≡ length m′ → length r ≡ length r′
       → Alike r r′ (run g factors m work r) (run g factors m′ work r′)
   unfolding run
   run-lengths g factors work e f = either (not (valid g)) _ _ _ _ (refusals 0 NoSuchGraph 1 0 m m′)
-      (checks g (graphPlan g) (figureOf g (graphPlan g)) factors work e f)
+      (checks g (λ place. place) (graphPlan g) (figureOf g (graphPlan g)) factors work e f)

@@ -5,6 +5,8 @@ use factor::limits::KEYS;
 use factor::limits::SIZE;
 use factor::limits::TOTAL;
 use factor::limits::VARIABLES;
+use factor::lists::least;
+use factor::wide;
 use graph::Graph;
 use graph::refusal::Refusal;
 use lists::BACKWARD;
@@ -15,6 +17,7 @@ use messages::place_pass;
 use plan::gather::Gathered;
 use plan::pass::Pass;
 use plan::plan::Plan;
+use plan::plan::rise;
 use slots::limits::HEAD;
 use tables::fill_originals;
 use workspace::WORK;
@@ -173,9 +176,19 @@ fn third_stage<'a>(
     }
 }
 
-// The plan is carried out: the forward pass, the backward pass, the marginals. The backward pass visits keys from n - 1 down: its step t is key n - 1 - t.
+// The key at a place of the order.
+fn key_at(order: &[u8], place: usize) -> usize
+    requires { ⌜ place < length (now order) ⌝ }
+    ensures { λ r. ⌜ r ≡ spec.keyAt (now (order .entry)) place ⌝ }
+{
+    wide(order[place])
+}
+
+// The plan is carried out: the forward pass, the backward pass, the marginals. The forward pass follows the order, the backward pass reverses it: its step t
+// is the key at the place n - 1 - t.
 fn carry_out(
     g: Graph,
+    order: &[u8],
     p: Plan,
     places: Places,
     factors: &[f64],
@@ -187,8 +200,10 @@ fn carry_out(
 ) -> Ran
     requires { ⌜ stages.Planned g p (planIn (g .variables) p) × stages.RunReady g (planIn (g .variables) p) places (now keys) (now heads) ⌝ }
     requires { ⌜ stages.Enough g (places .figure) (length (now factors)) (length (now messages)) (length (now work)) (length (now marginals)) ⌝ }
+    requires { ⌜ length (now order) ≡ g .variables ⌝ }
     ensures { λ r. ⌜ runVerdict r (now (messages .exit)) (now (marginals .exit)) ≡
-        spec.carried g (planIn (g .variables) p) (places .figure) (now (factors .entry)) (now (messages .entry)) (now (marginals .entry)) ⌝ }
+        spec.carried g (spec.keyAt (now (order .entry))) (planIn (g .variables) p) (places .figure) (now (factors .entry)) (now (messages .entry))
+        (now (marginals .entry)) ⌝ }
 {
     let n = g.variables;
     let fw = p.forward;
@@ -198,7 +213,7 @@ fn carry_out(
     let figure = places.figure;
     match carry_pass(g, fw, 0, 0, factors, messages, work, keys, heads) {
         Carried::Done => {}
-        Carried::Refused(j, why) => return refused(figure, why, 1, step_of(fw, j)),
+        Carried::Refused(j, why) => return refused(figure, why, 1, key_at(order, step_of(fw, j))),
     }
     match carry_pass(
         g,
@@ -212,7 +227,9 @@ fn carry_out(
         heads,
     ) {
         Carried::Done => {}
-        Carried::Refused(j, why) => return refused(figure, why, 2, n - 1 - step_of(bw, j)),
+        Carried::Refused(j, why) => {
+            return refused(figure, why, 2, key_at(order, n - 1 - step_of(bw, j)));
+        }
     }
     third_stage(
         g,
@@ -227,21 +244,22 @@ fn carry_out(
     )
 }
 
-// The run of a graph: its plan is made and placed, which gives the figure; the stores are tested; then both passes and the marginals are
-// carried out. Each refusal comes with the figure, the stage and the key.
-pub fn run(
+// The run of a graph along a lent order of its keys: its plan is made and placed, which gives the figure; the stores are tested; then both
+// passes and the marginals are carried out. Each refusal comes with the figure, the stage and the key.
+pub fn run_along(
     g: Graph,
+    order: &[u8],
     factors: &[f64],
     messages: &mut [f64],
     work: &mut [f64],
     marginals: &mut [f64],
 ) -> Ran
     ensures { λ r. ⌜ runVerdict r (now (messages .exit)) (now (marginals .exit)) ≡
-        spec.run g (now (factors .entry)) (now (messages .entry)) (length (now (work .entry))) (now (marginals .entry)) ⌝ }
-    ensures { λ r. ⌜ ranTold r ≡
-        ranTold (spec.run g (now (factors .entry)) (now (messages .entry)) (length (now (work .entry))) (now (marginals .entry)) .answer) ⌝ }
+        spec.runAlong g (now (order .entry)) (now (factors .entry)) (now (messages .entry)) (length (now (work .entry))) (now (marginals .entry)) ⌝ }
+    ensures { λ r. ⌜ ranTold r ≡ ranTold (spec.runAlong g (now (order .entry)) (now (factors .entry)) (now (messages .entry))
+        (length (now (work .entry))) (now (marginals .entry)) .answer) ⌝ }
 {
-    let made = crate::arrange(g);
+    let made = crate::arrange_along(g, order);
     let outcome = made.outcome;
     match outcome {
         Outcome::Refused(why) => return refused(0, why, 1, 0),
@@ -265,6 +283,7 @@ pub fn run(
     }
     carry_out(
         g,
+        order,
         p,
         places,
         factors,
@@ -272,6 +291,31 @@ pub fn run(
         work,
         &keys,
         &heads,
+        marginals,
+    )
+}
+
+// The same with keys rising.
+pub fn run(
+    g: Graph,
+    factors: &[f64],
+    messages: &mut [f64],
+    work: &mut [f64],
+    marginals: &mut [f64],
+) -> Ran
+    ensures { λ r. ⌜ runVerdict r (now (messages .exit)) (now (marginals .exit)) ≡
+        spec.run g (now (factors .entry)) (now (messages .entry)) (length (now (work .entry))) (now (marginals .entry)) ⌝ }
+    ensures { λ r. ⌜ ranTold r ≡
+        ranTold (spec.run g (now (factors .entry)) (now (messages .entry)) (length (now (work .entry))) (now (marginals .entry)) .answer) ⌝ }
+{
+    let mut order = [0u8; VARIABLES];
+    rise(&mut order);
+    run_along(
+        g,
+        &order[0..least(VARIABLES, g.variables)],
+        factors,
+        messages,
+        work,
         marginals,
     )
 }

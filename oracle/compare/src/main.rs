@@ -6,6 +6,7 @@ use std::collections::BTreeMap;
 use std::path::Path;
 use std::process::ExitCode;
 
+use compare::dealing::dealt;
 use compare::jobs::superseding::{is_superseding, without};
 use compare::jobs::{self, Kind};
 use compare::outcome::{Outcome, compare};
@@ -44,27 +45,14 @@ fn main() -> ExitCode {
     let folder = words.get(3).map_or(".", |word| word);
     // The original panics outside the domain; a panic inside is counted as a difference.
     std::panic::set_hook(Box::new(|_| {}));
-    let counts = all(seed, count, number(2).unwrap_or(1), Path::new(folder));
+    let counts = dealt(count, number(2).unwrap_or(1), |numbers| some(seed, numbers, Path::new(folder)));
     println!("seed {seed}, {count} jobs");
     report(&counts)
 }
 
-/// Every job, dealt out to the threads in turn.
-fn all(seed: u64, count: u64, threads: u64, folder: &Path) -> Counts {
-    std::thread::scope(|scope| {
-        let workers: Vec<_> =
-            (0..threads).map(|first| scope.spawn(move || some(seed, first, count, threads, folder))).collect();
-        let mut all = Counts::new();
-        for worker in workers {
-            worker.join().unwrap().into_iter().for_each(|(key, n)| *all.entry(key).or_default() += n);
-        }
-        all
-    })
-}
-
-fn some(seed: u64, first: u64, count: u64, threads: u64, folder: &Path) -> Counts {
+fn some(seed: u64, numbers: impl Iterator<Item = u64>, folder: &Path) -> Counts {
     let mut counts = Counts::new();
-    for number in (first..count).step_by(threads as usize) {
+    for number in numbers {
         let (kind, job) = jobs::draw(seed, number);
         nearest();
         let outcome = compare(&job);

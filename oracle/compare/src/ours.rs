@@ -28,6 +28,32 @@ unsafe extern "C" {
     fn strips_plan(job: *const u8, job_length: usize, times: usize) -> usize;
     fn strips_root(pivot: f64) -> f64;
     fn strips_lookup(keys: *const u8, key_count: usize, key: usize) -> usize;
+    fn strips_ordered(
+        job: *const u8,
+        job_length: usize,
+        order: *const u8,
+        order_length: usize,
+        out: *mut u8,
+        out_length: usize,
+    ) -> usize;
+    fn strips_ordered_plan(
+        job: *const u8,
+        job_length: usize,
+        order: *const u8,
+        order_length: usize,
+        out: *mut u8,
+        out_length: usize,
+    ) -> usize;
+    fn strips_ordered_run(
+        job: *const u8,
+        job_length: usize,
+        order: *const u8,
+        order_length: usize,
+        messages: *mut f64,
+        message_length: usize,
+        marginals: *mut f64,
+        marginal_length: usize,
+    ) -> usize;
 }
 
 /// Room for the longest text.
@@ -100,6 +126,41 @@ pub fn eliminate(job: &[u8], slots: &[usize], kept: &[usize], cleared: &[usize],
             cleared.len(),
             messages.as_mut_ptr(),
             messages.len(),
+        )
+    }
+}
+
+/// Room for every text of a job or of a plan under an order.
+pub const TEXT: usize = 65_536;
+
+/// What a text call answers where the buffer is too short.
+pub const TOO_LONG: usize = usize::MAX;
+
+/// Lays what a job prints under an order at the start of a buffer; its length.
+pub fn ordered(job: &[u8], order: &[u8], out: &mut [u8]) -> usize {
+    // Each is lent whole, with its own length.
+    unsafe { strips_ordered(job.as_ptr(), job.len(), order.as_ptr(), order.len(), out.as_mut_ptr(), out.len()) }
+}
+
+/// Lays the plan of a job under an order at the start of a buffer; its length.
+pub fn ordered_plan(job: &[u8], order: &[u8], out: &mut [u8]) -> usize {
+    // Each is lent whole, with its own length.
+    unsafe { strips_ordered_plan(job.as_ptr(), job.len(), order.as_ptr(), order.len(), out.as_mut_ptr(), out.len()) }
+}
+
+/// Runs a job under an order: the figure times 2^32, and the number of a refusal or 0.
+pub fn ordered_run(job: &[u8], order: &[u8], messages: &mut [f64], marginals: &mut [f64]) -> usize {
+    // Each is lent whole, with its own length.
+    unsafe {
+        strips_ordered_run(
+            job.as_ptr(),
+            job.len(),
+            order.as_ptr(),
+            order.len(),
+            messages.as_mut_ptr(),
+            messages.len(),
+            marginals.as_mut_ptr(),
+            marginals.len(),
         )
     }
 }

@@ -4,7 +4,7 @@ use std::panic::catch_unwind;
 use oracle::cases::Job;
 use oracle::graph::numbers;
 use oracle::job::{self, FACTOR_STORE, MESSAGE_STORE, Read};
-use oracle::run::{End, expected, lines, parts, run};
+use oracle::run::{End, expected, lines, run};
 use oracle::solver::Smoother;
 
 use crate::ours;
@@ -81,19 +81,17 @@ fn same_run(bytes: &[u8]) -> bool {
     let mut messages = [f64::from_bits(UNTOUCHED); MESSAGE_STORE];
     let mut marginals = [f64::from_bits(UNTOUCHED); ours::MARGINALS];
     ours::repeat(bytes, 1, &mut messages, &mut marginals);
-    let finished = wanted.forward.iter().chain(&wanted.backward).map(|message| parts(&message.factor));
-    let found = if wanted.end.is_none() { &wanted.marginals[..] } else { &[] };
-    begins_with(&messages, &finished.map(|(a, xi, w)| [a, xi, w].concat()).collect::<Vec<_>>().concat())
-        && begins_with(
-            &marginals,
-            &found.iter().map(|m| [&m.mean.data[..], &m.cov.data[..]].concat()).collect::<Vec<_>>().concat(),
-        )
+    begins_with(&messages, &wanted.message_numbers()) && begins_with(&marginals, &wanted.marginal_numbers())
 }
 
 /// These numbers, bit by bit, and nothing written behind them.
-fn begins_with(store: &[f64], wanted: &[f64]) -> bool {
-    let Some((taken, rest)) = store.split_at_checked(wanted.len()) else { return false };
-    taken.iter().zip(wanted).all(|(x, y)| x.to_bits() == y.to_bits()) && rest.iter().all(|x| x.to_bits() == UNTOUCHED)
+pub fn begins_with(store: &[f64], wanted: &[f64]) -> bool {
+    starts_with(store, wanted) && store[wanted.len()..].iter().all(|x| x.to_bits() == UNTOUCHED)
+}
+
+/// These numbers, bit by bit.
+pub fn starts_with(store: &[f64], wanted: &[f64]) -> bool {
+    wanted.len() <= store.len() && store.iter().zip(wanted).all(|(x, y)| x.to_bits() == y.to_bits())
 }
 
 /// How the original's own run, which document 01 doesn't follow there, compares with ours.

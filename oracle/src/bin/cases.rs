@@ -1,10 +1,11 @@
 //! cases FOLDER
 //!
-//! Writes the recorded jobs into the folder: `cases.txt`, and `README.md` that says how it was made.
+//! Writes the recorded jobs into the folder: `cases.txt`, and `README.md` that says how it was made. The latter also lists the jobs under
+//! an order, which `ordered_cases` writes.
 use std::path::Path;
 use std::process::ExitCode;
 
-use oracle::cases::{all, figures, write};
+use oracle::cases::{all, figures, kind, ordered, write};
 use oracle::input::UNUSABLE;
 
 fn main() -> ExitCode {
@@ -26,10 +27,19 @@ fn make(folder: &Path) -> std::io::Result<()> {
     let rows: String = figures(&cases).iter().map(|(kind, count)| format!("| {kind} | {count} |\n")).collect();
     std::fs::create_dir_all(folder)?;
     std::fs::write(folder.join("cases.txt"), write(&cases))?;
-    std::fs::write(folder.join("README.md"), format!("{README}{rows}"))?;
+    std::fs::write(folder.join("README.md"), format!("{README}{rows}{ORDERED}{}", ordered_rows()))?;
     print!("{rows}");
     println!("{} cases", cases.len());
     Ok(())
+}
+
+/// Number and name of each job under an order, the figure told and what is printed.
+fn ordered_rows() -> String {
+    let row = |(number, case): (usize, &ordered::OrderedCase)| {
+        let told = case.told();
+        format!("| {number} | {} | {} | {} |\n", case.name, told.figure, kind(&told.text))
+    };
+    ordered::all().iter().enumerate().map(row).collect()
 }
 
 const README: &str = "\
@@ -53,4 +63,19 @@ The same bytes come out every time; `cargo test` compares them with this file.
 
 | Printed | Cases |
 |---|---|
+";
+
+const ORDERED: &str = "
+## Jobs under an order
+
+`../../crates/ordered/stdin` holds jobs, each with a lent order of its keys (C-16), and `stdout` beside it what the program `ordered` must
+print. A case is the order and then the job, each behind the count of its bytes; a count takes two bytes, the lower one first. Printed are
+a line `figure` with the figure that the run answers, what `strips` would print under the order, and the text of the plan.
+
+Made as above, by another program; each answer is that of `oracle::order`:
+
+    cargo run --release --offline --bin ordered_cases -- ../crates/ordered
+
+| Case | Name | Figure | Printed |
+|---|---|---|---|
 ";

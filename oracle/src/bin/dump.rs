@@ -1,8 +1,8 @@
 //! dump [PATH [ORDER]]
 //!
 //! Shows what stands behind a job's answer: stored factors, both passes, what each key gathers, and the marginals or the
-//! failure; every number as 16 hexadecimal digits, matrices column by column. The path `-` is standard input. ORDER is each
-//! key once, as `2,0,1`: the forward pass follows it, the backward pass reverses it.
+//! failure; every number as 16 hexadecimal digits, matrices column by column. The path `-` is standard input. ORDER is the lent
+//! order of keys, as `2,0,1`: the forward pass follows it, the backward pass reverses it. Without it keys rise.
 use std::process::ExitCode;
 
 use oracle::gaussian::Factor;
@@ -10,6 +10,7 @@ use oracle::gaussian::shown::{self, Shown};
 use oracle::graph::Graph;
 use oracle::input::{self, OUTSIDE, UNUSABLE};
 use oracle::job;
+use oracle::order::{UNLIKE, keys};
 use oracle::plan::{Elimination, Gathered, Message};
 use oracle::run::{End, Run, digits, lines, parts, run};
 use oracle::solver::{ClosedFactor, Slot};
@@ -26,9 +27,16 @@ fn main() -> ExitCode {
         println!("{refusal}");
         return ExitCode::SUCCESS;
     }
-    match order(arguments.next().map(|text| text.to_string_lossy().into_owned()), graph.all.n_keys()) {
+    let rising: Vec<u8> = graph.all.keys().map(|key| key as u8).collect();
+    let Some(order) = arguments.next().map_or(Some(rising), |text| parse(&text.to_string_lossy())) else {
+        return unusable("the order isn't a list of keys, as 2,0,1");
+    };
+    match keys(&order, graph.all.n_keys()) {
         Some(order) => show_run(&run(&graph, &order), &order),
-        None => unusable("the order isn't each key exactly once"),
+        None => {
+            println!("{UNLIKE}");
+            ExitCode::SUCCESS
+        }
     }
 }
 
@@ -37,14 +45,10 @@ fn unusable(why: &str) -> ExitCode {
     ExitCode::from(UNUSABLE)
 }
 
-/// Keys rising where no order is named; none where it isn't each key exactly once.
-fn order(text: Option<String>, keys: usize) -> Option<Vec<usize>> {
-    let rising: Vec<usize> = (0..keys).collect();
-    let Some(text) = text else { return Some(rising) };
-    let named: Vec<usize> = text.split(',').map(|key| key.trim().parse().ok()).collect::<Option<_>>()?;
-    let mut sorted = named.clone();
-    sorted.sort();
-    (sorted == rising).then_some(named)
+/// An order's bytes; none where a word isn't one.
+fn parse(text: &str) -> Option<Vec<u8>> {
+    let words = text.split(',').map(str::trim);
+    if text.is_empty() { Some(Vec::new()) } else { words.map(|key| key.parse().ok()).collect() }
 }
 
 fn show_factors(graph: &Graph) {

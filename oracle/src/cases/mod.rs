@@ -5,6 +5,8 @@
 mod flags;
 pub mod graphs;
 pub mod limits;
+pub mod ordered;
+pub mod orders;
 mod pairs;
 mod random;
 mod reading;
@@ -136,12 +138,16 @@ fn record(digits: &str) -> Option<Vec<u8>> {
 
 /// How many cases print marginals, nothing, or each refusal at each stage.
 pub fn figures(cases: &[Case]) -> Vec<(String, usize)> {
-    let kind = |case: &Case| match case.prints.split(' ').collect::<Vec<_>>()[..] {
+    let mut kinds: Vec<String> = cases.iter().map(|case| kind(&case.prints)).collect();
+    kinds.sort();
+    kinds.chunk_by(|a, b| a == b).map(|same| (same[0].clone(), same.len())).collect()
+}
+
+/// Marginals, nothing, or the refusal and its stage.
+pub fn kind(prints: &str) -> String {
+    match prints.split(' ').collect::<Vec<_>>()[..] {
         ["refused", number, stage, _] => format!("refused {number:>2} at stage {stage}"),
         [""] => "nothing printed".to_string(),
         _ => "marginals".to_string(),
-    };
-    let mut kinds: Vec<String> = cases.iter().map(kind).collect();
-    kinds.sort();
-    kinds.chunk_by(|a, b| a == b).map(|same| (same[0].clone(), same.len())).collect()
+    }
 }

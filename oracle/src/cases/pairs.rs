@@ -14,12 +14,12 @@ pub fn add(cases: &mut Cases) {
     slips(cases);
 }
 
-fn three_priors() -> Job {
+pub(super) fn three_priors() -> Job {
     let priors = (0..3).fold(Job::with(&[1, 1]), |job, _| job.prior(0, &[0.0], &[1.0]));
     priors.observation(&[0, 1], &[-1.0, 1.0], &[4.0], &[1.0])
 }
 
-fn keyless_first() -> Job {
+pub(super) fn keyless_first() -> Job {
     let job = Job::with(&[1]).unit_observation(&[], &[], &[3.0]);
     job.variable(1).prior(0, &[1.0], &[0.5]).unit_observation(&[0, 1], &[0.5, 0.25], &[4.0])
 }

@@ -12,7 +12,7 @@ pub fn add(cases: &mut Cases) {
 }
 
 /// Keys of size 1, each but these with a prior.
-fn free(count: usize, without: &[usize]) -> Job {
+pub(super) fn free(count: usize, without: &[usize]) -> Job {
     let held = (0..count).filter(|key| !without.contains(key));
     held.fold(Job::with(&vec![1; count]), |job, key| job.plain_prior(key, 1.0))
 }

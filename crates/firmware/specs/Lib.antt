@@ -1,2 +1,0 @@
--- The definitions that the contracts of `firmware` cite.
-pub mod Firmware
