@@ -19,7 +19,6 @@ pub enum Reason {
     ClearedPivot = 15,
     MarginalPivot = 16,
     ResultNotFinite = 17,
-    CountedTwice = 18,
     NotLive = 19,
     NotSymmetric = 20,
     OrderUnlike = 21,

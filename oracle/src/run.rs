@@ -161,7 +161,7 @@ fn close(
     Ok(ClosedFactor { factor, content: message.content.clone(), step: message.step })
 }
 
-/// One key: 18, then 15 and 17 of the last elimination, then 16 and 17 of the marginal.
+/// One key: 15 and 17 of the last elimination, then 16 and 17 of the marginal.
 fn marginal(
     graph: &FactorGraph<f64>,
     gathered: &Gathered,
@@ -170,9 +170,6 @@ fn marginal(
 ) -> Result<Marginal<f64>, End> {
     let key = gathered.key;
     let refuse = |reason| refused(reason, Stage::Marginals, key);
-    if has_repeat(&gathered.leaves) {
-        return Err(refuse(Reason::CountedTwice));
-    }
     let mut slots: Vec<FactorView<f64>> = Vec::new();
     slots.extend(gathered.forward.iter().map(|&j| FactorView::from(&forward[j].factor)));
     slots.extend(gathered.backward.iter().map(|&j| FactorView::from(&backward[j].factor)));
@@ -183,10 +180,6 @@ fn marginal(
         return Err(refuse(Reason::ResultNotFinite));
     }
     Ok(marginal)
-}
-
-fn has_repeat(leaves: &[usize]) -> bool {
-    (1..leaves.len()).any(|at| leaves[..at].contains(&leaves[at]))
 }
 
 /// The original's elimination. It fails only on a refused pivot, so what it computes is looked at here.

@@ -29,7 +29,7 @@ computedCalls n cs = built n cs
 
 -- the run
 unfoldable pub computedRun : Graph → List Float → List Float → ℕ → List Float → RunVerdict
-unfolding run runs.checked runs.carried runs.first runs.second runs.third runs.figureOf startOf found.twice found.gatheredViews found.foundBy
+unfolding run runs.checked runs.carried runs.first runs.second runs.third runs.figureOf startOf found.gatheredViews found.foundBy
     found.foundIn found.marginal found.marginalsFrom found.missingFrom found.marginalsIn planned graphPlan schedule.plan counts.sumOver factorKeys
     counts.risingWhere counts.keep counts.from
     need needTo rowsTo rowsIn slotRows values.messageView values.slotView values.messageMade values.valuesTo values.values values.refusalFrom

@@ -113,7 +113,6 @@ module _ (cs : List Call) where
               by-answer (λ (a : Answer). Rests (keysAnswered fresh cs) (live fresh cs) (a .plan) k (getD (a .plan .at-key) k d))
               (rests g (keysAnswered fresh cs) (live fresh cs) (keys-are cs) (live-are cs) (given-are cs) p k
               (getD (p .at-key) k d) l (once g order sound o k l d));
-          never-twice = λ factors messages work marginals. run-carries g order factors messages work marginals .never-twice;
           exact =
               λ factors messages work marginals e. by-answer (λ (a : Answer). Exact g (a .plan) factors messages marginals
               (runAlong g order factors messages work marginals))

@@ -3,6 +3,7 @@ pub mod Calls
 pub mod Carrying
 pub mod Demand3
 pub mod Orders
+pub mod Retired
 pub mod Computing
 pub mod NoKeys
 pub mod Jobs

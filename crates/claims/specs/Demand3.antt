@@ -7,21 +7,19 @@ use mathlib.Core.List.{List, [], _∷_, _++_, map, List·Memᴰ}
 use Prim.Native.Nat.{ℕ, _+_, _≤_}
 use lib.ListN.{length, getD}
 use lib.Ieee.{Float}
-use Rattle.graph.specs.Record.{sizeAt, fresh}
+use Rattle.graph.specs.Record.{fresh}
 use Rattle.graph.specs.Reached.{Call, answered, keysGiven, numbersNamed, graphAfter, yields}
 use Rattle.graph.specs.declared.Graph.{Graph}
 use Rattle.graph.specs.declared.Outcome.{Outcome}
 use Rattle.graph.specs.declared.Outcome.the-variants.{Key, Number, Refused}
-use Rattle.graph.specs.declared.refusal.Refusal.the-variants.{CountedTwice}
 use Rattle.schedule.specs.Count.{count, In, mem, keep, joined}
 use Rattle.schedule.specs.Pass.{ClosedFactor, at}
 use Rattle.schedule.specs.Gather.{Gathered, leaves}
 use Rattle.schedule.specs.Once.{behind, AllUnder, clearedBy}
 use Rattle.schedule.specs.Plan as schedule
-use Rattle.gaussian.specs.Elimination as gaussian
 use Rattle.messages.specs.Values.{none, values, refusalFrom, finishedNumbers, overlaid}
 use Rattle.solver.specs.Plan.{Answer, planned, plannedAlong}
-use Rattle.marginals.specs.Marginals.{Found, foundIn, gatheredViews, missingFrom, marginalsIn}
+use Rattle.marginals.specs.Marginals.{plannedMarginals, missingFrom, marginalsIn}
 use Rattle.solver.specs.Run.{RunVerdict, run, runAlong}
 use Rattle.solver.specs.declared.Outcome.the-variants as plans
 use Rattle.solver.specs.declared.run.Ended.the-variants as ended
@@ -104,25 +102,14 @@ pub record Rests (keys : List ℕ) (factors : List Accepted) (p : schedule.Plan)
 
 -- ---- what is claimed of a run
 
--- what the last elimination of the key k comes to, which keeps k alone and clears the plan's other keys from what k gathered
-unfoldable pub solvedAt : (g : Graph) (factors : List Float) (p : schedule.Plan) (k : ℕ) (q : Gathered) → Found
-solvedAt g factors p k q =
-    foundIn (sizeAt g k)
-    (gaussian.eliminate (gatheredViews g factors p (values g factors (p .forward)) (values g factors (p .backward)) q) (k ∷ []) (q .last) (g .sizes))
-
--- of all keys from k on
-unfoldable pub solvedFrom : (g : Graph) (factors : List Float) (p : schedule.Plan) (k : ℕ) (qs : List Gathered) → List Found
-solvedFrom g factors p k [] = []
-solvedFrom g factors p k (q ∷ qs) = solvedAt g factors p k q ∷ solvedFrom g factors p (k + 1) qs
-
 -- The stores after an unrefused run: no elimination of the plan is refused, and what stands in the stores is what they come to from the factor store. Past
 -- that the stores are as they were.
 pub record Exact (g : Graph) (p : schedule.Plan) (factors messages marginals : List Float) (v : RunVerdict) : Type 0 where
   pub forward-made : refusalFrom 0 (values g factors (p .forward)) ≡ none
   pub backward-made : refusalFrom 0 (values g factors (p .backward)) ≡ none
   pub messages-are : v .messages ≡ overlaid messages (finishedNumbers (values g factors (p .forward)) ++ finishedNumbers (values g factors (p .backward)))
-  pub all-found : missingFrom 0 (solvedFrom g factors p 0 (p .at-key)) ≡ none
-  pub marginals-are : v .marginals ≡ overlaid marginals (marginalsIn (solvedFrom g factors p 0 (p .at-key)))
+  pub all-found : missingFrom 0 (plannedMarginals g factors p) ≡ none
+  pub marginals-are : v .marginals ≡ overlaid marginals (marginalsIn (plannedMarginals g factors p))
 
 -- ---- the demand
 
@@ -142,9 +129,6 @@ pub record Smooths (cs : List Call) (answer : Answer) (ran : (factors messages :
   -- behind each registered key stands the whole graph, once
   pub rests : (k : ℕ) → In k (keysAnswered fresh cs) → (d : Gathered)
       → Rests (keysAnswered fresh cs) (live fresh cs) (answer .plan) k (getD (answer .plan .at-key) k d)
-  -- no run gives the double-count refusal, whatever stores it is lent
-  pub never-twice : (factors messages : List Float) (work : ℕ) (marginals : List Float) (stage key : ℕ)
-      → ran factors messages work marginals .answer .ended ≢ ended.Refused CountedTwice stage key
   -- an unrefused run's messages, means and covariances are those that the plan's eliminations give from its factor store
   pub exact : (factors messages : List Float) (work : ℕ) (marginals : List Float) → ran factors messages work marginals .answer .ended ≡ ended.Done
       → Exact (graphOf cs) (answer .plan) factors messages marginals (ran factors messages work marginals)

@@ -4,7 +4,7 @@ use Rattle.graph.specs.declared.refusal.Refusal.{Refusal}
 use Rattle.graph.specs.declared.refusal.Refusal.the-variants.{NeitherKeptNorCleared, NotALetter, SizeOutside, KeysNotRising, CountOutside}
 use Rattle.graph.specs.declared.refusal.Refusal.the-variants.{LengthUnlike, NotFinite, VariancePivot, BadRecord, KeptAndCleared, NameTaken, NoSuchKey}
 use Rattle.graph.specs.declared.refusal.Refusal.the-variants.{PastLimit, FactorStoreShort, StoreShort, ClearedPivot, MarginalPivot}
-use Rattle.graph.specs.declared.refusal.Refusal.the-variants.{ResultNotFinite, CountedTwice, NotLive, NotSymmetric, OrderUnlike, NoSuchGraph}
+use Rattle.graph.specs.declared.refusal.Refusal.the-variants.{ResultNotFinite, NotLive, NotSymmetric, OrderUnlike, NoSuchGraph}
 
 abbrev pub refusalNumber : Refusal → ℕ
 -- a direct elimination meets a key that is neither kept nor cleared
@@ -32,7 +32,7 @@ refusalNumber StoreShort = 14
 refusalNumber ClearedPivot = 15
 refusalNumber MarginalPivot = 16
 refusalNumber ResultNotFinite = 17
-refusalNumber CountedTwice = 18
+-- 18 is retired: no refusal has it, and none may be given it
 -- the factor to be superseded isn't there, or isn't live
 refusalNumber NotLive = 19
 -- a variance whose triangles differ

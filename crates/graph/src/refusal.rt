@@ -21,14 +21,13 @@ pub enum Refusal {
     ClearedPivot,
     MarginalPivot,
     ResultNotFinite,
-    CountedTwice,
     NotLive,
     NotSymmetric,
     OrderUnlike,
     NoSuchGraph,
 }
 
-// The number of a refusal in document 01, and from 19 to 29 in document 02.
+// The number of a refusal in document 01, and from 19 to 29 in document 02, which retires 18.
 pub fn code(why: Refusal) -> usize
     ensures { λ r. ⌜ r ≡ refusalNumber why ⌝ }
 {
@@ -51,7 +50,6 @@ pub fn code(why: Refusal) -> usize
         Refusal::ClearedPivot => 15,
         Refusal::MarginalPivot => 16,
         Refusal::ResultNotFinite => 17,
-        Refusal::CountedTwice => 18,
         Refusal::NotLive => 19,
         Refusal::NotSymmetric => 20,
         Refusal::OrderUnlike => 21,

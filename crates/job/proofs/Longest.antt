@@ -14,6 +14,7 @@ use Rattle.graph.specs.Refusals.{refusalNumber}
 use Rattle.graph.specs.Reached.{Reached}
 use Rattle.graph.specs.declared.Graph.{Graph}
 use Rattle.graph.proofs.Keeping.{good-of}
+use Rattle.graph.proofs.Numbers.{number-most}
 use Rattle.records.specs.Records.{Reading, readAll}
 use Rattle.records.specs.declared.answer.Ended as records
 use Rattle.records.specs.declared.answer.Ended.the-variants as reads
@@ -30,7 +31,7 @@ use Rattle.lines.proofs.Longest.{lines-most, refusal-most}
 use Rattle.job.specs.Job.{factor-room, message-room, marginal-room, zeros, endedText, runText, runAlongText, readText}
 use Rattle.job.specs.Job.{readingText, jobText, jobAlongText, deciding-bytes, Decide}
 use Rattle.job.proofs.Endings.{short-of}
-use Rattle.job.proofs.Refusals.{number-most, Placed, read-fine, Keyed, run-keyed, along-keyed}
+use Rattle.job.proofs.Refusals.{Placed, read-fine, Keyed, run-keyed, along-keyed}
 
 -- ---- the bytes that decide
 

@@ -1,4 +1,4 @@
--- What a refusal of a job names: its number, its stage and its place are small. Assumes nothing.
+-- What a refusal of a job names: its stage and its place are small. Assumes nothing.
 use Prim.Native.Nat.{ℕ, zero, suc, _+_, _-_, _≤_, _<_}
 use mathlib.Core.Path.{_≡_, refl, ap, subst}
 use mathlib.Core.Bool.{Bool, true, false, cond}
@@ -11,10 +11,7 @@ use lib.ListN.{length, getD, List·getD-eq-default}
 use Rattle.factor.specs.Limits.{max-variables}
 use Rattle.graph.specs.Record.{valid}
 use Rattle.graph.specs.Reached.{Reached}
-use Rattle.graph.specs.Refusals.{refusalNumber}
 use Rattle.graph.specs.declared.Graph.{Graph}
-use Rattle.graph.specs.declared.refusal.Refusal.{Refusal}
-use Rattle.graph.specs.declared.refusal.Refusal.the-variants as why
 use Rattle.graph.proofs.Validity.{valid-variables}
 use Rattle.records.specs.Records.{Reading, onward, stepOf, requestStore, recordAt, readFrom}
 use Rattle.records.specs.declared.answer.Next.{Next}
@@ -37,33 +34,6 @@ use Rattle.solver.specs.declared.run.Ended.the-variants.{Done, Refused}
 use Rattle.solver.proofs.Carriable.{along-runnable}
 use Rattle.solver.proofs.Cases.{along-cases}
 use Rattle.solver.proofs.Rising.{as-rising}
-
--- ---- the number
-
-pub number-most : (w : Refusal) → refusalNumber w ≤ 30
-number-most why.NeitherKeptNorCleared = omega arith
-number-most why.NotALetter = omega arith
-number-most why.SizeOutside = omega arith
-number-most why.KeysNotRising = omega arith
-number-most why.CountOutside = omega arith
-number-most why.LengthUnlike = omega arith
-number-most why.NotFinite = omega arith
-number-most why.VariancePivot = omega arith
-number-most why.BadRecord = omega arith
-number-most why.KeptAndCleared = omega arith
-number-most why.NameTaken = omega arith
-number-most why.NoSuchKey = omega arith
-number-most why.PastLimit = omega arith
-number-most why.FactorStoreShort = omega arith
-number-most why.StoreShort = omega arith
-number-most why.ClearedPivot = omega arith
-number-most why.MarginalPivot = omega arith
-number-most why.ResultNotFinite = omega arith
-number-most why.CountedTwice = omega arith
-number-most why.NotLive = omega arith
-number-most why.NotSymmetric = omega arith
-number-most why.OrderUnlike = omega arith
-number-most why.NoSuchGraph = omega arith
 
 -- ---- the record, and the graph that was read
 

@@ -1,6 +1,5 @@
 -- One key: what its answer tells is what was found, and the results then hold it. Assumes nothing.
-use mathlib.Core.Path.{_≡_, refl, sym, _∙_}
-use mathlib.Core.Bool.{Bool, true, false}
+use mathlib.Core.Path.{_≡_, refl}
 use mathlib.Core.List.{List, [], _∷_, _++_, append-nil}
 use Prim.Native.Nat.{ℕ, _*_}
 use lib.Ieee.{Float}
@@ -8,7 +7,7 @@ use lib.ListN.{getD, take}
 use lib.Seq.{take-at}
 use Rattle.factor.specs.Factor.{lay}
 use Rattle.graph.specs.declared.refusal.Refusal.{Refusal}
-use Rattle.graph.specs.declared.refusal.Refusal.the-variants.{ClearedPivot, MarginalPivot, ResultNotFinite, CountedTwice}
+use Rattle.graph.specs.declared.refusal.Refusal.the-variants.{ClearedPivot, MarginalPivot, ResultNotFinite}
 use Rattle.schedule.specs.Gather.{Gathered}
 use Rattle.plan.specs.Gather.{gatheredOf}
 use Rattle.plan.specs.declared.gather.Gathered as arrays
@@ -25,7 +24,7 @@ use Rattle.lists.specs.Lists.{HoldsGathered}
 use Rattle.lists.specs.declared.Lists.{Lists}
 use Rattle.messages.specs.Values.{none, refusedAt}
 use Rattle.messages.specs.Asked.{clearedOf, listedSlots}
-use Rattle.marginals.specs.Marginals.{twice, Found, found, refused, foundBy, foundIn, missingFrom, marginalsIn}
+use Rattle.marginals.specs.Marginals.{Found, found, refused, foundBy, foundIn, missingFrom, marginalsIn}
 use Rattle.marginals.specs.Asked.{lastBy, foundAt, AskedAt}
 use Rattle.marginals.proofs.Lengths.{moments-long}
 use Rattle.factor.proofs.Laying.{lay-none}
@@ -80,25 +79,17 @@ module _ (f : Found) (key to : ℕ) (results : List Float) where
   unfolding missingFrom marginalsIn
   found-is mean covariance after e l = rw (e, append-nil (mean ++ covariance)) (refl, l)
 
-module _ (sizes : List ℕ) (factors messages : List Float) (keys heads : List ℕ) (key to : ℕ) (q : arrays.Gathered) (results : List Float) (b : Bool)
-    (eb : b ≡ twice (take (q .count) (q .items))) where
+module _ (sizes : List ℕ) (factors messages : List Float) (keys heads : List ℕ) (key to : ℕ) (q : arrays.Gathered) (results : List Float) where
   abbrev s : ℕ
   s = getD sizes key 0
 
   abbrev f : Found
   f = foundAt sizes factors messages keys heads key (gatheredOf q)
 
-  pub twice-told : b ≡ true → (refusedAt key CountedTwice ≡ missingFrom key (f ∷ [])) × (results ≡ lay results to (marginalsIn (f ∷ [])))
-  unfolding foundAt gatheredOf
-  twice-told h = let e : twice (take (q .count) (q .items)) ≡ true = sym eb ∙ h in refused-is f key to results CountedTwice (rw e refl)
-
-  module _ (h : b ≡ false) (a : Answer) (ea : a ≡ marginalFrom key s (lastBy sizes factors messages keys heads key (gatheredOf q))) where
-    once : f ≡ foundIn s (lastBy sizes factors messages keys heads key (gatheredOf q))
-    unfolding foundAt gatheredOf
-    once = let e : twice (take (q .count) (q .items)) ≡ false = sym eb ∙ h in rw e refl
-
+  module _ (a : Answer) (ea : a ≡ marginalFrom key s (lastBy sizes factors messages keys heads key (gatheredOf q))) where
     told : Tells s a f
-    told = rw (ea, once) (tells key s (lastBy sizes factors messages keys heads key (gatheredOf q)))
+    unfolding foundAt
+    told = rw ea (tells key s (lastBy sizes factors messages keys heads key (gatheredOf q)))
 
     pub cleared-told : a .ending ≡ ending.ClearedPivot → (refusedAt key ClearedPivot ≡ missingFrom key (f ∷ [])) ×
         (results ≡ lay results to (marginalsIn (f ∷ [])))

@@ -1,6 +1,5 @@
 -- The marginals key by key: the results hold those of the keys before, and what is still to be found is what follows. Assumes nothing.
 use mathlib.Core.Path.{_≡_, refl, sym, ap, _∙_}
-use mathlib.Core.Bool.{Bool, true, false, cond}
 use mathlib.Core.List.{List, [], _∷_, _++_, append-nil, append-assoc}
 use Prim.Native.Nat.{ℕ, suc, _+_, _≤_, _<_}
 use native.Mathlib.Omega.{arith}
@@ -10,7 +9,6 @@ use lib.ListN.{length, getD, take, drop, length-append, take-append-drop, drop-o
 use lib.Seq.{length-take-le, drop-cons, drop-drop}
 use Rattle.factor.specs.Factor.{lay}
 use Rattle.graph.specs.declared.refusal.Refusal.{Refusal}
-use Rattle.graph.specs.declared.refusal.Refusal.the-variants.{CountedTwice}
 use Rattle.schedule.specs.Gather.{Gathered}
 use Rattle.gaussian.specs.Elimination.{Outcome, pivot, notFinite, message}
 use Rattle.cholesky.specs.Forms.{Form}
@@ -21,7 +19,7 @@ use Rattle.messages.specs.Asked.{refusalIn}
 use Rattle.messages.proofs.Telling.{carried-tells}
 use Rattle.messages.specs.declared.Carried.{Carried}
 use Rattle.messages.specs.declared.Carried.the-variants.{Done, Refused}
-use Rattle.marginals.specs.Marginals.{twice, Found, found, refused, foundBy, foundIn, missingFrom, marginalsIn}
+use Rattle.marginals.specs.Marginals.{Found, found, refused, foundBy, foundIn, missingFrom, marginalsIn}
 use Rattle.graph.specs.Moments.{momentNumbers, startOf}
 use Rattle.graph.proofs.Moments.{start-none, start-more}
 use Rattle.marginals.specs.Asked.{foundAt, foundFrom, lastBy, Finds}
@@ -40,10 +38,6 @@ halted-first : (f : Found) (rest : List Found) (k j : ℕ) (why : Refusal) → m
 unfolding missingFrom
 halted-first (found mean covariance) rest k j why e = absurd (let z : _≡_ {A = ℕ} 0 1 = cc in omega arith)
 halted-first (refused w) rest k j why e = e
-
-never-through : (k : ℕ) (why : Refusal) → missingFrom k (refused why ∷ []) ≡ none → ⊥
-unfolding missingFrom
-never-through k why e = let z : _≡_ {A = ℕ} 0 1 = cc in omega arith
 
 -- ---- how many numbers a key has
 
@@ -66,15 +60,7 @@ module _ (sizes : List ℕ) (factors messages : List Float) (keys heads : List �
   found-count : (k : ℕ) (q : Gathered) → missingFrom k (foundAt sizes factors messages keys heads k q ∷ []) ≡ none
       → length (marginalsIn (foundAt sizes factors messages keys heads k q ∷ [])) ≡ momentNumbers (getD sizes k 0)
   unfolding foundAt
-  found-count k q h = go (twice (q .leaves)) h
-    where
-      o : Outcome
-      o = lastBy sizes factors messages keys heads k q
-
-      go : (b : Bool) → missingFrom k (cond b (refused CountedTwice) (foundIn (getD sizes k 0) o) ∷ []) ≡ none
-          → length (marginalsIn (cond b (refused CountedTwice) (foundIn (getD sizes k 0) o) ∷ [])) ≡ momentNumbers (getD sizes k 0)
-      go true e = absurd (never-through k CountedTwice e)
-      go false e = outcome-count (getD sizes k 0) o k e
+  found-count k q h = outcome-count (getD sizes k 0) (lastBy sizes factors messages keys heads k q) k h
 
   module _ (qs : List Gathered) where
     abbrev all : List Found

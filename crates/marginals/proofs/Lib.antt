@@ -1,5 +1,4 @@
 -- Laws of the marginals.
-pub mod Twice
 pub mod Lengths
 pub mod Findings
 pub mod KeyByKey

@@ -1,13 +1,12 @@
 -- Inner: the marginals as the tables and the stores of a run give them, and what their finding asks for.
 use mathlib.Core.Path.{_≡_}
-use mathlib.Core.Bool.{true, cond}
+use mathlib.Core.Bool.{true}
 use mathlib.Core.List.{List, [], _∷_, map}
 use Prim.Native.Nat.{ℕ, _+_, _≤_, _<_}
 use lib.Ieee.{Float}
 use lib.ListN.{length, getD, take}
 use Rattle.graph.specs.Record.{offset, valid, factorKeys}
 use Rattle.graph.specs.declared.Graph.{Graph}
-use Rattle.graph.specs.declared.refusal.Refusal.the-variants.{CountedTwice}
 use Rattle.schedule.specs.Count.{from}
 use Rattle.schedule.specs.Gather.{Gathered}
 use Rattle.schedule.specs.Plan as schedule
@@ -21,12 +20,12 @@ use Rattle.gaussian.specs.Asked.{Asked}
 use Rattle.lists.specs.Lists.{backward-shift, gatheredNumbers}
 use Rattle.messages.specs.Figure.{need}
 use Rattle.messages.specs.Tables.{Carriable, PlacedTo, Tables, Stored}
-use Rattle.messages.specs.Values.{values, overlaid}
+use Rattle.messages.specs.Values.{overlaid}
 use Rattle.messages.specs.Asked.{refusalIn}
 use Rattle.messages.specs.Told.{carriedTold, stopTold}
 use Rattle.messages.specs.declared.Carried.{Carried}
 use Rattle.messages.specs.declared.Carried.the-variants.{Done}
-use Rattle.marginals.specs.Marginals.{marginalNumbers, twice, Found, refused, foundIn, marginalsFrom, missingFrom, marginalsIn}
+use Rattle.marginals.specs.Marginals.{marginalNumbers, Found, foundIn, plannedMarginals, missingFrom, marginalsIn}
 
 -- ---- by the tables
 
@@ -35,8 +34,7 @@ abbrev pub lastBy : (sizes : List ℕ) (factors messages : List Float) (keys hea
 lastBy sizes factors messages keys heads k q = eliminate (viewsOf factors messages keys heads (gatheredNumbers q)) (k ∷ []) (q .last) sizes
 
 unfoldable pub foundAt : (sizes : List ℕ) (factors messages : List Float) (keys heads : List ℕ) (k : ℕ) (q : Gathered) → Found
-foundAt sizes factors messages keys heads k q =
-    cond (twice (q .leaves)) (refused CountedTwice) (foundIn (getD sizes k 0) (lastBy sizes factors messages keys heads k q))
+foundAt sizes factors messages keys heads k q = foundIn (getD sizes k 0) (lastBy sizes factors messages keys heads k q)
 
 -- the marginals of the keys from k on
 unfoldable pub foundFrom : (sizes : List ℕ) (factors messages : List Float) (keys heads : List ℕ) (k : ℕ) (qs : List Gathered) → List Found
@@ -74,10 +72,6 @@ pub record PlanCarried (g : Graph) (p : schedule.Plan) (at : List arrays.Gathere
       → Settled (g .variables) (factorKeys g) (from 0 (g .count)) (p .forward) (p .backward) k (gatheredOf (getD at k noGathered))
   pub enough : offset g (g .count) ≤ length factors
   pub enough′ : need g (p .forward) + need g (p .backward) ≤ length messages
-
--- the marginals of a plan
-abbrev pub plannedMarginals : Graph → List Float → schedule.Plan → List Found
-plannedMarginals g factors p = marginalsFrom g factors p (values g factors (p .forward)) (values g factors (p .backward)) 0 (p .at-key)
 
 -- the answer tells the first key without a marginal; where there is none, the marginals are so many numbers, and stand at the start of the results
 pub record Finds (all : List Found) (numbers : ℕ) (r : Carried) (before after : List Float) : Type 0 where

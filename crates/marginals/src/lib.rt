@@ -1,5 +1,4 @@
 // The marginals of a run: for each key, rising, the last elimination of what it gathers, and the mean and the covariance from its message.
-use factor::limits::FACTORS;
 use factor::limits::VARIABLES;
 use factor::lists::copy_in;
 use factor::size_of;
@@ -13,42 +12,20 @@ use lists::Lists;
 use lists::gathered_lists;
 use messages::Carried;
 use plan::gather::Gathered;
-use plan::masks::single64;
 ghost use mathlib.Core.Path.{_≡_};
 ghost use mathlib.Core.List.{[], _∷_, _++_};
 ghost use Prim.Native.Nat.{_+_, _*_, _≤_};
 ghost use lib.ListN.{length, getD, take};
 ghost use Rattle.factor.specs.Limits.{max-size, max-variables};
 ghost use Rattle.factor.specs.Factor.{lay};
-ghost use Rattle.plan.specs.Gather.{Items, Held, gatheredOf};
+ghost use Rattle.plan.specs.Gather.{Held, gatheredOf};
 ghost use Rattle.slots.specs.Limits.{max-slots};
 ghost use Rattle.gaussian.specs.Elimination.{eliminate};
 ghost use Rattle.gaussian.specs.Answers.{viewsOf, marginalFrom};
 ghost use Rattle.gaussian.specs.Asked.{Asked};
 ghost use Rattle.messages.specs.Asked.{clearedOf, listedSlots, refusalIn};
-ghost use Rattle.marginals.specs.Marginals.{twice, missingFrom, marginalsIn};
+ghost use Rattle.marginals.specs.Marginals.{missingFrom, marginalsIn};
 ghost use Rattle.marginals.specs.Asked.{lastBy, foundAt, AskedAt, Findable, FindsPlanned};
-
-// Whether an original stands twice among the first `count`. Backwards, because `twice` compares each entry with those after it: `seen` is
-// the set of those.
-fn counted_twice(items: &[u8; FACTORS], count: usize) -> bool
-    requires { ⌜ Items count (now items) ⌝ }
-    ensures { λ r. ⌜ r ≡ twice (take count (now (items .entry))) ⌝ }
-{
-    let mut r = false;
-    let mut seen = 0u64;
-    let mut i = count;
-    while 0 < i {
-        i -= 1;
-        let x = items[i] as usize;
-        let one = single64(x);
-        if seen & one != 0 {
-            r = true;
-        }
-        seen = one | seen;
-    }
-    r
-}
 
 // The mean and after it the covariance stand in the results from a place on.
 fn put_marginal(results: &mut [f64], at: usize, m: Marginal)
@@ -117,7 +94,7 @@ fn marginal_of<'a>(
     marginal_by(l, key, sizes, factors, messages, work, keys, heads)
 }
 
-// The marginal of one key into the results, from a place on: 18 before any arithmetic, then 15, 16 and 17 as they come. Refused, the results stay.
+// The marginal of one key into the results, from a place on: 15, 16 and 17 as they come. Refused, the results stay.
 fn find_marginal<'a>(
     q: Gathered,
     key: usize,
@@ -138,10 +115,6 @@ fn find_marginal<'a>(
     ensures { λ _. ⌜ now (results .exit) ≡ lay (now (results .entry)) to
         (marginalsIn (foundAt sizes (now (factors .entry)) (now (messages .entry)) (now (keys .entry)) (now (heads .entry)) key (gatheredOf q) ∷ [])) ⌝ }
 {
-    let items = q.items;
-    if counted_twice(&items, q.count) {
-        return Carried::Refused(key, Refusal::CountedTwice);
-    }
     let a = marginal_of(q, key, sizes, factors, messages, work, keys, heads);
     let ending = a.ending;
     let m = a.marginal;

@@ -14,7 +14,7 @@ use Rattle.factor.specs.Told.{Told, value, refusal}
 use Rattle.graph.specs.Refusals.{refusalNumber}
 use Rattle.graph.specs.declared.Graph.{Graph}
 use Rattle.graph.specs.declared.refusal.Refusal.{Refusal}
-use Rattle.job.proofs.Refusals.{number-most}
+use Rattle.graph.proofs.Numbers.{number-most}
 use Rattle.job.specs.Job.{factor-room, zeros}
 use Rattle.records.specs.Records.{readAll}
 use Rattle.records.specs.declared.answer.Read.{Read}

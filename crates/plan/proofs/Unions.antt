@@ -46,7 +46,7 @@ set-none j = has-zero j ∙ sym (mem-nil j)
 pub set-append : (a b : List ℕ) (r s : ℕ) → Set a r → Set b s → Set (a ++ b) (bitOr r s)
 set-append a b r s h k j = has-or j r s ∙ ap₂ (λ (x y : Bool). x || y) (h j) (k j) ∙ sym (mem-append j a b)
 
-pub set-one : (x r : ℕ) → r ≡ 2 ^ x → Set (x ∷ []) r
+set-one : (x r : ℕ) → r ≡ 2 ^ x → Set (x ∷ []) r
 set-one x r e j = ap (has j) e ∙ has-single j x ∙ sym (or-false (eqb j x)) ∙ ap (λ (t : Bool). eqb j x || t) (sym (mem-nil j)) ∙ sym (mem-cons j x [])
 
 pub set-take : (l : List ℕ) (i r s : ℕ) → i < length l → Set (take i l) r → s ≡ 2 ^ getD l i 0 → Set (take (i + 1) l) (bitOr r s)

@@ -13,6 +13,7 @@ use Rattle.graph.specs.Record.{valid}
 use Rattle.graph.specs.Refusals.{refusalNumber}
 use Rattle.graph.specs.declared.Graph.{Graph}
 use Rattle.graph.specs.declared.refusal.Refusal.{Refusal}
+use Rattle.graph.proofs.Numbers.{number-most}
 use Rattle.graph.proofs.Validity.{valid-variables}
 use Rattle.schedule.specs.Count.{count, joined, putIf, from, risingWhere}
 use Rattle.schedule.specs.Pass.{ClosedFactor, at}
@@ -40,7 +41,6 @@ use Rattle.lines.specs.declared.Written.{Written}
 use Rattle.lines.proofs.Longest.{refusal-most}
 use Rattle.text.proofs.Decimals.{few-digits, field-length}
 use Rattle.job.proofs.Endings.{Lays}
-use Rattle.job.proofs.Refusals.{number-most}
 use Rattle.plan_text.specs.Shown.{text-room}
 use Rattle.plan_text.specs.Text.{forwardWord, backwardWord, keyWord, stepWord, contentWord, keptWord, clearedWord, originalsWord, leavesWord}
 use Rattle.plan_text.specs.Text.{lastWord, slotText, namedText, listText, contentText, messageText, keyText, numbered, planText}

@@ -315,25 +315,6 @@ module _ (n : ℕ) (K : ℕ → List ℕ) (N order : List ℕ) (distinct : (f : 
   unfolding plan
   demand3 k l d = subst (λ (g : Gathered). Once n K N k (full-pass n K N order) (full-pass n K N (reverse order)) g) (sym (gathered-at k l d)) (at-each k l)
 
-  -- However the leaves of the gathered messages are listed, no original is met twice: the double-count refusal never comes.
-  pub never-twice : (k : ℕ) → k < n → (f : ℕ)
-      → count f (joined (leaves (full-pass n K N order)) (alive-messages (placeIn k order) (full-pass n K N order))
-      ++ joined (leaves (full-pass n K N (reverse order))) (alive-messages (n - 1 - placeIn k order) (full-pass n K N (reverse order)))) ≤ 1
-  unfolding gather gatherAt gathering
-  never-twice k l f = omega (
-    arith,
-    distinct f,
-    (at-each k l) .listed f,
-    count-append f (joined (leaves fw) (alive-messages (placeIn k order) fw) ++ joined (leaves bw) (alive-messages (n - 1 - placeIn k order) bw))
-        ((gather n K N fw bw (placeIn k order) k) .originals),
-  )
-    where
-      fw : List ClosedFactor
-      fw = full-pass n K N order
-
-      bw : List ClosedFactor
-      bw = full-pass n K N (reverse order)
-
   -- P9 for every graph: an original without keys is a leaf under no message, so it is uncovered at every key.
   keyless-meets : (f k : ℕ) → ((j : ℕ) → In j (K f) → ⊥) → In f N → (pre q : List ℕ) → order ≡ pre ++ (k ∷ q) → length pre ≡ placeIn k order
       → (fw bw : List ClosedFactor)

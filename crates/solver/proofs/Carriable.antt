@@ -15,7 +15,7 @@ use Rattle.schedule.specs.Gather.{gather}
 use Rattle.schedule.specs.Plan as schedule
 use Rattle.schedule.proofs.Counts.{count-reverse, from-in, rising-in, rising-once}
 use Rattle.schedule.proofs.Messages.{tidy, tidy-more, older, steps, few-messages, settled, settled-more}
-use Rattle.schedule.proofs.Demand3.{gathered-at, demand3}
+use Rattle.schedule.proofs.Demand3.{gathered-at}
 use Rattle.schedule.proofs.Orders.{Each, order-each, order-long}
 use Rattle.schedule.proofs.Sums.{length-from}
 use Rattle.messages.specs.Tables.{Carriable}
@@ -69,7 +69,6 @@ module _ (g : Graph) (v : valid g ≡ true) (N order : List ℕ) (live : (i : �
             (settled-more known
             (settled n K N (full-pass n K N order) (full-pass n K N (reverse order)) (schedule.placeIn k order) (n - 1 - schedule.placeIn k order) k
             (λ j l x i. fw .tidy j l .low x (omega arith)) (λ j l x i. bw .tidy j l .low x (omega arith)) (λ i s x u. low g v i x u)));
-        single = λ k h d f. omega (arith, demand3 n K N order distinct (λ f s. low g v f) each k h d .listed f, distinct f);
       }
 
 -- over the live factors

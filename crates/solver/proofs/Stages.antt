@@ -50,8 +50,8 @@ use Rattle.messages.specs.declared.Carried.{Carried}
 use Rattle.messages.specs.declared.Carried.the-variants as carried-pass
 use Rattle.graph.specs.Moments.{startOf}
 use Rattle.graph.proofs.Moments.{start-none, start-more}
-use Rattle.marginals.specs.Asked.{Findable, PlanCarried, plannedMarginals, Finds, FindsPlanned}
-use Rattle.marginals.specs.Marginals.{marginalNumbers, missingFrom, marginalsIn}
+use Rattle.marginals.specs.Asked.{Findable, PlanCarried, Finds, FindsPlanned}
+use Rattle.marginals.specs.Marginals.{marginalNumbers, plannedMarginals, missingFrom, marginalsIn}
 use Rattle.marginals.proofs.Rooms.{numbers-most}
 use Rattle.marginals.proofs.Gathering.{findable}
 use Rattle.factor.proofs.Laying.{lay-lay}

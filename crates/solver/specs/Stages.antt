@@ -10,7 +10,7 @@ use Rattle.factor.specs.Counting.{every}
 use Rattle.graph.specs.Record.{offset, factorKeys}
 use Rattle.graph.specs.declared.Graph.{Graph}
 use Rattle.graph.specs.declared.refusal.Refusal.the-variants.{FactorStoreShort, StoreShort}
-use Rattle.schedule.specs.Count.{count, from}
+use Rattle.schedule.specs.Count.{from}
 use Rattle.schedule.specs.Pass.{at}
 use Rattle.schedule.specs.Gather.{Gathered}
 use Rattle.schedule.specs.Plan as schedule
@@ -22,8 +22,8 @@ use Rattle.workspace.specs.Frames.{work-numbers}
 use Rattle.lists.specs.Lists.{backward-shift}
 use Rattle.messages.specs.Figure.{need}
 use Rattle.messages.specs.Tables.{Carriable, PlacedTo, Tables}
-use Rattle.marginals.specs.Asked.{PlanCarried, plannedMarginals}
-use Rattle.marginals.specs.Marginals.{marginalNumbers, missingFrom}
+use Rattle.marginals.specs.Asked.{PlanCarried}
+use Rattle.marginals.specs.Marginals.{marginalNumbers, plannedMarginals, missingFrom}
 use Rattle.solver.specs.Run.{third, runVerdict}
 use Rattle.solver.specs.declared.run.Places.{Places}
 use Rattle.solver.specs.declared.run.Ran.{Ran}
@@ -41,7 +41,6 @@ pub record Runnable (g : Graph) (q : schedule.Plan) : Type 0 where
   pub for-each : length (q .at-key) ≡ g .variables
   pub settled : (k : ℕ) → k < g .variables → (d : Gathered)
       → Settled (g .variables) (factorKeys g) (from 0 (g .count)) (q .forward) (q .backward) k (getD (q .at-key) k d)
-  pub single : (k : ℕ) → k < g .variables → (d : Gathered) (f : ℕ) → count f (getD (q .at-key) k d .leaves) ≤ 1
 
 -- the arrays p hold the plan q, and it can be carried out
 pub record Planned (g : Graph) (p : Plan) (q : schedule.Plan) : Type 0 where

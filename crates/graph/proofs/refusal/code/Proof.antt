@@ -30,7 +30,6 @@ code-spec =
     (λ c. search needs)  -- enum-told-20
     (λ c. search needs)  -- enum-told-21
     (λ c. search needs)  -- enum-told-22
-    (λ c. search needs)  -- enum-told-23
     (λ c. sym (ap refusalNumber (c .enum-told .given .1)))  -- returns
     (λ c. sym (ap refusalNumber (c .enum-told2 .given .1)))  -- returns-2
     (λ c. sym (ap refusalNumber (c .enum-told3 .given .1)))  -- returns-3
@@ -52,5 +51,4 @@ code-spec =
     (λ c. sym (ap refusalNumber (c .enum-told19 .given .1)))  -- returns-19
     (λ c. sym (ap refusalNumber (c .enum-told20 .given .1)))  -- returns-20
     (λ c. sym (ap refusalNumber (c .enum-told21 .given .1)))  -- returns-21
-    (λ c. sym (ap refusalNumber (c .enum-told22 .given .1)))  -- returns-22
-    (λ c. sym (ap refusalNumber (c .enum-told23 .given .1))))  -- returns-23
+    (λ c. sym (ap refusalNumber (c .enum-told22 .given .1))))  -- returns-22
