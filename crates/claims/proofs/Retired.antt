@@ -27,7 +27,7 @@ use Rattle.solver.proofs.GraphOnce.{once}
 use Rattle.solver.proofs.Carriable.{along-runnable}
 use Rattle.solver.proofs.Rising.{rising-plan}
 use Rattle.claims.specs.Retired as looking
-use Rattle.claims.specs.Retired.{twice, someTwice, Verdict, told, unless, Retired}
+use Rattle.claims.specs.Retired.{twice, met, someMet, Verdict, told, unless, Retired}
 
 -- ---- the look finds nothing
 
@@ -39,24 +39,29 @@ not-twice (i ∷ l) h =
     let z : count i l ≡ 0 = omega (arith, h i, hit-same i) in
     rw z (not-twice l (λ j. omega (arith, h j)))
 
-none-twice : (qs : List Gathered) → ((k : ℕ) → k < length qs → (d : Gathered) (i : ℕ) → count i (getD qs k d .leaves) ≤ 1) → someTwice qs ≡ false
-unfolding someTwice
-none-twice [] h = refl
-none-twice (q ∷ qs) h = rw (not-twice (q .leaves) (h 0 (omega arith) q), none-twice qs (λ k l. h (suc k) (omega arith))) refl
+-- at a key whose leaves have nothing twice
+not-met : (q : Gathered) → ((i : ℕ) → count i (q .leaves) ≤ 1) → met q ≡ false
+unfolding met
+not-met q h = not-twice (q .leaves) h
+
+none-met : (qs : List Gathered) → ((k : ℕ) → k < length qs → (d : Gathered) (i : ℕ) → count i (getD qs k d .leaves) ≤ 1) → someMet qs ≡ false
+unfolding someMet
+none-met [] h = refl
+none-met (q ∷ qs) h = rw (not-met q (h 0 (omega arith) q), none-met qs (λ k l. h (suc k) (omega arith))) refl
 
 -- in a plan
-plans-along : (g : Graph) (order : List ℕ) → someTwice (plannedAlong g order .plan .at-key) ≡ false
-unfolding plannedAlong someTwice
+plans-along : (g : Graph) (order : List ℕ) → someMet (plannedAlong g order .plan .at-key) ≡ false
+unfolding plannedAlong someMet
 plans-along g order = go (valid g) (eachOnce (g .variables) order) refl refl
   where
-    go : (a b : Bool) → valid g ≡ a → eachOnce (g .variables) order ≡ b → someTwice (plannedAlong g order .plan .at-key) ≡ false
-    go true true v o = rw (v, o) (none-twice (planAlong g order .at-key) (λ k l d i. omega
+    go : (a b : Bool) → valid g ≡ a → eachOnce (g .variables) order ≡ b → someMet (plannedAlong g order .plan .at-key) ≡ false
+    go true true v o = rw (v, o) (none-met (planAlong g order .at-key) (λ k l d i. omega
         (arith, once g order v o k (omega (arith, along-runnable g order v o .for-each)) d .listed i, rising-once (g .count) (liveAt g) i)))
     go true false v o = rw (v, o) refl
     go false b v o = rw v refl
 
-plans : (g : Graph) → someTwice (planned g .plan .at-key) ≡ false
-plans g = subst (λ (a : Answer). someTwice (a .plan .at-key) ≡ false) (rising-plan g) (plans-along g (from 0 (g .variables)))
+plans : (g : Graph) → someMet (planned g .plan .at-key) ≡ false
+plans g = subst (λ (a : Answer). someMet (a .plan .at-key) ≡ false) (rising-plan g) (plans-along g (from 0 (g .variables)))
 
 -- ---- the run
 
@@ -88,12 +93,12 @@ module _ (g : Graph) (key : ℕ → ℕ) (p : schedule.Plan) (figure : ℕ) (fac
   by-key k (found mean covariance) fs next′ h = h
   by-key k (refused why) fs next′ h = refl
 
-  thirds : (k : ℕ) (qs : List Gathered) → someTwice qs ≡ false
+  thirds : (k : ℕ) (qs : List Gathered) → someMet qs ≡ false
       → looking.third g key p figure factors messages marginals k qs ≡ told (stage-three (missingFrom k (marginalsFrom g factors p fw bw k qs)))
-  unfolding someTwice looking.third solver.third marginalsFrom missingFrom
+  unfolding someMet looking.third solver.third marginalsFrom missingFrom
   thirds k [] e = refl
   thirds k (q ∷ qs) e =
-      let clear = neither (twice (q .leaves)) (someTwice qs) e in
+      let clear = neither (met q) (someMet qs) e in
       rw (clear .0) (by-key k (marginal g factors p fw bw k q) (marginalsFrom g factors p fw bw (k + 1) qs) _ (thirds (k + 1) qs (clear .1)))
 
   seconds : (s : FirstRefusal) (next : RunVerdict) (next′ : Verdict) → next′ ≡ told next
@@ -109,7 +114,7 @@ module _ (g : Graph) (key : ℕ → ℕ) (p : schedule.Plan) (figure : ℕ) (fac
   firsts none l next next′ h = h
   firsts (refusedAt j why) l next next′ h = refl
 
-  checked-same : (work : ℕ) → someTwice (p .at-key) ≡ false
+  checked-same : (work : ℕ) → someMet (p .at-key) ≡ false
       → looking.checked g key p figure factors messages marginals work ≡ told (solver.checked g key p figure factors messages work marginals)
   unfolding looking.checked looking.carried solver.checked solver.carried
   checked-same work e =
@@ -120,20 +125,20 @@ module _ (g : Graph) (key : ℕ → ℕ) (p : schedule.Plan) (figure : ℕ) (fac
 module _ (g : Graph) (factors messages : List Float) (work : ℕ) (marginals : List Float) where
   runs : looking.run g factors messages work marginals ≡ told (solver.run g factors messages work marginals)
   unfolding looking.run solver.run planned
-  runs = by-test (valid g) _ _ _ (λ v. checked-same g (λ place. place) (graphPlan g) _ factors messages marginals work (made-twice v))
+  runs = by-test (valid g) _ _ _ (λ v. checked-same g (λ place. place) (graphPlan g) _ factors messages marginals work (made-once v))
     where
-      made-twice : valid g ≡ true → someTwice (graphPlan g .at-key) ≡ false
-      made-twice v = rw v at (plans g)
+      made-once : valid g ≡ true → someMet (graphPlan g .at-key) ≡ false
+      made-once v = rw v at (plans g)
 
   runs-along : (order : List ℕ) → looking.runAlong g order factors messages work marginals ≡ told (solver.runAlong g order factors messages work marginals)
   unfolding looking.runAlong solver.runAlong plannedAlong
   runs-along order =
       by-test (valid g) _ _ _
       (λ v. by-test (eachOnce (g .variables) order) _ _ _
-      (λ o. checked-same g (keyAt order) (planAlong g order) _ factors messages marginals work (made-twice v o)))
+      (λ o. checked-same g (keyAt order) (planAlong g order) _ factors messages marginals work (made-once v o)))
     where
-      made-twice : valid g ≡ true → eachOnce (g .variables) order ≡ true → someTwice (planAlong g order .at-key) ≡ false
-      made-twice v o = rw (v, o) at (plans-along g order)
+      made-once : valid g ≡ true → eachOnce (g .variables) order ≡ true → someMet (planAlong g order .at-key) ≡ false
+      made-once v o = rw (v, o) at (plans-along g order)
 
 pub retired : Retired
 retired =

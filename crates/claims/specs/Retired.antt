@@ -36,10 +36,14 @@ unfoldable pub twice : List ℕ → Bool
 twice [] = false
 twice (i ∷ l) = mem i l || twice l
 
+-- at a key: some original stands twice among the leaves
+unfoldable pub met : Gathered → Bool
+met q = twice (q .leaves)
+
 -- at some key
-unfoldable pub someTwice : List Gathered → Bool
-someTwice [] = false
-someTwice (q ∷ qs) = twice (q .leaves) || someTwice qs
+unfoldable pub someMet : List Gathered → Bool
+someMet [] = false
+someMet (q ∷ qs) = met q || someMet qs
 
 -- ---- the run with the look
 
@@ -76,7 +80,7 @@ module _ (g : Graph) (key : ℕ → ℕ) (p : schedule.Plan) (figure : ℕ) (fac
         marginals = overlaid marginals (marginalsIn (plannedMarginals g factors p));
       })
   third k (q ∷ qs) =
-      cond (twice (q .leaves)) (record { answer = refusal 18 (figure ∷ 3 ∷ k ∷ []); messages = laid; marginals = marginals })
+      cond (met q) (record { answer = refusal 18 (figure ∷ 3 ∷ k ∷ []); messages = laid; marginals = marginals })
       (unless (missingFrom k (marginal g factors p fw bw k q ∷ [])) (λ i why. refuse figure why 3 i laid marginals) (third (k + 1) qs))
 
   -- stages 1 and 2
@@ -111,8 +115,8 @@ pub record Retired : Type 0 where
   -- no refusal has the number
   pub number-gone : (why : Refusal) → refusalNumber why ≢ 18
   -- the look finds nothing in what a plan answers, for every record, refused ones too, without an order and along every one
-  pub plans : (g : Graph) → someTwice (planned g .plan .at-key) ≡ false
-  pub plans-along : (g : Graph) (order : List ℕ) → someTwice (plannedAlong g order .plan .at-key) ≡ false
+  pub plans : (g : Graph) → someMet (planned g .plan .at-key) ≡ false
+  pub plans-along : (g : Graph) (order : List ℕ) → someMet (plannedAlong g order .plan .at-key) ≡ false
   -- every run's answer and both its stores are those with the look, likewise and whatever stores it is lent
   pub runs : (g : Graph) (factors messages : List Float) (work : ℕ) (marginals : List Float)
       → run g factors messages work marginals ≡ told (solver.run g factors messages work marginals)
