@@ -12,7 +12,7 @@ use lists::{Place, least, lookup};
 
 // A prior or an observation: its keys stand in the first places, rising, and unused places are 0. A prior has one key and that key's size as rows.
 // It is live until another factor supersedes it.
-#[derive(Drop)]
+#[derive(Clone, Copy)]
 pub struct Factor {
     pub prior: bool,
     pub touched: u8,

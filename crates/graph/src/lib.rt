@@ -18,12 +18,12 @@ use factor::limits::{FACTORS, KEYS, TOTAL, VARIABLES};
 use refusal::Refusal;
 
 // The name of a variable: a letter and an index.
-#[derive(Drop)]
+#[derive(Clone, Copy)]
 pub struct Symbol(pub u32, pub u32);
 
 // The variables, each at its key, which is its place in the order of registration; and the factors. Unused places hold zeros, and
 // nothing is kept that can be worked out, so equal graphs are equal records.
-#[derive(Drop)]
+#[derive(Clone, Copy)]
 pub struct Graph {
     pub symbols: [Symbol; VARIABLES],
     pub sizes: [u8; VARIABLES],
@@ -33,7 +33,7 @@ pub struct Graph {
 }
 
 // The key of a new variable, the number of a new factor, or a refusal.
-#[derive(Drop)]
+#[derive(Clone, Copy)]
 pub enum Outcome {
     Key(usize),
     Number(usize),
@@ -41,7 +41,7 @@ pub enum Outcome {
 }
 
 // What a registering call answers: the graph with its new state, and the outcome.
-#[derive(Drop)]
+#[derive(Clone, Copy)]
 pub struct Added {
     pub graph: Graph,
     pub outcome: Outcome,

@@ -9,7 +9,7 @@ ghost use Rattle.matrix.specs.Triangles.{filled_diagonal, filled_column, filled_
 ghost use Rattle.matrix.specs.Finite.{is_finite, all_finite};
 
 // Where a matrix lies in a slice: entry (i, j) stands at + i * down + j * across. Blocks, columns and transposes are views too.
-#[derive(Drop)]
+#[derive(Clone, Copy)]
 pub struct View {
     pub at: usize,
     pub down: usize,
@@ -83,7 +83,7 @@ pub fn deduct(
 }
 
 // What becomes of an entry when its product sum is finished.
-#[derive(Drop)]
+#[derive(Clone, Copy)]
 pub enum Update {
     Add,
     Subtract,

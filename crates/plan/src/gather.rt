@@ -22,7 +22,7 @@ pub struct Listing {
 
 // What a key gathers: sets of messages; the leaves, the first `count` of items; of these, from `covered` on, the uncovered
 // originals; and the set of the keys cleared last.
-#[derive(Drop)]
+#[derive(Clone, Copy)]
 pub struct Gathered {
     pub forward: u32,
     pub backward: u32,

@@ -9,7 +9,7 @@ use factor::limits::{FACTORS, VARIABLES};
 
 // The active slots are the first `used` of slots; the contents of all messages so far, one after the other, are the first
 // `filled` of content.
-#[derive(Drop)]
+#[derive(Clone, Copy)]
 pub struct Board {
     pub slots: [u8; PASS_SLOTS],
     pub used: usize,
@@ -19,7 +19,7 @@ pub struct Board {
 
 // A pass on its way, and at its end the messages it made: of the message j, kept keys masks[FACTORS + j], cleared keys cleared[j],
 // step steps[j], content the slots of board.content from starts[j] to ends[j]. The keys of the original i are masks[i].
-#[derive(Drop)]
+#[derive(Clone, Copy)]
 pub struct Pass {
     pub masks: [u32; PASS_SLOTS],
     pub cleared: [u32; VARIABLES],

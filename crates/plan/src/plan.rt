@@ -13,7 +13,7 @@ use factor::Factor;
 use factor::limits::{FACTORS, VARIABLES};
 
 // The messages of both passes, and at[k] what the key k gathers.
-#[derive(Drop)]
+#[derive(Clone, Copy)]
 pub struct Plan {
     pub forward: Pass,
     pub backward: Pass,

@@ -16,7 +16,7 @@ use plan::pass::Pass;
 // A message: the step of its pass that made it, counted from 0; its content, the first `slots` of content, in the order in which
 // the slots were taken; the set of the keys that it keeps, and of those that it clears. A slot is an original by its number, which
 // is below FACTORS, or the message j of the same pass as FACTORS + j.
-#[derive(Drop)]
+#[derive(Clone, Copy)]
 pub struct Message {
     pub step: usize,
     pub content: [u8; PASS_SLOTS],
@@ -28,7 +28,7 @@ pub struct Message {
 // What a key gathers: the set of the forward and of the backward messages gathered; its leaves, the first `count` of leaves; and
 // the set of the keys cleared last. The leaves before the place `covered` are those under the messages gathered, and those from it
 // on are the originals gathered.
-#[derive(Drop)]
+#[derive(Clone, Copy)]
 pub struct KeyPlan {
     pub forward: u32,
     pub backward: u32,

@@ -17,7 +17,7 @@ pub struct Read {
 }
 
 // Where the next record begins, or why this one is turned back.
-#[derive(Drop)]
+#[derive(Clone, Copy)]
 pub enum Next {
     At(usize),
     Refused(Refusal),

@@ -13,7 +13,7 @@ pub enum Mark {
 }
 
 // Where the variance comes from: this on the diagonal and 0 elsewhere, or numbers that follow.
-#[derive(Drop)]
+#[derive(Clone, Copy)]
 pub enum Flag {
     Diagonal(f64),
     Given,

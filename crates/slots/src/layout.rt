@@ -7,7 +7,7 @@ use factor::limits::VARIABLES;
 use factor::wide;
 
 // For each key: whether it is cleared, its first column among the cleared or the kept keys, and its size.
-#[derive(Drop)]
+#[derive(Clone, Copy)]
 pub struct Layout {
     pub cleared: [bool; VARIABLES],
     pub first: [u8; VARIABLES],
@@ -15,7 +15,7 @@ pub struct Layout {
 }
 
 // What a layout has for one key.
-#[derive(Drop)]
+#[derive(Clone, Copy)]
 pub struct Spot {
     pub key: usize,
     pub cleared: bool,

@@ -19,14 +19,14 @@ use sums::add_view;
 use workspace::Frame;
 
 // The two branches of an elimination: in z the message has the factors' own rows, in x as many rows as kept columns.
-#[derive(Drop)]
+#[derive(Clone, Copy)]
 pub enum Branch {
     Z,
     X,
 }
 
 // What a slot of an elimination is: an original factor, by its number, or a closed message, by its place among the messages.
-#[derive(Drop)]
+#[derive(Clone, Copy)]
 pub enum Slot {
     Original(usize),
     Closed(usize),

@@ -20,7 +20,7 @@ pub const WORK: usize = 2304;
 
 // The matrices of an elimination, in the order in which they stand in the work store: the cleared block, the cleared xi, B'W or B'WA, and the message's A, xi
 // and W.
-#[derive(Drop)]
+#[derive(Clone, Copy)]
 pub enum Part {
     S,
     H,
@@ -31,7 +31,7 @@ pub enum Part {
 }
 
 // How large the matrices are, by the cleared dimension, the message's rows and the kept dimension; and where each one after S begins.
-#[derive(Drop)]
+#[derive(Clone, Copy)]
 pub struct Frame {
     pub cleared: usize,
     pub rows: usize,
