@@ -4,7 +4,7 @@ use native.Mathlib.Omega.{arith}
 use borrow.Author.Rules.{rules}
 use lib.ListN.{length}
 use Rattle.gaussian.specs.Elimination.{eliminate}
-use Rattle.gaussian.specs.Answers.{viewsOf}
+use Rattle.gaussian.specs.Answers.{views_of}
 use Rattle.gaussian.proofs.Outcomes.{pivot-stored, unbounded_stored, few_rows, has_room, message_sent}
 use Rattle.gaussian.proofs.Telling.{stored-tells}
 use Rattle.gaussian.proofs.eliminate_slots.Statement.{statement}
@@ -46,14 +46,14 @@ returns c =
 returns-2 : tie.Need-returns-2
 returns-2 c =
     let args = c.before.before.before.before.before.before.before.before.before.before.before.before.before.before.before.args in
-    stored-tells _ _ _ _ _ (pivot-stored (eliminate (viewsOf args.factors.now args.messages.now args.keys.now args.heads.now
+    stored-tells _ _ _ _ _ (pivot-stored (eliminate (views_of args.factors.now args.messages.now args.keys.now args.heads.now
     args.slots.now) args.kept.now args.cleared.now args.sizes) _ c.before.before.before.before.eliminate-in.ensures.0 _
     args.to c.enum_told.given.1)
 
 returns-3 : tie.Need-returns-3
 returns-3 c =
     let args = c.before.before.before.before.before.before.before.before.before.before.before.before.before.before.before.args in
-    stored-tells _ _ _ _ _ (unbounded_stored (eliminate (viewsOf args.factors.now args.messages.now args.keys.now args.heads.now
+    stored-tells _ _ _ _ _ (unbounded_stored (eliminate (views_of args.factors.now args.messages.now args.keys.now args.heads.now
     args.slots.now) args.kept.now args.cleared.now args.sizes) _ c.before.before.before.before.eliminate-in.ensures.0 _
     args.to c.enum-told2.given.1)
 

@@ -1,7 +1,7 @@
 -- `plan_text::lay_along` meets its contract: by the plan's outcome. Assumes nothing.
 use native.Mathlib.Omega.{arith}
 use borrow.Author.Rules.{rules}
-use Rattle.plan_text.proofs.Answers.{along-made, along-refused}
+use Rattle.plan_text.proofs.Answers.{along_made, along_refused}
 use Rattle.plan_text.proofs.Longest.{arranged_most, refusal-within, all_same}
 use Rattle.plan_text.proofs.lay_along.Statement.{statement}
 use Rattle.plan_text.proofs.lay_along.Tie as tie
@@ -12,7 +12,7 @@ returns c =
     let args = back8.before.before.args in
     let made = c.before.before.before.before.before.before.before.arrange-along in
     let done = c.before.before.before.before.enum_told.given.1 in
-    all_same args.out.now _ _ _ _ (along-made args.g args.order.now made.result made.ensures.0 done) c.before.before.lay-arrays.ensures
+    all_same args.out.now _ _ _ _ (along_made args.g args.order.now made.result made.ensures.0 done) c.before.before.lay-arrays.ensures
     (arranged_most args.g args.order.now made.result made.ensures.0 made.ensures.1.1 done)
 
 returns-2 : tie.Need-returns-2
@@ -21,7 +21,7 @@ returns-2 c =
     let args = back8.before.before.before.args in
     let made = back8.arrange-along in
     let outcome = c.before.before.before.before.before.outcome.given in
-    all_same args.out.now _ _ _ _ (along-refused args.g args.order.now made.result made.ensures.0 _ outcome.1)
+    all_same args.out.now _ _ _ _ (along_refused args.g args.order.now made.result made.ensures.0 _ outcome.1)
     c.before.before.lay-refusal.ensures (refusal-within outcome.0.0 1 0 (omega arith) (omega arith))
 
 pub lay-along-spec : {M : Type 1} → statement M

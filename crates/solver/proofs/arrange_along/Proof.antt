@@ -15,7 +15,7 @@ use Rattle.schedule.specs.Count.{each_once}
 use Rattle.schedule.proofs.Orders.{Each, order_each, order_long}
 use Rattle.plan.proofs.Rising.{live-ordered}
 use Rattle.solver.proofs.Tables.{registered}
-use Rattle.solver.proofs.Answers.{along-plan, held, no_graph, no_order}
+use Rattle.solver.proofs.Answers.{along_plan, held, no_graph, no_order}
 use Rattle.solver.proofs.arrange_along.Statement.{statement}
 use Rattle.solver.proofs.arrange_along.Tie as tie
 
@@ -60,7 +60,7 @@ returns-3 c =
     (not-false _ c.before.before.before.before.before.before.before.if1.false) in
     let o = tells c.before.before.before.before.before.before.is-order.ensures (not-false _ c.before.before.before.before.before.if2.false) in
     let keys = in_array _ _ _ o c.before.in_array.ensures in (
-      held _ _ _ v o (c.plan-of.ensures.0 ∙ along-plan _ _ _ _ c.before.before.before.live_of.ensures keys.1),
+      held _ _ _ v o (c.plan-of.ensures.0 ∙ along_plan _ _ _ _ c.before.before.before.live_of.ensures keys.1),
       (valid-variables _ v, c.plan-of.ensures.1),
     )
 

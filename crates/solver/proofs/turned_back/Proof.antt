@@ -5,7 +5,7 @@ use native.Mathlib.Omega.{arith}
 use borrow.Author.Rules.{rules}
 use Rattle.schedule.specs.Count.{from}
 use Rattle.plan.proofs.Rising.{listed-none, listed-done, live-ordered}
-use Rattle.solver.proofs.Answers.{none-held}
+use Rattle.solver.proofs.Answers.{none_held}
 use Rattle.solver.proofs.turned_back.Statement.{statement}
 use Rattle.solver.proofs.turned_back.Tie as tie
 
@@ -18,4 +18,4 @@ plan-of-requires c κs = (
 
 pub turned-back-spec : {M : Type 1} → statement M
 turned-back-spec = tie.close (tie.spec plan-of-requires
-    (λ c. (none-held _ _ _ _ c.plan-of.ensures.0, (omega arith, c.plan-of.ensures.1))))  -- returns
+    (λ c. (none_held _ _ _ _ c.plan-of.ensures.0, (omega arith, c.plan-of.ensures.1))))  -- returns

@@ -15,7 +15,7 @@ cholesky-requires : tie.Need-cholesky-requires
 cholesky-requires c κs =
     let entry = c.before.before.before.before in
     let args = entry.args in
-    dense args.n args.n _ (omega (arith, entry.requires.of-l))
+    dense args.n args.n _ (omega (arith, entry.requires.of_l))
 
 returns : tie.Need-returns
 returns c =
@@ -27,8 +27,8 @@ solve-requires c κs =
     let entry = c.before.before.before.before.before.before.before.before.before.before.before in
     let args = entry.args in
     let pre = entry.requires in (
-      dense args.n args.n _ (omega (arith, c.before.before.before.before.before.before.cholesky.auto.0, pre.of-l)),
-      λ i hi. omega (arith, pre.of-x),
+      dense args.n args.n _ (omega (arith, c.before.before.before.before.before.before.cholesky.auto.0, pre.of_l)),
+      λ i hi. omega (arith, pre.of_x),
     )
 
 inverse-requires : tie.Need-inverse-requires
@@ -39,9 +39,9 @@ inverse-requires c κs =
       dense args.n args.n _ (omega (
         arith,
         c.before.before.before.before.before.before.before.before.before.before.before.cholesky.auto.0,
-        pre.of-l,
+        pre.of_l,
       )),
-      dense args.n args.n _ (omega (arith, ap length pre.of-y, length-replicate (args.n * args.n) plus_zero)),
+      dense args.n args.n _ (omega (arith, ap length pre.of_y, length-replicate (args.n * args.n) plus_zero)),
     )
 
 returns-2 : tie.Need-returns-2
@@ -51,7 +51,7 @@ returns-2 c =
     let start = back16.before.before.before.before.before.before in
     let cholesky = back16.before.cholesky in
     vector_refused start.args.n start.args.x.now start.args.l.now _ _ _ cholesky.ensures.0 _ _ cholesky.ensures.1
-    back8.before.before.before.before.before.enum_told.given.1 start.requires.of-y back8.before.before.solve.ensures
+    back8.before.before.before.before.before.enum_told.given.1 start.requires.of_y back8.before.before.solve.ensures
     c.before.before.before.before.before.inverse.ensures _ c.before.finite.ensures (not-true _ c.if1.true)
 
 returns-3 : tie.Need-returns-3
@@ -62,7 +62,7 @@ returns-3 c =
     let start = back24.before in
     let cholesky = back16.before.before.before.before.cholesky in
     matrix_refused start.args.n start.args.x.now start.args.l.now _ _ _ cholesky.ensures.0 _ _ cholesky.ensures.1
-    back16.enum_told.given.1 start.requires.of-y back8.before.before.before.before.before.solve.ensures back8.inverse.ensures _
+    back16.enum_told.given.1 start.requires.of_y back8.before.before.before.before.before.solve.ensures back8.inverse.ensures _
     c.before.before.before.before.finite.ensures (not-false _ c.before.before.before.if1.false) _ c.before.finite2.ensures
     (not-true _ c.if2.true)
 
@@ -74,7 +74,7 @@ returns-4 c =
     let start = back24.before in
     let cholesky = back16.before.before.before.before.cholesky in
     exchange-done start.args.n start.args.x.now start.args.l.now _ _ _ cholesky.ensures.0 _ _ cholesky.ensures.1
-    back16.enum_told.given.1 start.requires.of-y back8.before.before.before.before.before.solve.ensures back8.inverse.ensures _
+    back16.enum_told.given.1 start.requires.of_y back8.before.before.before.before.before.solve.ensures back8.inverse.ensures _
     c.before.before.before.before.finite.ensures (not-false _ c.before.before.before.if1.false) _ c.before.finite2.ensures
     (not-false _ c.if2.false)
 

@@ -20,7 +20,7 @@ returns c =
     let pre = entry.requires in
     let exchange = back8.exchange in
     at-pivot args.n args.at args.a.now args.mean.now args.variance.now args.store.now _ _ _ _ _ _ exchange.result pre.0
-    pre.1.of-l pre.1.of-x back16.before.before.copy-in.ensures
+    pre.1.of_l pre.1.of_x back16.before.before.copy-in.ensures
     back8.before.before.before.before.before.before.copy-in2.ensures exchange.ensures c.enum-told2.given.1
 
 returns-2 : tie.Need-returns-2
@@ -33,7 +33,7 @@ returns-2 c =
     let pre = entry.requires in
     let exchange = back8.exchange in
     at_overflow args.n args.at args.a.now args.mean.now args.variance.now args.store.now _ _ _ _ _ _ exchange.result pre.0
-    pre.1.of-l pre.1.of-x back16.before.before.copy-in.ensures
+    pre.1.of_l pre.1.of_x back16.before.before.copy-in.ensures
     back8.before.before.before.before.before.before.copy-in2.ensures exchange.ensures c.enum-told3.given.1
 
 copy-in-requires-5 : tie.Need-copy-in-requires-5
@@ -44,7 +44,7 @@ copy-in-requires-5 c κs =
     omega (
       arith,
       c.before.before.before.before.before.before.before.before.before.before.before.before.before.before.before.before.before.before.before.exchange.auto.1.1.1.0,
-      ap length pre.1.of-y,
+      ap length pre.1.of_y,
       length-replicate (args.n * args.n) plus_zero,
       c.before.before.before.before.copy-in4.auto.0,
       c.before.before.before.before.before.before.before.before.before.copy-in3.auto.0,
@@ -59,7 +59,7 @@ returns-3 c =
     let copy-in2 = c.before.before.before.before.before.before.before.before.before.before.before.before.before.before.before.before.before.before.before.before.before.before.before.before.before.before.before.before.copy-in2 in
     let exchange = c.before.before.before.before.before.before.before.before.before.before.before.before.before.before.before.before.before.before.before.before.before.before.exchange in
     when_done args.n args.at args.a.now args.mean.now args.variance.now args.store.now _ _ _ _ _ _ exchange.result pre.0
-    pre.1.of-l pre.1.of-x c.before.before.before.before.before.before.before.before.before.before.before.before.before.before.before.before.before.before.before.before.before.before.before.before.before.before.before.before.before.before.before.before.copy-in.ensures copy-in2.ensures exchange.ensures c.before.before.before.before.before.before.before.before.before.before.before.before.before.before.enum_told.given.1 _ _ _ (omega (arith, exchange.kept.1.1.0, copy-in2.kept.0, pre.1.of-x))
+    pre.1.of_l pre.1.of_x c.before.before.before.before.before.before.before.before.before.before.before.before.before.before.before.before.before.before.before.before.before.before.before.before.before.before.before.before.before.before.before.before.copy-in.ensures copy-in2.ensures exchange.ensures c.before.before.before.before.before.before.before.before.before.before.before.before.before.before.enum_told.given.1 _ _ _ (omega (arith, exchange.kept.1.1.0, copy-in2.kept.0, pre.1.of_x))
     c.before.before.before.before.before.before.before.before.before.before.before.before.copy-in3.ensures
     c.before.before.before.before.before.before.before.copy-in4.ensures c.before.before.copy-in5.ensures
 

@@ -7,7 +7,7 @@ use lib.ListN.{length, get_or}
 use Rattle.slots.proofs.Adding.{fits-part}
 use Rattle.gaussian.specs.Elimination.{eliminate}
 use Rattle.gaussian.proofs.Telling.{last-tells}
-use Rattle.gaussian.specs.Answers.{viewsOf}
+use Rattle.gaussian.specs.Answers.{views_of}
 use Rattle.gaussian.proofs.Branches.{spans}
 use Rattle.gaussian.proofs.Outcomes.{few_rows, marginal-pivot, marginal_unbounded, marginal-message}
 use Rattle.gaussian.proofs.marginal.marginalize.Statement.{statement}
@@ -121,7 +121,7 @@ returns-2 : tie.Need-returns-2
 returns-2 c =
     let args = c.before.before.before.before.before.before.before.before.before.before.before.before.before.before.before.before.before.args in
     let dim-of = c.before.before.before.before.before.before.before.before.dim-of in
-    last-tells _ _ _ _ (marginal-pivot (eliminate (viewsOf args.factors.now args.messages.now args.keys.now args.heads.now
+    last-tells _ _ _ _ (marginal-pivot (eliminate (views_of args.factors.now args.messages.now args.keys.now args.heads.now
     args.slots.now) (args.key ∷ []) args.cleared.now args.sizes) _ c.before.before.before.before.before.eliminate-in.ensures.0
     args.key (get_or args.sizes args.key 0) dim-of.result _ c.before.enum_told.given.1 (omega (arith, dim-of.ensures)) c.refused.ensures)
 
@@ -129,7 +129,7 @@ returns-3 : tie.Need-returns-3
 returns-3 c =
     let args = c.before.before.before.before.before.before.before.before.before.before.before.before.before.before.before.before.before.args in
     let dim-of = c.before.before.before.before.before.before.before.before.dim-of in
-    last-tells _ _ _ _ (marginal_unbounded (eliminate (viewsOf args.factors.now args.messages.now args.keys.now args.heads.now
+    last-tells _ _ _ _ (marginal_unbounded (eliminate (views_of args.factors.now args.messages.now args.keys.now args.heads.now
     args.slots.now) (args.key ∷ []) args.cleared.now args.sizes) _ c.before.before.before.before.before.eliminate-in.ensures.0
     args.key (get_or args.sizes args.key 0) dim-of.result _ c.before.enum-told2.given.1 (omega (arith, dim-of.ensures))
     c.refused2.ensures)

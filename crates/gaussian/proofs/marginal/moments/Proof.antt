@@ -35,12 +35,12 @@ exchange-requires c κs =
     let args = entry.args in
     let pre = entry.pre in
     record {
-      of-x = c.before.before.before.before.before.before.before.before.before.before.before.before.gemv-tr.auto.0
+      of_x = c.before.before.before.before.before.before.before.before.before.before.before.before.gemv-tr.auto.0
           ∙ ap length pre.1.0 ∙ length-replicate args.s plus_zero;
-      of-l =
+      of_l =
           c.before.before.before.before.before.before.before.quadform.auto.0 ∙ ap length pre.1.1
           ∙ length-replicate (args.s * args.s) plus_zero;
-      of-y = pre.1.2;
+      of_y = pre.1.2;
     }
 
 returns : tie.Need-returns

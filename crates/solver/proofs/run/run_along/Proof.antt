@@ -6,7 +6,7 @@ use borrow.Author.Rules.{rules}
 use Rattle.schedule.proofs.Orders.{order_each, order_long}
 use Rattle.plan.specs.Plan.{plan_in}
 use Rattle.solver.specs.Run.{key_at}
-use Rattle.solver.proofs.Answers.{made_of, refused-run}
+use Rattle.solver.proofs.Answers.{made_of, refused_run}
 use Rattle.solver.proofs.Stages.{made-planned, as_held, enough-told, short-checked, enough-checked, run-made}
 use Rattle.solver.proofs.Telling.{run-tells}
 use Rattle.solver.proofs.run.run_along.Statement.{statement}
@@ -17,7 +17,7 @@ returns c =
     let back8 = c.before.before.before.before.before.before.before.before in
     let args = back8.before.before.args in
     let made = c.before.before.before.before.arrange-along in
-    run-tells _ _ _ _ (rw c.refused.ensures (refused-run args.g args.order.now made.result made.ensures.0 _
+    run-tells _ _ _ _ (rw c.refused.ensures (refused_run args.g args.order.now made.result made.ensures.0 _
     c.before.before.outcome.given.1 args.factors.now args.messages.now (length args.work.now) args.marginals.now))
 
 place-plan-requires : tie.Need-place-plan-requires
