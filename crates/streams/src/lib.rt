@@ -87,6 +87,16 @@ pub fn write_all<W: Write>(output: &mut W, text: &[u8]) -> bool {
     true
 }
 
+// Writes a number in decimal, with no line end. The answer is whether all was written.
+pub fn write_decimal<W: Write>(output: &mut W, n: u64) -> bool {
+    write!(output, "{n}").is_ok()
+}
+
+// Writes a number as 16 hexadecimal digits in lower case, with no line end. The answer is whether all was written.
+pub fn write_hex<W: Write>(output: &mut W, n: u64) -> bool {
+    write!(output, "{n:016x}").is_ok()
+}
+
 // Writes a text to standard output. If not all of it could be written, the complaint goes to standard error.
 pub fn print<O: Write, E: Write>(output: &mut O, error: &mut E, text: &[u8], complaint: &[u8]) {
     if !write_all(output, text) {
