@@ -1,5 +1,6 @@
 // The archive for programs in C or Rust: `firmware::strips_solve` under its C name. firmware/strips.h has its contract in C's words.
 #![tactic(auto)]
+
 ghost use Rattle.std.specs.Prelude.{◌≡◌};
 ghost use Rattle.lines.specs.Lines.{written, laid_in, length_of};
 ghost use Rattle.job.specs.Job.{job_text};

@@ -1,5 +1,6 @@
 // The archive that the comparison with the original and the benchmark link beside that of `firmware_c`: the calls of `measured` under their C names.
 #![tactic(auto)]
+
 ghost use Rattle.std.specs.Prelude.{◌≡◌, length};
 ghost use Rattle.root.specs.Root.{root_of};
 ghost use Rattle.records.specs.Records.{read_all};
