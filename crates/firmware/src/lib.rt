@@ -1,4 +1,6 @@
 // The one call for programs in C or Rust: a job's bytes in, its text out. The caller lends both; nothing else is read or written.
+#![tactic(auto)]
+
 ghost use Rattle.std.specs.Prelude.{◌≡◌};
 ghost use Rattle.lines.specs.Lines.{written, laid_in, length_of};
 ghost use Rattle.job.specs.Job.{job_text};

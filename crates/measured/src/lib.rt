@@ -1,5 +1,7 @@
 // What the comparison with the original and the benchmark call beside `firmware`: reading, runs, plans, roots and lookups alone, a direct elimination,
 // and the run and the plan along a lent order.
+#![tactic(auto)]
+
 ghost use Rattle.std.specs.Prelude.{◌≡◌, ◌≤◌, length};
 ghost use Rattle.workspace.specs.Frames.{work_numbers};
 ghost use Rattle.root.specs.Root.{root_of};
