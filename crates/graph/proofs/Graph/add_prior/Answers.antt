@@ -1,0 +1,37 @@
+-- `graph::Graph::add_prior` meets its contract: a record that fails the test is refused, and of any other `enter_prior` says the same. Assumes nothing.
+use Prim.Native.Nat.{ℕ}
+use mathlib.Core.Bool.{false}
+use mathlib.Core.List.{List}
+use mathlib.Core.Path.{◌≡◌, refl}
+use borrow.Author.Tests.{not-false, not-true}
+use lib.Ieee.{Float}
+use Rattle.factor.proofs.Counting.{tells}
+use Rattle.graph.proofs.Telling.{prior-tells}
+use Rattle.graph.proofs.CheckOrder.{turned_back_lem}
+use Rattle.graph.specs.Record.{valid}
+use Rattle.graph.specs.Registration.{add_prior, prior_store, prior_verdict, refuse}
+use Rattle.graph.specs.declared.Graph.{Graph}
+use Rattle.graph.specs.declared.refusal.Refusal.TheVariants.{NoSuchGraph}
+use Rattle.graph.proofs.Graph.add_prior.Goals as goal
+
+-- the way out at the test, over plain values
+module _ (g : Graph) (key : ℕ) (mean variance store : List Float) where
+  no_graph : valid g ≡ false → prior_verdict g key mean variance store ≡ refuse NoSuchGraph
+  unfolding prior_verdict
+  no_graph h = rw h
+
+pub returns-then-not-valid : goal.returns-then-not-valid
+unfolding add_prior prior_store
+returns-then-not-valid c =
+    let args = c.args in
+    let all = prior-tells args.self args.key args.mean.now args.variance.now args.store.now _ _
+    (turned_back_lem args.self _ args.store.now _ _ _ _ (no_graph args.self args.key args.mean.now args.variance.now
+    args.store.now (tells c.valid.ensures.0 (not-true _ c.if-not-valid.true-raw))) c.refused.ensures refl) in record { value = all.0; store_after = all.1.0; outcome_value = all.1.1 }
+
+pub enter_prior-requires : goal.enter_prior-requires
+enter_prior-requires c = tells c.valid.ensures.0 (not-false _ c.if-not-valid.false-raw)
+
+pub returns : goal.returns
+returns c =
+    let args = c.args in
+    let all = prior-tells args.self args.key args.mean.now args.variance.now args.store.now _ _ (c.enter_prior.ensures.value, c.enter_prior.ensures.store_after) in record { value = all.0; store_after = all.1.0; outcome_value = all.1.1 }

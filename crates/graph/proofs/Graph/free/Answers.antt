@@ -1,0 +1,27 @@
+-- `graph::Graph::free` meets its contract. The loop's invariant: no place passed has the name. Assumes nothing.
+use Prim.Native.Nat.{◌-◌}
+use mathlib.Core.Bool.{not, true}
+use mathlib.Core.Path.{◌≡◌, ap, sym}
+use native.Mathlib.Omega.{arith}
+use borrow.Author.Rules.{rules}
+use Rattle.factor.proofs.Counting.{all_fail, all_more, all_none, tells}
+use Rattle.graph.specs.Record.{free, name_at, same}
+use Rattle.graph.proofs.Graph.free.Goals as goal
+
+pub loop-key-init : goal.loop-key-init
+loop-key-init c = (search rules, all_none _)
+
+pub returns-then-same : goal.returns-then-same
+unfolding free
+returns-then-same c =
+    let args = c.args in
+    sym (all_fail (λ j. not (same (name_at args.t1 j) args.name)) _ c.loop-key.key (omega arith)
+    (ap not (tells c.same.ensures c.if-same.true)))
+
+pub loop-key-preserved : goal.loop-key-preserved
+loop-key-preserved c = (omega arith, all_more _ _ c.loop-key.invariant.1 (ap not (tells c.same.ensures c.if-same.false)))
+
+pub returns : goal.returns
+unfolding free
+returns c =
+    let e : c.loop-key.key ≡ c.args.n = omega arith in sym (rw e at c.loop-key.invariant.1)

@@ -1,0 +1,32 @@
+-- `lists::put_set` meets its contract. The loop's invariant: the members below j stand behind the first places. Assumes nothing.
+use native.Mathlib.Omega.{arith}
+use mathlib.Core.Path.{refl}
+use mathlib.Core.Logic.{⊎_elim}
+use mathlib.Core.List.{append-nil}
+use Prim.Native.Nat.{◌+◌, ◌-◌}
+use lib.ListN.{take, set}
+use Rattle.plan.specs.Mask.{has}
+use Rattle.plan.proofs.Unions.{in_set, off_set, rising-zero}
+use Rattle.lists.proofs.Writing.{put_in, put_off, put-done}
+use Rattle.lists.proofs.put_set.Goals as goal
+
+pub loop-j-init : goal.loop-j-init
+loop-j-init c =
+    let args = c.args in
+    rw (rising-zero (λ i. has i args.set), append-nil (take args.at args.list.now)) (omega arith, omega arith, refl, refl)
+
+pub loop-j-preserved : goal.loop-j-preserved
+loop-j-preserved c =
+    let pre = c.requires in
+    let args = c.args in
+    let loop = c.loop-j in
+    ⊎_elim (λ w. put_in (λ i. args.shift + i) (λ i. has i args.set) args.list.now loop.list _ args.at loop.to loop.j
+    c.loop-j-test.true pre.0 loop.invariant _ (in_set args.set loop.j c.single.result c.single.ensures w.0.taken) w.1 w.2)
+    (λ w. put_off (λ i. args.shift + i) (λ i. has i args.set) args.list.now loop.list _ args.at loop.to loop.j
+    c.loop-j-test.true pre.0 loop.invariant _ (off_set args.set loop.j c.single.result c.single.ensures w.0.left) w.1 w.2) c.if-set-single-ne0.branch
+
+pub returns : goal.returns
+returns c =
+    let loop = c.loop-j in
+    let args = c.args in
+    let all = put-done (λ i. args.shift + i) args.set args.list.now loop.list args.at loop.to loop.j loop.invariant (omega arith) in record { list_after = all.0; upper_bound = all.1 }

@@ -1,0 +1,10 @@
+use mathlib.Core.Path.{◌≡◌}
+use Prim.Native.Nat.{◌-◌}
+use lib.ListN.{length}
+use Rattle.marginals.proofs.KeyByKey.{Walked}
+use Rattle.marginals.proofs.Searching.{entries}
+use Rattle.marginals.proofs.find_marginals.Given as goal
+
+abbrev pub invariant-loop-key : goal.invariant-loop-key
+invariant-loop-key l = (length l.work ≡ length l.initial.work) × Walked l.sizes l.factors
+    l.messages l.keys l.heads (entries l.at l.n) l.initial.results l.results l.to l.key

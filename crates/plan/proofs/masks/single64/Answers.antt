@@ -1,0 +1,11 @@
+-- A one, shifted by the number, is the power of two: it loses no digit, since the number is below 64.
+-- Assumes nothing.
+use mathlib.Core.Path.{◌∙◌}
+use Prim.Native.Nat.{◌^◌}
+use native.Mathlib.Nat.{one-mul}
+use native.Mathlib.Omega.{arith}
+use lib.Pow.{shl_exact}
+use Rattle.plan.proofs.masks.single64.Goals as goal
+
+pub returns : goal.returns
+returns c = shl_exact 1 c.args.i 64 (omega arith) (omega arith) ∙ one-mul (2 ^ c.args.i)

@@ -1,0 +1,13 @@
+use Prim.Native.Nat.{◌-◌, ◌≤◌}
+use mathlib.Core.Path.{◌≡◌}
+use lib.ListN.{length}
+use Rattle.graph.specs.Reached.{Reached}
+use Rattle.records.specs.Records.{read_from, read_all}
+use Rattle.records.proofs.read.Given as goal
+
+abbrev pub invariant-loop-at : goal.invariant-loop-at
+invariant-loop-at l = (l.place ≤ l.at) × (l.at ≤ length l.bytes) × (length l.store ≡ length l.initial.store) × Reached l.g ×
+    (read_all l.bytes l.initial.store ≡ read_from (length l.bytes - l.place) l.bytes l.at l.place l.g l.store)
+
+abbrev pub decreases-loop-at : goal.decreases-loop-at
+decreases-loop-at l = length l.bytes - l.at

@@ -1,0 +1,135 @@
+-- `solver::run::carry_out` meets its contract: a refused message ends it, else it goes on to the next pass and then to stage 3. Assumes nothing.
+use mathlib.Core.Path.{ap, ◌∙◌}
+use Prim.Native.Nat.{ℕ, ◌-◌}
+use lib.ListN.{length}
+use Rattle.plan.specs.Plan.{plan_in}
+use Rattle.solver.specs.Run.{key_at}
+use Rattle.solver.proofs.Stages.{forwards, backwards, stop-low, step-forward, step_fits, first_asks, second_asks, forward-ends, forward-stays}
+use Rattle.solver.proofs.Stages.{gatherable, third_asks, first-refused, second-refused, third-told, enough_later}
+use native.Mathlib.Omega.{arith}
+use Rattle.solver.proofs.run.carry_out.Goals as goal
+
+pub carry_pass-requires : goal.carry_pass-requires
+carry_pass-requires c =
+    let args = c.args in
+    let all = first_asks args.g args.p c.requires.planned.0 args.places args.keys.now args.heads.now c.requires.planned.1 (length args.factors.now)
+    (length args.messages.now) (length args.work.now) (length args.marginals.now) c.requires.enough in record { pass_ready = all.0; tables = all.1.0; count_in_bounds = all.1.1 }
+
+pub step_of-requires : goal.step_of-requires
+step_of-requires c =
+    let args = c.args in (
+      (forwards args.g args.p c.requires.planned.0).0,
+      stop-low args.g args.factors.now _ _ _ _ c.carry_pass.ensures.result_value
+          c.in-Refused.is,
+    )
+
+pub key_at-requires : goal.key_at-requires
+key_at-requires c =
+    let args = c.args in
+    omega (
+      arith,
+      step-forward args.g args.p c.requires.planned.0 args.factors.now _ _ _ c.carry_pass.ensures.result_value
+          c.in-Refused.is,
+      c.step_of.ensures,
+      c.requires.order_len,
+    )
+
+pub returns-in-Refused : goal.returns-in-Refused
+unfolding plan_in
+returns-in-Refused c =
+    let args = c.args in
+    rw c.refused.ensures (first-refused args.g (key_at args.order.now) (plan_in args.g.variables args.p) args.places.figure
+    args.factors.now args.messages.now args.marginals.now _ _ _ _ _ c.carry_pass.ensures.result_value c.in-Refused.is
+    c.carry_pass.ensures.messages_after (c.key_at.ensures ∙ ap (key_at args.order.now) c.step_of.ensures))
+
+pub carry_pass-requires-2 : goal.carry_pass-requires-2
+carry_pass-requires-2 c =
+    let args = c.args in
+    let kept = c.carry_pass.auto.1.1.1.1.1 in
+    let all = second_asks args.g args.p c.requires.planned.0 args.places args.keys.now args.heads.now c.requires.planned.1 (length args.factors.now) _ _
+    (length args.marginals.now) (enough_later c.requires.enough kept.0 kept.1.0) in record { pass_ready = all.0; tables = all.1.0; count_in_bounds = all.1.1 }
+
+pub overflow_sub-n : goal.overflow_sub-n
+overflow_sub-n c =
+    let args = c.args in
+    omega (
+      arith,
+      step_fits args.g args.p c.requires.planned.0 args.factors.now _ _ _
+          c.carry_pass-2.ensures.result_value
+          c.in-Refused-carry_pass.is,
+    )
+
+pub step_of-requires-in-Refused-carry_pass : goal.step_of-requires-in-Refused-carry_pass
+step_of-requires-in-Refused-carry_pass c =
+    let args = c.args in (
+      (backwards args.g args.p c.requires.planned.0).0,
+      stop-low args.g args.factors.now _ _ _ _ c.carry_pass-2.ensures.result_value
+          c.in-Refused-carry_pass.is,
+    )
+
+pub overflow_sub-n-in-Refused-carry_pass : goal.overflow_sub-n-in-Refused-carry_pass
+overflow_sub-n-in-Refused-carry_pass c =
+    let args = c.args in
+    omega (
+      arith,
+      step_fits args.g args.p c.requires.planned.0 args.factors.now _ _ _ c.carry_pass-2.ensures.result_value
+          c.in-Refused-carry_pass.is,
+      c.step_of-in-Refused-carry_pass.ensures,
+    )
+
+pub key_at-requires-in-Refused-carry_pass : goal.key_at-requires-in-Refused-carry_pass
+key_at-requires-in-Refused-carry_pass c =
+    let args = c.args in
+    omega (
+      arith,
+      step_fits args.g args.p c.requires.planned.0 args.factors.now _ _ _ c.carry_pass-2.ensures.result_value
+          c.in-Refused-carry_pass.is,
+      c.step_of-in-Refused-carry_pass.ensures,
+      c.requires.order_len,
+    )
+
+pub returns-in-Refused-carry_pass : goal.returns-in-Refused-carry_pass
+unfolding plan_in
+returns-in-Refused-carry_pass c =
+    let args = c.args in
+    let through = c.in-Done.is in
+    let ends = forward-ends args.g args.p c.requires.planned.0 args.places args.keys.now args.heads.now c.requires.planned.1 args.factors.now
+    args.messages.now _ _ c.requires.enough _ (c.carry_pass.ensures.all_stored through) in
+    rw c.refused-in-Refused-carry_pass.ensures (second-refused args.g (key_at args.order.now) (plan_in args.g.variables args.p) args.places.figure
+    args.factors.now args.messages.now args.marginals.now args.places.forward _ _ _ _ c.carry_pass.ensures.result_value c.carry_pass-2.ensures.result_value through
+    c.carry_pass.ensures.messages_after c.carry_pass-2.ensures.messages_after ends _ _ _ c.in-Refused-carry_pass.is
+    (c.key_at-in-Refused-carry_pass.ensures ∙ ap (λ (t : ℕ). key_at args.order.now (args.g.variables - 1 - t)) c.step_of-in-Refused-carry_pass.ensures))
+
+pub third_stage-requires : goal.third_stage-requires
+third_stage-requires c =
+    let args = c.args in
+    let kept = c.carry_pass.auto.1.1.1.1.1 in
+    let kept2 = c.carry_pass-2.auto.1.1.1.1.1 in
+    let enough = enough_later c.requires.enough kept.0 kept.1.0 in
+    let fw = c.carry_pass.ensures.all_stored c.in-Done.is in
+    let bw = c.carry_pass-2.ensures.all_stored c.in-Done-carry_pass.is in
+    third_asks args.g args.p c.requires.planned.0 args.places args.keys.now args.heads.now c.requires.planned.1 args.factors.now _ _
+    (length args.marginals.now) (enough_later enough kept2.0 kept2.1.0)
+    (forward-stays args.g args.p c.requires.planned.0 args.places args.keys.now args.heads.now c.requires.planned.1 args.factors.now _ _
+    (length args.marginals.now) enough _ c.carry_pass-2.ensures.messages_after fw bw) bw
+
+pub returns : goal.returns
+unfolding plan_in
+returns c =
+    let args = c.args in
+    let kept = c.carry_pass.auto.1.1.1.1.1 in
+    let kept2 = c.carry_pass-2.auto.1.1.1.1.1 in
+    let enough = enough_later c.requires.enough kept.0 kept.1.0 in
+    let through = c.in-Done.is in
+    let through2 = c.in-Done-carry_pass.is in
+    let fw = c.carry_pass.ensures.all_stored through in
+    let bw = c.carry_pass-2.ensures.all_stored through2 in
+    let ends = forward-ends args.g args.p c.requires.planned.0 args.places args.keys.now args.heads.now c.requires.planned.1 args.factors.now
+    args.messages.now _ _ c.requires.enough _ fw in
+    third-told args.g (key_at args.order.now) (plan_in args.g.variables args.p) args.places.figure args.factors.now args.messages.now
+    args.marginals.now args.places.forward _ _ _ _ c.carry_pass.ensures.result_value c.carry_pass-2.ensures.result_value through c.carry_pass.ensures.messages_after
+    c.carry_pass-2.ensures.messages_after ends _ _ through2 (c.third_stage.ensures _
+    (gatherable args.g args.p c.requires.planned.0 args.places args.keys.now args.heads.now c.requires.planned.1 args.factors.now _ _
+    (length args.marginals.now) (enough_later enough kept2.0 kept2.1.0)
+    (forward-stays args.g args.p c.requires.planned.0 args.places args.keys.now args.heads.now c.requires.planned.1 args.factors.now _ _
+    (length args.marginals.now) enough _ c.carry_pass-2.ensures.messages_after fw bw) bw))

@@ -1,0 +1,6 @@
+-- `solver::run::step_of` meets its contract: a step is a byte of the plan's array. Assumes nothing.
+use Rattle.solver.proofs.Stages.{step-told}
+use Rattle.solver.proofs.run.step_of.Goals as goal
+
+pub returns : goal.returns
+returns c = step-told c.args.self c.args.j c.requires.1
