@@ -33,44 +33,26 @@ inverse-requires c =
         arith,
         c.cholesky.auto.s,
         pre.of_l,
-<<<<<<< HEAD
       ));
       inside_2 = dense args.n args.n _ (omega (arith, ap length pre.of_y, length-replicate (args.n * args.n) plus_zero));
     }
-=======
-      )); inside_2 = dense args.n args.n _ (omega (arith, ap length pre.of_y, length-replicate (args.n * args.n) plus_zero)) }
->>>>>>> 45afd0153c5fdabe83d1a4e762293a411e0da91f
 
 pub returns-then-not-finite : goal.returns-then-not-finite
 returns-then-not-finite c =
     vector_refused c.args.n c.args.x.now c.args.l.now _ _ _ c.cholesky.ensures.value _ _ c.cholesky.ensures.s_after
     c.in-Done.is c.requires.of_y c.solve.ensures
-<<<<<<< HEAD
     c.inverse.ensures _ c.finite.ensures c.if-not-finite.true
-=======
-    c.inverse.ensures _ c.finite.ensures (not-true _ c.if-not-finite.true-raw)
->>>>>>> 45afd0153c5fdabe83d1a4e762293a411e0da91f
 
 pub returns-then-not-finite-2 : goal.returns-then-not-finite-2
 returns-then-not-finite-2 c =
     matrix_refused c.args.n c.args.x.now c.args.l.now _ _ _ c.cholesky.ensures.value _ _ c.cholesky.ensures.s_after
     c.in-Done.is c.requires.of_y c.solve.ensures c.inverse.ensures _
-<<<<<<< HEAD
     c.finite.ensures c.if-not-finite.false _ c.finite-2.ensures
     c.if-not-finite-2.true
-=======
-    c.finite.ensures (not-false _ c.if-not-finite.false) _ c.finite-2.ensures
-    (not-true _ c.if-not-finite-2.true-raw)
->>>>>>> 45afd0153c5fdabe83d1a4e762293a411e0da91f
 
 pub returns : goal.returns
 returns c =
     exchange-done c.args.n c.args.x.now c.args.l.now _ _ _ c.cholesky.ensures.value _ _ c.cholesky.ensures.s_after
     c.in-Done.is c.requires.of_y c.solve.ensures c.inverse.ensures _
-<<<<<<< HEAD
     c.finite.ensures c.if-not-finite.false _ c.finite-2.ensures
     c.if-not-finite-2.false
-=======
-    c.finite.ensures (not-false _ c.if-not-finite.false) _ c.finite-2.ensures
-    (not-false _ c.if-not-finite-2.false-raw)
->>>>>>> 45afd0153c5fdabe83d1a4e762293a411e0da91f
