@@ -3,7 +3,7 @@
 use mathlib.Core.Bool.{true}
 use mathlib.Core.Path.{◌≡◌}
 use native.Mathlib.Omega.{arith}
-use borrow.Author.Tests.{not-false, not-true}
+use borrow.Author.Tests.{not-false}
 use Rattle.factor.proofs.Counting.{tells}
 use Rattle.graph.specs.Record.{live_at, valid}
 use Rattle.graph.proofs.Calls.{no_graph, not_live, in_place_lem}
@@ -25,7 +25,7 @@ pub returns-then-not-valid : goal.returns-then-not-valid
 returns-then-not-valid c =
     let args = c.args in
     let all = superseding-tells args.self args.number _ args.store.now _ _ _
-    (no_graph args.self args.number _ args.store.now _ _ (tells c.valid.ensures.0 (not-true _ c.if-not-valid.true-raw))
+    (no_graph args.self args.number _ args.store.now _ _ (tells c.valid.ensures.0 c.if-not-valid.true)
     c.refused.ensures) in record { value = all.0; store_after = all.1.0; outcome_value = all.1.1 }
 
 pub returns-then-not-is_live : goal.returns-then-not-is_live
@@ -33,8 +33,8 @@ returns-then-not-is_live c =
     let args = c.args in
     let all = superseding-tells args.self args.number _ args.store.now _ _ _
     (not_live args.self args.number _ args.store.now _
-    (tells c.valid.ensures.0 (not-false _ c.if-not-valid.false-raw)) _
-    (tells c.is_live.ensures (not-true _ c.if-not-is_live.true-raw)) c.refused-then-not-is_live.ensures) in record { value = all.0; store_after = all.1.0; outcome_value = all.1.1 }
+    (tells c.valid.ensures.0 c.if-not-valid.false) _
+    (tells c.is_live.ensures c.if-not-is_live.true) c.refused-then-not-is_live.ensures) in record { value = all.0; store_after = all.1.0; outcome_value = all.1.1 }
 
 pub enter_observation-added-requires : goal.enter_observation-added-requires
 enter_observation-added-requires c = sound c.before

@@ -5,7 +5,7 @@ use mathlib.Core.Logic.{◌↔◌}
 use mathlib.Core.Path.{◌∙◌, ◌≡◌, sym}
 use native.Mathlib.Omega.{arith}
 use borrow.Author.Rules.{rules}
-use borrow.Author.Tests.{eq-eqb, le-leb, lt-leb, ne_eqb, not-false, not-true}
+use borrow.Author.Tests.{eq-eqb, le-leb, lt-leb, ne_eqb, not-false}
 use lib.ListN.{length}
 use Rattle.factor.proofs.Counting.{tells}
 use Rattle.factor.specs.Counting.{every}
@@ -99,21 +99,21 @@ returns-then-self-gt-FACTORS c = not-reached _ (too-many-factors c.args.self c.i
 
 pub returns-then-not-variables_fit : goal.returns-then-not-variables_fit
 returns-then-not-variables_fit c = not-reached _ (bad-variable c.args.self
-    c.if-self-gt-VARIABLES.false c.if-self-gt-FACTORS.false (tells c.variables_fit.ensures (not-true _ c.if-not-variables_fit.true-raw)))
+    c.if-self-gt-VARIABLES.false c.if-self-gt-FACTORS.false (tells c.variables_fit.ensures c.if-not-variables_fit.true))
 
 pub returns-then-total-gt-TOTAL : goal.returns-then-total-gt-TOTAL
 returns-then-total-gt-TOTAL c = not-reached _ (too_large c.args.self
     c.if-self-gt-VARIABLES.false c.if-self-gt-FACTORS.false
-    (tells c.variables_fit.ensures (not-false _ c.if-not-variables_fit.false-raw)) c.total.result
+    (tells c.variables_fit.ensures c.if-not-variables_fit.false) c.total.result
     c.total.ensures c.if-total-gt-TOTAL.true)
 
 pub returns-then-not-factors_fit : goal.returns-then-not-factors_fit
-returns-then-not-factors_fit c = bad-place c.before (not-true _ c.if-not-factors_fit.true-raw)
+returns-then-not-factors_fit c = bad-place c.before c.if-not-factors_fit.true
 
 pub returns-then-count-eq0 : goal.returns-then-count-eq0
-returns-then-count-eq0 c = at_last c.before.before (not-false _ c.if-not-factors_fit.false-raw) _ (none_last (whole c.before.before) c.if-count-eq0.true)
+returns-then-count-eq0 c = at_last c.before.before c.if-not-factors_fit.false _ (none_last (whole c.before.before) c.if-count-eq0.true)
 
 pub returns : goal.returns
 returns c =
     let f = c.before.before.before in
-    at_last f (not-false _ c.if-not-factors_fit.false-raw) _ (c.is_live.ensures ∙ some-last (whole f) c.if-count-eq0.false)
+    at_last f c.if-not-factors_fit.false _ (c.is_live.ensures ∙ some-last (whole f) c.if-count-eq0.false)
