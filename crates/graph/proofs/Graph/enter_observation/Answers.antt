@@ -72,8 +72,7 @@ returns-then-not-known c =
 pub observation_of-f-requires : goal.observation_of-f-requires
 observation_of-f-requires c =
     let args = c.args in
-    let pre = c.requires in
-    (
+    let pre = c.requires in (
       few-keys _ _ (tells c.counts_fit.ensures c.if-not-counts_fit.false),
       omega (arith, most-rows _ _ (tells c.counts_fit.ensures c.if-not-counts_fit.false)),
       all_known args.self args.keys.now pre (tells c.known.ensures c.if-not-known.false),

@@ -19,8 +19,11 @@ unfolding factors_fit
 returns-then-not-factor_place c =
     let args = c.args in
     let loop = c.loop-number in
-    record { value = sym (all_fail (λ i. factor_place args.self i) max_factors loop.number (search rules)
-          (tells (placed-is args.self loop.number _ _ _ refl refl c.factor_place.ensures.0) c.if-not-factor_place.true)); i_len = λ x. absurd (false≢true x) }
+    record {
+      value = sym (all_fail (λ i. factor_place args.self i) max_factors loop.number (search rules)
+          (tells (placed-is args.self loop.number _ _ _ refl refl c.factor_place.ensures.0) c.if-not-factor_place.true));
+      i_len = λ x. absurd (false≢true x);
+    }
 
 pub loop-number-preserved : goal.loop-number-preserved
 loop-number-preserved c =
