@@ -1,4 +1,6 @@
 // Cholesky's factor of a symmetric matrix, and the solves with it, in place on lent slices.
+#![tactic(auto)]
+
 pub mod exchange;
 
 ghost use Rattle.std.specs.Prelude.{◌≡◌, ℕ, ◌+◌, ◌<◌, ◌≤◌, ◌^◌, length};

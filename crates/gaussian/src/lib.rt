@@ -1,4 +1,6 @@
 // One elimination: the cleared keys go out of the factors of its slots, and a message over the kept keys stays.
+#![tactic(auto)]
+
 pub mod marginal;
 
 ghost use Rattle.std.specs.Prelude.{◌≡◌, ℕ, ◌+◌, ◌-◌, ◌<◌, ◌≤◌, length, get_or};

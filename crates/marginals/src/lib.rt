@@ -1,4 +1,6 @@
 // The marginals of a run: for each key, rising, the last elimination of what it gathers, and the mean and the covariance from its message.
+#![tactic(auto)]
+
 ghost use Rattle.std.specs.Prelude.{◌≡◌, [], ◌∷◌, ◌++◌, ◌+◌, ◌*◌, ◌≤◌, length, get_or, take};
 ghost use Rattle.factor.specs.Limits.{max_size, max_variables};
 ghost use Rattle.factor.specs.Factor.{lay};

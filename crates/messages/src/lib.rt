@@ -1,4 +1,6 @@
 // The messages of a pass: their places in the tables and in the message store, told before any arithmetic, and their making.
+#![tactic(auto)]
+
 ghost use Rattle.std.specs.Prelude.{◌≡◌, false, ◌+◌, ◌*◌, ◌≤◌, length};
 ghost use Rattle.factor.specs.Limits.{max_variables};
 ghost use Rattle.factor.specs.Factor.{lay};

@@ -1,4 +1,6 @@
 // The work store of an elimination: one lent slice holds its six matrices one after the other, and each function changes one of them.
+#![tactic(auto)]
+
 ghost use Rattle.std.specs.Prelude.{◌≡◌, ℕ, ◌+◌, ◌-◌, ◌*◌, ◌<◌, ◌≤◌, length};
 ghost use Rattle.matrix.specs.Views.{place, Inside, flip, columns};
 ghost use Rattle.matrix.specs.Stores.{block_column};
