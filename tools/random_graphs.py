@@ -139,13 +139,13 @@ HEADER = """-- {graphs} random graphs with their plans, made by tools/random_gra
 -- src/solver.rs into Python, run with a fixed seed. Half of the orders are shuffled, and in a third of the graphs some originals
 -- are left out. The definitions compute to the same plans.
 -- Assumes nothing.
-use mathlib.Core.Path.{{_≡_, refl}}
-use mathlib.Core.List.{{List, [], _∷_}}
+use mathlib.Core.Path.{{◌≡◌, refl}}
+use mathlib.Core.List.{{List, [], ◌∷◌}}
 use Prim.Native.Nat.{{ℕ}}
-use lib.ListN.{{getD}}
-use Rattle·schedule·specs.specs.Pass.{{Slot, original, closed, ClosedFactor}}
-use Rattle·schedule·specs.specs.Gather.{{Gathered}}
-use Rattle·schedule·specs.specs.Plan.{{plan}}
+use lib.ListN.{{get_or}}
+use Rattle.schedule.specs.Pass.{{Slot, original, closed, ClosedFactor}}
+use Rattle.schedule.specs.Gather.{{Gathered}}
+use Rattle.schedule.specs.Plan.{{plan}}
 
 -- a message by its step, content, kept and cleared keys
 abbrev sent : (step : ℕ) (content : List Slot) (kept cleared : List ℕ) → ClosedFactor
@@ -167,11 +167,11 @@ def main():
         at_key = [gather(n, factors, live, forward, backward, order.index(k), k) for k in range(n)]
         name = f"keys{number}"
         print(f"\n{name} : ℕ → List ℕ")
-        print(f"{name} i = getD {written([written(f) for f in factors])} i []")
+        print(f"{name} i = get_or {written([written(f) for f in factors])} i []")
         print(f"\nplan{number} : plan {n} {name} {written(live)} {written(order)} ≡ record {{")
         print(f"  forward ={listed([message_row(m) for m in forward], '      ')};")
         print(f"  backward ={listed([message_row(m) for m in backward], '      ')};")
-        print(f"  at-key ={listed([gathered_row(g) for g in at_key], '      ')};")
+        print(f"  at_key ={listed([gathered_row(g) for g in at_key], '      ')};")
         print("}")
         print(f"unfolding plan {name}")
         print(f"plan{number} = refl")

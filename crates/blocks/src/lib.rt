@@ -1,11 +1,13 @@
-// A reader over the matrix A of one factor: each key with its block column in turn. The borrow checker covers no function over a struct that
-// holds a slice, so these are few and thin and proved by hand; callers use `block_at`, whose parameters are plain.
+// A reader over the matrix A of one factor: each key with its block column in turn. Callers that want one block column use `block_at`, whose
+// parameters are plain.
+#![tactic(auto)]
+
 ghost use Rattle.std.specs.Prelude.{◌≡◌, ◌+◌, ◌*◌, ◌≤◌, ◌<◌, ◌^◌, length};
 ghost use Rattle.blocks.specs.Blocks.{block_column_of};
 ghost use Rattle.blocks.specs.Reader.{next_key_at, passed, started};
 
 // A, the place of the next key, and the column at which its block begins.
-#[derive(Drop)]
+#[derive(Clone, Copy)]
 pub struct Blocks<'a> {
     pub a: &'a [f64],
     pub place: usize,
@@ -13,7 +15,7 @@ pub struct Blocks<'a> {
 }
 
 // The key that comes next, or none.
-#[derive(Drop)]
+#[derive(Clone, Copy)]
 pub enum NextKey {
     Key(usize),
     End,

@@ -22,24 +22,24 @@ use Rattle.cholesky.specs.declared.Factored.TheVariants as factored
 use Rattle.cholesky.specs.declared.exchange.Exchanged.TheVariants.{Done, Pivot, NotFinite}
 use Rattle.cholesky.proofs.Diagonal.{Rooted, diagonal-factor}
 use Rattle.cholesky.proofs.Identity.{identity_of, identity-factor, identity-solve, identity-inverse, zeros-finite}
-use Rattle.cholesky.specs.Answers.{factoredAs, list_of, told}
+use Rattle.cholesky.specs.Answers.{factored_as, list_of, told}
 
 -- ---- the ways out
 
 module _ (n : ℕ) (x : List Float) where
-  whole_by : (F : Left) → factoredAs F ≡ factored.Done
+  whole_by : (F : Left) → factored_as F ≡ factored.Done
       → exchanged_by n x F ≡ finite_form (solved (list_of F) (columns n) n (columns n) 0 x)
       (inverted (list_of F) (columns n) n (columns n) (replicate (n * n) plus_zero) n)
   unfolding exchanged_by
   whole_by (whole l) e = refl
   whole_by (stuck l) e = cc
 
-  stuck_by : (F : Left) → factoredAs F ≡ factored.Refused → exchanged_by n x F ≡ pivot
+  stuck_by : (F : Left) → factored_as F ≡ factored.Refused → exchanged_by n x F ≡ pivot
   unfolding exchanged_by
   stuck_by (whole l) e = cc
   stuck_by (stuck l) e = refl
 
-  module _ (m y z : List Float) (r : Factored) (er : r ≡ factoredAs (factor (columns n) n m n)) where
+  module _ (m y z : List Float) (r : Factored) (er : r ≡ factored_as (factor (columns n) n m n)) where
     pub pivot-refused : r ≡ factored.Refused → exchanged n x m ≡ told Pivot y z
     unfolding exchanged told
     pivot-refused e = stuck_by (factor (columns n) n m n) (sym er ∙ e)

@@ -15,7 +15,7 @@ use Rattle.matrix.specs.Stores.{steps}
 use Rattle.matrix.specs.declared.View.{View}
 use Rattle.matrix.proofs.Agreement.{deduct-same}
 use Rattle.cholesky.specs.Factor.{pivot_of, Left, whole, stuck, below, rooted, factor_column, factor, reduced}
-use Rattle.cholesky.specs.Answers.{factoredAs, list_of}
+use Rattle.cholesky.specs.Answers.{factored_as, list_of}
 
 -- two lists that hold the same lower triangle, and hold it whole
 pub record Alike (v : View) (n : ℕ) (s t : List Float) : Type 0 where
@@ -81,10 +81,10 @@ module _ (v : View) (n : ℕ) where
   both-factor s t zero h A = wholes s t A
   both-factor s t (suc j) h A = both_column j (n - suc j) (omega arith) (both-factor s t j (omega arith) A)
 
-  both-answer : {F G : Left} → Both F G → (factoredAs F ≡ factoredAs G) × Alike v n (list_of F) (list_of G)
+  both-answer : {F G : Left} → Both F G → (factored_as F ≡ factored_as G) × Alike v n (list_of F) (list_of G)
   both-answer (wholes s t A) = (refl, A)
   both-answer (stucks s t A) = (refl, A)
 
-  pub lower_only : (s t : List Float) → Alike v n s t → (factoredAs (factor v n s n) ≡ factoredAs (factor v n t n)) × Alike v n (list_of (factor v n s n))
+  pub lower_only : (s t : List Float) → Alike v n s t → (factored_as (factor v n s n) ≡ factored_as (factor v n t n)) × Alike v n (list_of (factor v n s n))
       (list_of (factor v n t n))
   lower_only s t A = both-answer (both-factor s t n (omega arith) A)

@@ -15,7 +15,7 @@ use Rattle.matrix.specs.declared.View.{View}
 use Rattle.cholesky.specs.Factor.{pivot_of, whole, stuck, below, rooted, factor_column, factor, reduced}
 use Rattle.cholesky.specs.declared.Factored.{Factored}
 use Rattle.cholesky.specs.declared.Factored.TheVariants as factored
-use Rattle.cholesky.specs.Answers.{factoredAs, list_of}
+use Rattle.cholesky.specs.Answers.{factored_as, list_of}
 
 -- column j of t after row i
 row : List Float → View → ℕ → ℕ → List Float
@@ -65,7 +65,7 @@ next_turn v i j s₀ s t x p ji f ex ep et =
 -- a refused pivot: what is held then is the end
 pub no_turn : (v : View) (n : ℕ) (e₀ s₀ s : List Float) (i j : ℕ) (x d : Float) (q : Pivot) → j < n → factor v n e₀ j ≡ whole s₀ → i ≡ j → s ≡ s₀ → x
     ≡ reduced s v i j → d ≡ entry s v j j
-    → q ≡ pivot_of x d → q ≡ Refused → (factored.Refused ≡ factoredAs (factor v n e₀ n)) × (s ≡ list_of (factor v n e₀ n))
+    → q ≡ pivot_of x d → q ≡ Refused → (factored.Refused ≡ factored_as (factor v n e₀ n)) × (s ≡ list_of (factor v n e₀ n))
 unfolding factor factor_column rooted
 no_turn v n e₀ s₀ s i j x d q jn f ij ss ex ed eq en =
     let e : pivot_of (reduced s₀ v j j) (entry s₀ v j j) ≡ Refused = cc in
@@ -81,7 +81,7 @@ column_done v n e₀ s₀ s i j i-n f g = rw (add-one, f, ← i-n) g
 
 -- all columns are done
 pub all_done : (v : View) (n : ℕ) (e₀ s : List Float) (j : ℕ) (a : Factored) → j ≡ n → a ≡ factored.Done → factor v n e₀ j ≡ whole s
-    → (a ≡ factoredAs (factor v n e₀ n)) × (s ≡ list_of (factor v n e₀ n))
+    → (a ≡ factored_as (factor v n e₀ n)) × (s ≡ list_of (factor v n e₀ n))
 all_done v n e₀ s j a jn ad f =
     let e : factor v n e₀ n ≡ whole s = cc in
     rw e (ad, refl)

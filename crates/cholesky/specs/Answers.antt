@@ -9,9 +9,9 @@ use Rattle.cholesky.specs.declared.exchange.Exchanged.TheVariants.{Done, Pivot, 
 use Rattle.cholesky.specs.Forms.{Form, form, pivot, not_finite}
 
 -- the answer, and what the list then holds
-abbrev pub factoredAs : Left → Factored
-factoredAs (whole s) = factored.Done
-factoredAs (stuck s) = factored.Refused
+abbrev pub factored_as : Left → Factored
+factored_as (whole s) = factored.Done
+factored_as (stuck s) = factored.Refused
 
 abbrev pub list_of : Left → List Float
 list_of (whole s) = s
@@ -30,6 +30,6 @@ end_of not_finite = NotFinite
 
 -- what `exchange` is lent: a matrix and a vector of n rows, and zeros for the inverse
 pub record FormLent (n : ℕ) (l x y : List Float) : Type 0 where
-  pub of-l : length l ≡ n * n
-  pub of-x : length x ≡ n
-  pub of-y : y ≡ replicate (n * n) plus_zero
+  pub of_l : length l ≡ n * n
+  pub of_x : length x ≡ n
+  pub of_y : y ≡ replicate (n * n) plus_zero

@@ -1,11 +1,13 @@
 // Cholesky's factor of a symmetric matrix, and the solves with it, in place on lent slices.
+#![tactic(auto)]
+
 pub mod exchange;
 
 ghost use Rattle.std.specs.Prelude.{◌≡◌, ℕ, ◌+◌, ◌<◌, ◌≤◌, ◌^◌, length};
 ghost use Rattle.matrix.specs.Views.{place, Inside};
 ghost use Rattle.cholesky.specs.Factor.{pivot_of, reduced, factor};
 ghost use Rattle.cholesky.specs.Solve.{solved_row, solve_lower, solve_lower_in, solve_upper, solved, unit_column, inverted};
-ghost use Rattle.cholesky.specs.Answers.{factoredAs, list_of};
+ghost use Rattle.cholesky.specs.Answers.{factored_as, list_of};
 
 use matrix::View;
 use root::Pivot;
@@ -54,7 +56,7 @@ fn reduced(s: &[f64], v: View, i: usize, j: usize) -> f64
 // The lower triangle of S(n × n) becomes its Cholesky factor; the upper one is neither read nor written.
 pub fn cholesky(s: &mut [f64], v: View, n: usize) -> Factored
     requires { Inside v n n (length s.old) }
-    ensures value { result ≡ factoredAs (factor v n s.old n) }
+    ensures value { result ≡ factored_as (factor v n s.old n) }
     ensures s_after { s.new ≡ list_of (factor v n s.old n) }
 {
     let mut answer = Factored::Done;

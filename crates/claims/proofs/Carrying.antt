@@ -38,9 +38,9 @@ module _ (g : Graph) (p : schedule.Plan) (factors messages marginals : List Floa
   abbrev bw : List Outcome
   bw = values g factors p.backward
 
-  refused-run : (figure : ℕ) (why : Refusal) (stage key : ℕ) (l : List Float) → Right (refuse figure why stage key l marginals)
+  refused_run : (figure : ℕ) (why : Refusal) (stage key : ℕ) (l : List Float) → Right (refuse figure why stage key l marginals)
   unfolding is_done
-  refused-run figure why stage key l = record { exact = λ e. absurd (false≢true (ap is_done e)); bare = λ e. refl }
+  refused_run figure why stage key l = record { exact = λ e. absurd (false≢true (ap is_done e)); bare = λ e. refl }
 
   no_marginals : p.at_key ≡ [] → overlaid marginals (marginals_in (planned_marginals g factors p)) ≡ marginals
   unfolding marginals_from marginals_in
@@ -49,11 +49,11 @@ module _ (g : Graph) (p : schedule.Plan) (factors messages marginals : List Floa
   ends : (key : ℕ → ℕ) (figure : ℕ) → Ends Right g key p figure factors messages marginals
   ends key figure =
       record {
-        factors_short = refused-run figure FactorStoreShort 1 0 messages;
-        short = refused-run figure StoreShort 1 0 messages;
-        first = λ j why e. refused-run figure why 1 _ (overlaid messages (finished_numbers fw));
-        second = λ j why e. refused-run figure why 2 _ (overlaid messages (finished_numbers fw ++ finished_numbers bw));
-        third = λ k why e. refused-run figure why 3 k (overlaid messages (finished_numbers fw ++ finished_numbers bw));
+        factors_short = refused_run figure FactorStoreShort 1 0 messages;
+        short = refused_run figure StoreShort 1 0 messages;
+        first = λ j why e. refused_run figure why 1 _ (overlaid messages (finished_numbers fw));
+        second = λ j why e. refused_run figure why 2 _ (overlaid messages (finished_numbers fw ++ finished_numbers bw));
+        third = λ k why e. refused_run figure why 3 k (overlaid messages (finished_numbers fw ++ finished_numbers bw));
         done =
             λ ef eb ek. record {
               exact = λ e. record { forward_made = ef; backward_made = eb; messages_are = refl; all_found = ek; marginals_are = refl };
@@ -66,6 +66,6 @@ pub run_carries : (g : Graph) (order : List ℕ) (factors messages : List Float)
 run_carries g order factors messages work marginals =
     let p : schedule.Plan = plan_along g order in
     along-cases (Right g p factors messages marginals) g order factors messages work marginals
-    (refused-run g p factors messages marginals 0 NoSuchGraph 1 0 messages)
-    (refused-run g p factors messages marginals 0 OrderUnlike 1 0 messages)
+    (refused_run g p factors messages marginals 0 NoSuchGraph 1 0 messages)
+    (refused_run g p factors messages marginals 0 OrderUnlike 1 0 messages)
     (λ v o. ends g p factors messages marginals (key_at order) (figure_of g p))

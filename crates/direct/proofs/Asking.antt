@@ -22,7 +22,7 @@ use Rattle.slots.specs.Fitting.{Counted}
 use Rattle.slots.specs.declared.layout.Layout.{Layout}
 use Rattle.slots.specs.declared.Head.{Head}
 use Rattle.gaussian.specs.Elimination.{message_rows, nth}
-use Rattle.gaussian.specs.Answers.{viewsOf}
+use Rattle.gaussian.specs.Answers.{views_of}
 use Rattle.gaussian.specs.Asked.{HeadFits, Asked, Roomy}
 use Rattle.gaussian.proofs.Heads.{counted-head, rows_are}
 use Rattle.gaussian.proofs.Listing.{get_d_map}
@@ -97,8 +97,8 @@ module _ (g : Graph) (slots kept cleared : List ℕ) (factors : List Float) (ok 
     counted = record { few = few; headed = headed; counted = λ i l. counted-head kept cleared g.sizes keys _ _ (fits-at i l) }
 
     -- the factors read from the tables are those of the definition
-    pub views-are : (messages : List Float) → viewsOf factors messages keys heads slots ≡ views g slots factors
-    unfolding viewsOf views
+    pub views-are : (messages : List Float) → views_of factors messages keys heads slots ≡ views g slots factors
+    unfolding views_of views
     views-are messages =
         map_same (λ number. read_view factors messages keys (head_of heads number)) (original_view g factors) slots
         (λ i l. original_view_lem g ok.reached keys heads o (get_or slots i 0) (slot_below i l) factors messages)

@@ -13,7 +13,7 @@ use Rattle.slots.specs.Views.{FactorView, factor_numbers}
 use Rattle.slots.specs.Tables.{rows_by_all}
 use Rattle.gaussian.specs.Elimination.{message_rows, Outcome, pivot, not_finite, message, eliminate}
 use Rattle.gaussian.specs.Answers as gaussian
-use Rattle.gaussian.specs.Answers.{viewsOf}
+use Rattle.gaussian.specs.Answers.{views_of}
 use Rattle.gaussian.specs.declared.Eliminated.{Eliminated}
 use Rattle.gaussian.specs.declared.Eliminated.TheVariants as eliminated
 use Rattle.graph.specs.declared.Graph.{Graph}
@@ -33,26 +33,26 @@ turned_back_lem v why store e = rw e (refl, refl)
 start : (l n : List Float) → n ++ drop (0 + length n - 0) l ≡ n ++ drop (length n) l
 start l n = let e : 0 + length n - 0 ≡ length n = omega arith in ap (λ (k : ℕ). n ++ drop k l) e
 
-pub with_rows_lem : (v : DirectVerdict) (o : Outcome) (e : Eliminated) (store s : List Float) (r : ℕ) → v ≡ verdict_on o → e ≡ gaussian.eliminatedAs o → s
-    ≡ gaussian.messageStored store 0 o → e ≡ eliminated.Rows r
+pub with_rows_lem : (v : DirectVerdict) (o : Outcome) (e : Eliminated) (store s : List Float) (r : ℕ) → v ≡ verdict_on o → e ≡ gaussian.eliminated_as o → s
+    ≡ gaussian.message_stored store 0 o → e ≡ eliminated.Rows r
     → (Rows r ≡ direct_answer v) × (s ≡ direct_store store v)
-unfolding gaussian.eliminatedAs gaussian.messageStored verdict_on direct_answer direct_store
+unfolding gaussian.eliminated_as gaussian.message_stored verdict_on direct_answer direct_store
 with_rows_lem v pivot e store s r ev ea es er = absurd (let z : ◌≡◌ {A = ℕ} 0 1 = cc in omega arith)
 with_rows_lem v not_finite e store s r ev ea es er = absurd (let z : ◌≡◌ {A = ℕ} 0 1 = cc in omega arith)
 with_rows_lem v (message n a xi w) e store s r ev ea es er = let k : r ≡ n = cc in rw ev (ap Rows k, es ∙ start store (a ++ (xi ++ w)))
 
-pub at-pivot : (v : DirectVerdict) (o : Outcome) (e : Eliminated) (store s : List Float) → v ≡ verdict_on o → e ≡ gaussian.eliminatedAs o → s
-    ≡ gaussian.messageStored store 0 o → e ≡ eliminated.Pivot
+pub at-pivot : (v : DirectVerdict) (o : Outcome) (e : Eliminated) (store s : List Float) → v ≡ verdict_on o → e ≡ gaussian.eliminated_as o → s
+    ≡ gaussian.message_stored store 0 o → e ≡ eliminated.Pivot
     → (Refused ClearedPivot ≡ direct_answer v) × (s ≡ direct_store store v)
-unfolding gaussian.eliminatedAs gaussian.messageStored verdict_on direct_answer direct_store
+unfolding gaussian.eliminated_as gaussian.message_stored verdict_on direct_answer direct_store
 at-pivot v pivot e store s ev ea es er = rw ev (refl, es)
 at-pivot v not_finite e store s ev ea es er = absurd (let z : ◌≡◌ {A = ℕ} 0 1 = cc in omega arith)
 at-pivot v (message n a xi w) e store s ev ea es er = absurd (let z : ◌≡◌ {A = ℕ} 0 1 = cc in omega arith)
 
-pub at_overflow : (v : DirectVerdict) (o : Outcome) (e : Eliminated) (store s : List Float) → v ≡ verdict_on o → e ≡ gaussian.eliminatedAs o → s
-    ≡ gaussian.messageStored store 0 o → e ≡ eliminated.NotFinite
+pub at_overflow : (v : DirectVerdict) (o : Outcome) (e : Eliminated) (store s : List Float) → v ≡ verdict_on o → e ≡ gaussian.eliminated_as o → s
+    ≡ gaussian.message_stored store 0 o → e ≡ eliminated.NotFinite
     → (Refused ResultNotFinite ≡ direct_answer v) × (s ≡ direct_store store v)
-unfolding gaussian.eliminatedAs gaussian.messageStored verdict_on direct_answer direct_store
+unfolding gaussian.eliminated_as gaussian.message_stored verdict_on direct_answer direct_store
 at_overflow v pivot e store s ev ea es er = absurd (let z : ◌≡◌ {A = ℕ} 0 1 = cc in omega arith)
 at_overflow v not_finite e store s ev ea es er = rw ev (refl, es)
 at_overflow v (message n a xi w) e store s ev ea es er = absurd (let z : ◌≡◌ {A = ℕ} 0 1 = cc in omega arith)
@@ -67,7 +67,7 @@ module _ (g : Graph) (slots kept cleared : List ℕ) (factors : List Float) (ok 
   v = direct_verdict g slots kept cleared factors (length messages) work
 
   abbrev out : Outcome
-  out = eliminate (viewsOf factors messages keys heads slots) kept cleared g.sizes
+  out = eliminate (views_of factors messages keys heads slots) kept cleared g.sizes
 
   needed : n ≡ direct_need g kept cleared (views g slots factors)
   needed = en ∙ need-is g slots kept cleared factors ok keys heads o
@@ -86,7 +86,7 @@ module _ (g : Graph) (slots kept cleared : List ℕ) (factors : List Float) (ok 
           ∙ ap (λ (vs : List FactorView). verdict_on (eliminate vs kept cleared g.sizes))
           (sym (views-are g slots kept cleared factors ok keys heads o messages))
 
-      module _ (e : Eliminated) (s : List Float) (ea : e ≡ gaussian.eliminatedAs out) (es : s ≡ gaussian.messageStored messages 0 out) where
+      module _ (e : Eliminated) (s : List Float) (ea : e ≡ gaussian.eliminated_as out) (es : s ≡ gaussian.message_stored messages 0 out) where
         pub of_rows : (r : ℕ) → e ≡ eliminated.Rows r → (Rows r ≡ direct_answer v) × (s ≡ direct_store messages v)
         of_rows r er = with_rows_lem v out e messages s r read ea es er
 

@@ -1,4 +1,6 @@
 // The public direct elimination: originals of a graph, the kept and the cleared keys, and a message at the start of the lent store.
+#![tactic(auto)]
+
 ghost use Rattle.std.specs.Prelude.{◌≡◌, true, ◌||◌, ◌≤◌, length};
 ghost use Rattle.factor.specs.Limits.{max_keys};
 ghost use Rattle.factor.specs.Factor.{known};

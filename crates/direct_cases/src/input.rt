@@ -1,6 +1,8 @@
 // The parts of a case, from standard input. Where the input ends early, zeros are read.
 ghost use Rattle.std.specs.Prelude.{◌≡◌, ◌<◌, ◌≤◌, length};
 
+use streams::read_full;
+
 fn wide(x: u8) -> usize
     ensures { result < 256 }
 {
@@ -8,20 +10,20 @@ fn wide(x: u8) -> usize
 }
 
 // The next byte, as a number.
-pub fn byte() -> usize
+pub fn byte(rt: &HostRuntime) -> usize
     ensures { result < 256 }
 {
     let mut b = [0u8; 1];
-    io::read_full(0, &mut b);
+    read_full(&mut rt.stdin(), &mut b);
     wide(b[0])
 }
 
 // A number of two bytes, the lower one first.
-pub fn two() -> usize
+pub fn two(rt: &HostRuntime) -> usize
     ensures { result < 65536 }
 {
-    let low = byte();
-    let high = byte();
+    let low = byte(rt);
+    let high = byte(rt);
     low + 256 * high
 }
 
@@ -33,20 +35,20 @@ pub fn at_most(x: usize, most: usize) -> usize
 }
 
 // The first n bytes.
-pub fn fill(out: &mut [u8], n: usize)
+pub fn fill(rt: &HostRuntime, out: &mut [u8], n: usize)
     requires { n ≤ length out.old }
 {
-    io::read_full(0, &mut out[0..n]);
+    read_full(&mut rt.stdin(), &mut out[0..n]);
 }
 
 // How many there are, and then as many, each of one byte.
-pub fn list(out: &mut [usize]) -> usize
+pub fn list(rt: &HostRuntime, out: &mut [usize]) -> usize
     requires { length out.old ≡ 256 }
     ensures { (result < 256) × (length out.new ≡ 256) }
 {
-    let n = byte();
+    let n = byte(rt);
     for i in 0..n {
-        out[i] = byte();
+        out[i] = byte(rt);
     }
     n
 }
@@ -60,19 +62,19 @@ fn float(bits: u64) -> f64 {
 }
 
 // A float by its bits, the lowest byte first.
-fn value() -> f64 {
-    let a = two() as u64;
-    let b = two() as u64;
-    let c = two() as u64;
-    let d = two() as u64;
+fn value(rt: &HostRuntime) -> f64 {
+    let a = two(rt) as u64;
+    let b = two(rt) as u64;
+    let c = two(rt) as u64;
+    let d = two(rt) as u64;
     float(a + 0x10000 * b + 0x100000000 * c + 0x1000000000000 * d)
 }
 
 // The first n floats.
-pub fn values(out: &mut [f64], n: usize)
+pub fn values(rt: &HostRuntime, out: &mut [f64], n: usize)
     requires { n ≤ length out.old }
 {
     for i in 0..n {
-        out[i] = value();
+        out[i] = value(rt);
     }
 }

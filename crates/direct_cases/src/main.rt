@@ -1,11 +1,14 @@
 // Replays direct eliminations and runs over factor stores that a caller lends as they are: reads them from standard input and prints
 // what each call answers and leaves in its stores. README.md has the form of the input.
+#![tactic(auto)]
+
 mod input;
 mod report;
 
 use graph::Graph;
 use input::{at_most, byte, fill, list, two, values};
 use report::{print_direct, print_ran, print_store};
+use streams::{read_full, write_all, write_decimal};
 
 // More cases aren't read.
 const CASES: usize = 4096;
@@ -22,35 +25,35 @@ const WORK: usize = 4096;
 
 const LIST: usize = 256;
 
-fn main() {
+fn main(rt: HostRuntime) {
     for number in 0..CASES {
-        if !replay(number as u64) {
+        if !replay(&rt, number as u64) {
             return;
         }
     }
 }
 
 // The next case, or there is none.
-fn replay(number: u64) -> bool {
+fn replay(rt: &HostRuntime, number: u64) -> bool {
     let mut head = [0u8; 1];
-    if io::read_full(0, &mut head) < 1 {
+    if read_full(&mut rt.stdin(), &mut head) < 1 {
         return false;
     }
-    io::print_decimal(1, number);
-    io::write_all(1, b"\n");
-    let n = two();
+    write_decimal(&mut rt.stdout(), number);
+    write_all(&mut rt.stdout(), b"\n");
+    let n = two(rt);
     let mut job = [0u8; JOB];
-    fill(&mut job, n);
+    fill(rt, &mut job, n);
     let mut store = [0.0; FACTORS];
     let read = records::read(&job[0..n], &mut store);
-    let g = forged(read.graph, byte());
-    let given = at_most(two(), FACTORS);
-    values(&mut store, given);
-    let lent = at_most(two(), FACTORS);
+    let g = forged(read.graph, byte(rt));
+    let given = at_most(two(rt), FACTORS);
+    values(rt, &mut store, given);
+    let lent = at_most(two(rt), FACTORS);
     if head[0] == b'D' {
-        direct_case(g, &store[0..lent]);
+        direct_case(rt, g, &store[0..lent]);
     } else {
-        run_case(g, &store[0..lent]);
+        run_case(rt, g, &store[0..lent]);
     }
     true
 }
@@ -64,15 +67,15 @@ fn forged(g: Graph, mark: usize) -> Graph {
     bad
 }
 
-fn direct_case(g: Graph, factors: &[f64]) {
+fn direct_case(rt: &HostRuntime, g: Graph, factors: &[f64]) {
     let mut slots = [0; LIST];
     let mut kept = [0; LIST];
     let mut cleared = [0; LIST];
-    let s = list(&mut slots);
-    let k = list(&mut kept);
-    let c = list(&mut cleared);
-    let room = at_most(two(), ROOM);
-    let works = at_most(two(), WORK);
+    let s = list(rt, &mut slots);
+    let k = list(rt, &mut kept);
+    let c = list(rt, &mut cleared);
+    let room = at_most(two(rt), ROOM);
+    let works = at_most(two(rt), WORK);
     let mut messages = [9.0; ROOM];
     let mut work = [9.0; WORK];
     let answer = direct::eliminate(
@@ -84,14 +87,14 @@ fn direct_case(g: Graph, factors: &[f64]) {
         &mut messages[0..room],
         &mut work[0..works],
     );
-    print_direct(answer);
-    print_store(&messages, room);
+    print_direct(rt, answer);
+    print_store(rt, &messages, room);
 }
 
-fn run_case(g: Graph, factors: &[f64]) {
-    let room = at_most(two(), ROOM);
-    let works = at_most(two(), WORK);
-    let found = at_most(two(), ROOM);
+fn run_case(rt: &HostRuntime, g: Graph, factors: &[f64]) {
+    let room = at_most(two(rt), ROOM);
+    let works = at_most(two(rt), WORK);
+    let found = at_most(two(rt), ROOM);
     let mut messages = [9.0; ROOM];
     let mut work = [9.0; WORK];
     let mut marginals = [9.0; ROOM];
@@ -102,7 +105,7 @@ fn run_case(g: Graph, factors: &[f64]) {
         &mut work[0..works],
         &mut marginals[0..found],
     );
-    print_ran(ran);
-    print_store(&messages, room);
-    print_store(&marginals, found);
+    print_ran(rt, ran);
+    print_store(rt, &messages, room);
+    print_store(rt, &marginals, found);
 }

@@ -1,4 +1,6 @@
 // A factor of the graph: its record and the layout of its blocks. `weighing` has the numbers that are stored for it, `lists` what it needs of lists.
+#![tactic(auto)]
+
 pub mod limits;
 pub mod lists;
 pub mod weighing;

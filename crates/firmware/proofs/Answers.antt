@@ -8,8 +8,8 @@ use Rattle.job.specs.Job.{job_text}
 use Rattle.job.proofs.Longest.{never_short}
 
 -- what C calls STRIPS_OUTPUT
-abbrev pub output-bytes : ℕ
-output-bytes = 22944
+abbrev pub output_bytes : ℕ
+output_bytes = 22944
 
-pub always-fits : (bytes out : List ℕ) → output-bytes ≤ length out → length_of (written out (job_text bytes)) ≡ length (job_text bytes)
-always-fits bytes out l = ap length_of (never_short bytes out l)
+pub always_fits : (bytes out : List ℕ) → output_bytes ≤ length out → length_of (written out (job_text bytes)) ≡ length (job_text bytes)
+always_fits bytes out l = ap length_of (never_short bytes out l)

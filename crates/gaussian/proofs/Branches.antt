@@ -18,7 +18,7 @@ use Rattle.slots.specs.declared.Branch.{Branch}
 use Rattle.slots.specs.declared.Branch.TheVariants.{X}
 use Rattle.slots.specs.declared.layout.Layout.{Layout}
 use Rattle.gaussian.specs.Elimination.{branch_of, rows_for, message_rows, Outcome, in_branch, branched, numbers_in}
-use Rattle.gaussian.specs.Answers.{eliminatedAs, leftIn, branchedAt}
+use Rattle.gaussian.specs.Answers.{eliminated_as, left_in, branched_at}
 use Rattle.gaussian.specs.Asked.{SlotsAsked, frame_for}
 use Rattle.gaussian.specs.declared.Eliminated.{Eliminated}
 
@@ -27,7 +27,7 @@ pub rows_in_lem : {branch : Branch} (y d : ℕ) → branch_of y d ≡ branch →
 rows_in_lem y d e = rw (← e)
 
 -- the same dimensions and the same outcome
-pub left-same : (u v d e : ℕ) (t : List Float) (o p : Outcome) → u ≡ v → d ≡ e → o ≡ p → leftIn u d t o ≡ numbers_in o → leftIn v e t p ≡ numbers_in p
+pub left-same : (u v d e : ℕ) (t : List Float) (o p : Outcome) → u ≡ v → d ≡ e → o ≡ p → left_in u d t o ≡ numbers_in o → left_in v e t p ≡ numbers_in p
 left-same u v d e t o p eu ed eo h = rw (eu, ed, eo) at h
 
 module _ {u d : ℕ} {m : Layout} {factors messages : List Float} {work : ℕ} {keys heads slots : List ℕ}
@@ -49,8 +49,8 @@ module _ {u d : ℕ} {m : Layout} {factors messages : List Float} {work : ℕ} {
       (rows_of_all m (view_at factors messages keys heads slots) i) factors messages keys scratch_numbers (head_of heads (get_or slots i 0))) same_branch
       (q.ready i h))
 
-  run_is : in_branch branch f m (view_at factors messages keys heads slots) (length slots) ≡ branchedAt u d m factors messages keys heads slots
-  unfolding branchedAt branched
+  run_is : in_branch branch f m (view_at factors messages keys heads slots) (length slots) ≡ branched_at u d m factors messages keys heads slots
+  unfolding branched_at branched
   run_is = rw (← q.rows, ← same_branch, ← same_f)
 
   cleared-is : f.cleared ≡ u
@@ -61,12 +61,12 @@ module _ {u d : ℕ} {m : Layout} {factors messages : List Float} {work : ℕ} {
   unfolding frame_of
   kept-is = rw ef
 
-  pub branch_is : (a : Eliminated) (t : List Float) → a ≡ eliminatedAs (in_branch branch f m (view_at factors messages keys heads slots) (length slots))
-      → leftIn f.cleared f.kept t (in_branch branch f m (view_at factors messages keys heads slots) (length slots))
+  pub branch_is : (a : Eliminated) (t : List Float) → a ≡ eliminated_as (in_branch branch f m (view_at factors messages keys heads slots) (length slots))
+      → left_in f.cleared f.kept t (in_branch branch f m (view_at factors messages keys heads slots) (length slots))
       ≡ numbers_in (in_branch branch f m (view_at factors messages keys heads slots) (length slots))
-      → (a ≡ eliminatedAs (branchedAt u d m factors messages keys heads slots)) ×
-      (leftIn u d t (branchedAt u d m factors messages keys heads slots) ≡ numbers_in (branchedAt u d m factors messages keys heads slots))
-  branch_is a t ea et = (ea ∙ ap eliminatedAs run_is, left-same _ _ _ _ t _ _ cleared-is kept-is run_is et)
+      → (a ≡ eliminated_as (branched_at u d m factors messages keys heads slots)) ×
+      (left_in u d t (branched_at u d m factors messages keys heads slots) ≡ numbers_in (branched_at u d m factors messages keys heads slots))
+  branch_is a t ea et = (ea ∙ ap eliminated_as run_is, left-same _ _ _ _ t _ _ cleared-is kept-is run_is et)
 
 -- in x there are as many rows as kept columns
 pub frame_square : (u d y r : ℕ) (branch : Branch) (f : Frame) → branch ≡ branch_of y d → r ≡ message_rows y d → f ≡ frame_of u r d → branch ≡ X

@@ -14,7 +14,7 @@ use Rattle.slots.specs.Tables.{head_of, read_view, view_at}
 use Rattle.slots.specs.declared.Branch.{Branch}
 use Rattle.slots.specs.declared.layout.Layout.{Layout}
 use Rattle.gaussian.specs.Elimination.{branch_of, message_rows, begun, factorised, outcome, in_branch, branched, nth, eliminate, numbers_in}
-use Rattle.gaussian.specs.Answers.{eliminatedAs, leftIn, viewsOf, branchedAt}
+use Rattle.gaussian.specs.Answers.{eliminated_as, left_in, views_of, branched_at}
 use Rattle.gaussian.specs.declared.Eliminated.{Eliminated}
 use Rattle.gaussian.proofs.Branches.{left-same}
 
@@ -41,9 +41,9 @@ module _ (m : Layout) (s t : ℕ → FactorView) where
       ap (λ (σ : Sums). outcome f.rows (factorised (branch_of y d) f σ)) (views_same (branch_of y d) f (begun (branch_of y d) f) n h)
 
 module _ (factors messages : List Float) (keys heads slots kept cleared sizes : List ℕ) where
-  pub listed-is : branchedAt (dim_of sizes cleared) (dim_of sizes kept) (layout_of kept cleared sizes) factors messages keys heads slots
-      ≡ eliminate (viewsOf factors messages keys heads slots) kept cleared sizes
-  unfolding branchedAt eliminate viewsOf view_at
+  pub listed-is : branched_at (dim_of sizes cleared) (dim_of sizes kept) (layout_of kept cleared sizes) factors messages keys heads slots
+      ≡ eliminate (views_of factors messages keys heads slots) kept cleared sizes
+  unfolding branched_at eliminate views_of view_at
   listed-is =
       let m : Layout = layout_of kept cleared sizes in
       let g : ℕ → FactorView = λ number. read_view factors messages keys (head_of heads number) in
@@ -53,19 +53,19 @@ module _ (factors messages : List Float) (keys heads slots kept cleared sizes : 
       (rows_of_all m (view_at factors messages keys heads slots) (length slots)) (length slots) e)
 
   pub slots-are : (u d : ℕ) (m : Layout) (a : Eliminated) (t : List Float) → u ≡ dim_of sizes cleared → d ≡ dim_of sizes kept → m ≡ layout_of kept cleared sizes
-      → a ≡ eliminatedAs (branchedAt u d m factors messages keys heads slots) → leftIn u d t (branchedAt u d m factors messages keys heads slots)
-      ≡ numbers_in (branchedAt u d m factors messages keys heads slots)
-      → (a ≡ eliminatedAs (eliminate (viewsOf factors messages keys heads slots) kept cleared sizes))
-      × (leftIn (dim_of sizes cleared) (dim_of sizes kept) t (eliminate (viewsOf factors messages keys heads slots) kept cleared sizes)
-      ≡ numbers_in (eliminate (viewsOf factors messages keys heads slots) kept cleared sizes))
+      → a ≡ eliminated_as (branched_at u d m factors messages keys heads slots) → left_in u d t (branched_at u d m factors messages keys heads slots)
+      ≡ numbers_in (branched_at u d m factors messages keys heads slots)
+      → (a ≡ eliminated_as (eliminate (views_of factors messages keys heads slots) kept cleared sizes))
+      × (left_in (dim_of sizes cleared) (dim_of sizes kept) t (eliminate (views_of factors messages keys heads slots) kept cleared sizes)
+      ≡ numbers_in (eliminate (views_of factors messages keys heads slots) kept cleared sizes))
   slots-are u d m a t eu ed em ea et =
-      let g : branchedAt u d m factors messages keys heads slots ≡ eliminate (viewsOf factors messages keys heads slots) kept cleared sizes = rw
+      let g : branched_at u d m factors messages keys heads slots ≡ eliminate (views_of factors messages keys heads slots) kept cleared sizes = rw
       (eu, ed, em) listed-is in
-      (ea ∙ ap eliminatedAs g, left-same _ _ _ _ t _ _ eu ed g et)
+      (ea ∙ ap eliminated_as g, left-same _ _ _ _ t _ _ eu ed g et)
 
   pub rows-listed : rows_of_all (layout_of kept cleared sizes) (view_at factors messages keys heads slots) (length slots)
-      ≡ rows_of_all (layout_of kept cleared sizes) (nth (viewsOf factors messages keys heads slots)) (length (viewsOf factors messages keys heads slots))
-  unfolding viewsOf view_at
+      ≡ rows_of_all (layout_of kept cleared sizes) (nth (views_of factors messages keys heads slots)) (length (views_of factors messages keys heads slots))
+  unfolding views_of view_at
   rows-listed =
       let g : ℕ → FactorView = λ number. read_view factors messages keys (head_of heads number) in
       rw (length-map slots g) (rows_same (layout_of kept cleared sizes) (view_at factors messages keys heads slots) (nth (map g slots)) (length slots)

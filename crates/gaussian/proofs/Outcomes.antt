@@ -14,7 +14,7 @@ use Rattle.factor.specs.Limits.{max_variables}
 use Rattle.slots.specs.Layouts.{dim_of, layout_of}
 use Rattle.slots.specs.Tables.{rows_by_all}
 use Rattle.gaussian.specs.Elimination.{Outcome, pivot, not_finite, message, eliminate, numbers_in}
-use Rattle.gaussian.specs.Answers.{eliminatedAs, messageStored, leftIn, viewsOf, marginalFrom, marginalOf, refusedAs}
+use Rattle.gaussian.specs.Answers.{eliminated_as, message_stored, left_in, views_of, marginal_from, marginal_of, refused_as}
 use Rattle.gaussian.specs.Asked.{Asked, Roomy, Sized}
 use Rattle.gaussian.specs.declared.Eliminated.{Eliminated}
 use Rattle.gaussian.specs.declared.Eliminated.TheVariants.{Rows, Pivot, NotFinite}
@@ -27,14 +27,14 @@ use Rattle.slots.specs.Views.{factor_numbers}
 
 -- ---- the answer
 
-pub at-pivot : (o : Outcome) → eliminatedAs o ≡ Pivot → o ≡ pivot
-unfolding eliminatedAs
+pub at-pivot : (o : Outcome) → eliminated_as o ≡ Pivot → o ≡ pivot
+unfolding eliminated_as
 at-pivot pivot e = refl
 at-pivot not_finite e = cc
 at-pivot (message r a xi w) e = cc
 
-pub at_unbounded : (o : Outcome) → eliminatedAs o ≡ NotFinite → o ≡ not_finite
-unfolding eliminatedAs
+pub at_unbounded : (o : Outcome) → eliminated_as o ≡ NotFinite → o ≡ not_finite
+unfolding eliminated_as
 at_unbounded pivot e = cc
 at_unbounded not_finite e = refl
 at_unbounded (message r a xi w) e = cc
@@ -46,29 +46,29 @@ pub record Came (o : Outcome) (r : ℕ) : Type 0 where
   pub w : List Float
   pub is : o ≡ message r a xi w
 
-pub at_rows : (o : Outcome) (r : ℕ) → eliminatedAs o ≡ Rows r → Came o r
-unfolding eliminatedAs
+pub at_rows : (o : Outcome) (r : ℕ) → eliminated_as o ≡ Rows r → Came o r
+unfolding eliminated_as
 at_rows pivot r e = record { a = []; xi = []; w = []; is = cc }
 at_rows not_finite r e = record { a = []; xi = []; w = []; is = cc }
 at_rows (message k a xi w) r e = let g : k ≡ r = cc in record { a = a; xi = xi; w = w; is = ap (λ (n : ℕ). message n a xi w) g }
 
 -- ---- a refusal
 
-module _ (o : Outcome) (a : Eliminated) (ea : a ≡ eliminatedAs o) where
-  pub pivot-stored : (l : List Float) (to : ℕ) → a ≡ Pivot → (Pivot ≡ eliminatedAs o) × (l ≡ messageStored l to o)
-  unfolding messageStored
+module _ (o : Outcome) (a : Eliminated) (ea : a ≡ eliminated_as o) where
+  pub pivot-stored : (l : List Float) (to : ℕ) → a ≡ Pivot → (Pivot ≡ eliminated_as o) × (l ≡ message_stored l to o)
+  unfolding message_stored
   pivot-stored l to e = (sym e ∙ ea, rw (at-pivot o (sym ea ∙ e)))
 
-  pub unbounded_stored : (l : List Float) (to : ℕ) → a ≡ NotFinite → (NotFinite ≡ eliminatedAs o) × (l ≡ messageStored l to o)
-  unfolding messageStored
+  pub unbounded_stored : (l : List Float) (to : ℕ) → a ≡ NotFinite → (NotFinite ≡ eliminated_as o) × (l ≡ message_stored l to o)
+  unfolding message_stored
   unbounded_stored l to e = (sym e ∙ ea, rw (at_unbounded o (sym ea ∙ e)))
 
-  pub marginal-pivot : (key s n : ℕ) (x : Answer) → a ≡ Pivot → n ≡ s → x ≡ refusedAs key n ending.ClearedPivot → x ≡ marginalFrom key s o
-  unfolding marginalFrom
+  pub marginal-pivot : (key s n : ℕ) (x : Answer) → a ≡ Pivot → n ≡ s → x ≡ refused_as key n ending.ClearedPivot → x ≡ marginal_from key s o
+  unfolding marginal_from
   marginal-pivot key s n x e es ex = rw (at-pivot o (sym ea ∙ e), ← es) ex
 
-  pub marginal_unbounded : (key s n : ℕ) (x : Answer) → a ≡ NotFinite → n ≡ s → x ≡ refusedAs key n ending.NotFinite → x ≡ marginalFrom key s o
-  unfolding marginalFrom
+  pub marginal_unbounded : (key s n : ℕ) (x : Answer) → a ≡ NotFinite → n ≡ s → x ≡ refused_as key n ending.NotFinite → x ≡ marginal_from key s o
+  unfolding marginal_from
   marginal_unbounded key s n x e es ex = rw (at_unbounded o (sym ea ∙ e), ← es) ex
 
 -- ---- a message, by its parts
@@ -97,16 +97,16 @@ module _ (n k : ℕ) (a xi w : List Float) (la : length a ≡ n) (lx : length xi
 -- its rows by the table of heads, and its lengths
 pub asked_sized : {kept cleared sizes : List ℕ} {factors messages : List Float} {work : ℕ} {keys heads slots : List ℕ} → length sizes ≡ max_variables
     → Asked kept cleared sizes factors messages work keys heads slots → (r : ℕ) (a xi w : List Float)
-    → eliminate (viewsOf factors messages keys heads slots) kept cleared sizes ≡ message r a xi w
+    → eliminate (views_of factors messages keys heads slots) kept cleared sizes ≡ message r a xi w
     → Sized (rows_by_all (layout_of kept cleared sizes) keys heads slots (length slots)) (dim_of sizes kept) r a xi w
 asked_sized {kept} {cleared} {sizes} {factors} {messages} {work} {keys} {heads} {slots} len q r a xi w e =
     rw ((enough len q).rows, rows-listed factors messages keys heads slots kept cleared sizes)
-    (message_sized (viewsOf factors messages keys heads slots) kept cleared sizes r a xi w e)
+    (message_sized (views_of factors messages keys heads slots) kept cleared sizes r a xi w e)
 
 module _ {kept cleared sizes : List ℕ} {factors messages : List Float} {work : ℕ} {keys heads slots : List ℕ} (len : length sizes ≡ max_variables)
     (q : Asked kept cleared sizes factors messages work keys heads slots) (x : Eliminated)
-    (ex : x ≡ eliminatedAs (eliminate (viewsOf factors messages keys heads slots) kept cleared sizes)) (r : ℕ) (er : x ≡ Rows r) where
-  came : Came (eliminate (viewsOf factors messages keys heads slots) kept cleared sizes) r
+    (ex : x ≡ eliminated_as (eliminate (views_of factors messages keys heads slots) kept cleared sizes)) (r : ℕ) (er : x ≡ Rows r) where
+  came : Came (eliminate (views_of factors messages keys heads slots) kept cleared sizes) r
   came = at_rows _ r (sym ex ∙ er)
 
   sized : Sized (rows_by_all (layout_of kept cleared sizes) keys heads slots (length slots)) (dim_of sizes kept) r came.a came.xi came.w
@@ -118,19 +118,19 @@ module _ {kept cleared sizes : List ℕ} {factors messages : List Float} {work :
   pub has_room : (to n : ℕ) → Roomy kept cleared sizes keys heads slots to n → to + factor_numbers r (dim_of sizes kept) ≤ n
   has_room to n h = rw sized.of_rows h
 
-  module _ (t : List Float) (et : leftIn (dim_of sizes cleared) (dim_of sizes kept) t (eliminate (viewsOf factors messages keys heads slots) kept cleared sizes)
-      ≡ numbers_in (eliminate (viewsOf factors messages keys heads slots) kept cleared sizes)) where
+  module _ (t : List Float) (et : left_in (dim_of sizes cleared) (dim_of sizes kept) t (eliminate (views_of factors messages keys heads slots) kept cleared sizes)
+      ≡ numbers_in (eliminate (views_of factors messages keys heads slots) kept cleared sizes)) where
     standing : part t (frame_of (dim_of sizes cleared) r (dim_of sizes kept)).a (frame_of (dim_of sizes cleared) r (dim_of sizes kept)).end
         ≡ came.a ++ (came.xi ++ came.w)
-    unfolding leftIn numbers_in
+    unfolding left_in numbers_in
     standing = rw came.is at et
 
     pub message_sent : (l y : List Float) (to : ℕ)
         → y ≡ splice l to (to + factor_numbers r (dim_of sizes kept)) (part t (frame_of (dim_of sizes cleared) r (dim_of sizes kept)).a
         (frame_of (dim_of sizes cleared) r (dim_of sizes kept)).end)
-        → (Rows r ≡ eliminatedAs (eliminate (viewsOf factors messages keys heads slots) kept cleared sizes)) ×
-        (y ≡ messageStored l to (eliminate (viewsOf factors messages keys heads slots) kept cleared sizes))
-    unfolding messageStored
+        → (Rows r ≡ eliminated_as (eliminate (views_of factors messages keys heads slots) kept cleared sizes)) ×
+        (y ≡ message_stored l to (eliminate (views_of factors messages keys heads slots) kept cleared sizes))
+    unfolding message_stored
     message_sent l y to ey = (
       sym er ∙ ex,
       ey ∙ rw (
@@ -141,10 +141,10 @@ module _ {kept cleared sizes : List ℕ} {factors messages : List Float} {work :
       ),
     )
 
-    marginal-kept : (key : ℕ) → marginalOf key (dim_of sizes kept) r
+    marginal-kept : (key : ℕ) → marginal_of key (dim_of sizes kept) r
         (part t (frame_of (dim_of sizes cleared) r (dim_of sizes kept)).a (frame_of (dim_of sizes cleared) r (dim_of sizes kept)).end)
-        ≡ marginalFrom key (dim_of sizes kept) (eliminate (viewsOf factors messages keys heads slots) kept cleared sizes)
-    unfolding marginalOf marginalFrom
+        ≡ marginal_from key (dim_of sizes kept) (eliminate (views_of factors messages keys heads slots) kept cleared sizes)
+    unfolding marginal_of marginal_from
     marginal-kept key =
         let n : ℕ = r * dim_of sizes kept in
         let p₁ = first_part n r came.a came.xi came.w sized.of_a sized.of_xi sized.of_w in
@@ -153,7 +153,7 @@ module _ {kept cleared sizes : List ℕ} {factors messages : List Float} {work :
         rw (came.is, standing, p₁, p₂, p₃)
 
     pub marginal-message : (key s n u : ℕ) (f : Frame) (y : Answer) → n ≡ s → n ≡ dim_of sizes kept → u ≡ dim_of sizes cleared → f ≡ frame_of u r n
-        → y ≡ marginalOf key n r (part t f.a f.end) → y ≡ marginalFrom key s (eliminate (viewsOf factors messages keys heads slots) kept cleared sizes)
+        → y ≡ marginal_of key n r (part t f.a f.end) → y ≡ marginal_from key s (eliminate (views_of factors messages keys heads slots) kept cleared sizes)
     marginal-message key s n u f y es en eu ef ey =
-        let g : y ≡ marginalOf key n r (part t (frame_of u r n).a (frame_of u r n).end) = rw ef at ey in
+        let g : y ≡ marginal_of key n r (part t (frame_of u r n).a (frame_of u r n).end) = rw ef at ey in
         rw (← es, en) ((rw (eu, en) at g) ∙ marginal-kept key)

@@ -18,7 +18,7 @@ use Rattle.slots.specs.Views.{FactorView, with_views}
 use Rattle.slots.specs.declared.Branch.{Branch}
 use Rattle.slots.specs.declared.layout.Layout.{Layout}
 use Rattle.gaussian.specs.Elimination.{refused, done, begun, factorised, outcome, in_branch, numbers_in}
-use Rattle.gaussian.specs.Answers.{ended_as, eliminatedAs, leftIn}
+use Rattle.gaussian.specs.Answers.{ended_as, eliminated_as, left_in}
 use Rattle.gaussian.specs.declared.Eliminated.TheVariants.{Rows, Pivot, NotFinite}
 use Rattle.workspace.specs.Parts.{FrameLaid, matrices_in}
 
@@ -30,9 +30,9 @@ views-from branch f m view n σ₀ e σ₁ g = rw e at g
 module _ (branch : Branch) (f : Frame) (m : Layout) (view : ℕ → FactorView) (n : ℕ) (σ : Sums) (es : σ ≡ with_views branch f m view (begun branch f) n)
     (r : Factored) where
   pub pivot-is : (t : List Float) → factorised branch f σ ≡ ended_as r (matrices_in f t) → r ≡ Refused
-      → (Pivot ≡ eliminatedAs (in_branch branch f m view n)) × (leftIn f.cleared f.kept t (in_branch branch f m view n)
+      → (Pivot ≡ eliminated_as (in_branch branch f m view n)) × (left_in f.cleared f.kept t (in_branch branch f m view n)
       ≡ numbers_in (in_branch branch f m view n))
-  unfolding in_branch outcome ended_as eliminatedAs leftIn numbers_in
+  unfolding in_branch outcome ended_as eliminated_as left_in numbers_in
   pivot-is t ef er =
       let g : factorised branch f (with_views branch f m view (begun branch f) n) ≡ refused = rw (← es, ef, er) in
       rw g (refl, refl)
@@ -57,12 +57,12 @@ module _ (branch : Branch) (f : Frame) (m : Layout) (view : ℕ → FactorView) 
     unfolding frame_of
     end-at = omega arith
 
-    pub unbounded_is : b ≡ false → (NotFinite ≡ eliminatedAs (in_branch branch f m view n)) ×
-        (leftIn f.cleared f.kept t (in_branch branch f m view n) ≡ numbers_in (in_branch branch f m view n))
-    unfolding in_branch outcome eliminatedAs leftIn numbers_in
+    pub unbounded_is : b ≡ false → (NotFinite ≡ eliminated_as (in_branch branch f m view n)) ×
+        (left_in f.cleared f.kept t (in_branch branch f m view n) ≡ numbers_in (in_branch branch f m view n))
+    unfolding in_branch outcome eliminated_as left_in numbers_in
     unbounded_is h = rw (done-is, in_order, ← eb, h) (refl, refl)
 
-    pub message-is : b ≡ true → (Rows f.rows ≡ eliminatedAs (in_branch branch f m view n)) ×
-        (leftIn f.cleared f.kept t (in_branch branch f m view n) ≡ numbers_in (in_branch branch f m view n))
-    unfolding in_branch outcome eliminatedAs leftIn numbers_in
+    pub message-is : b ≡ true → (Rows f.rows ≡ eliminated_as (in_branch branch f m view n)) ×
+        (left_in f.cleared f.kept t (in_branch branch f m view n) ≡ numbers_in (in_branch branch f m view n))
+    unfolding in_branch outcome eliminated_as left_in numbers_in
     message-is h = rw (done-is, in_order, ← eb, h, in_order, a_at, end-at) (refl, refl)

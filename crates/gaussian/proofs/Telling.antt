@@ -4,7 +4,7 @@ use mathlib.Core.Path.{◌≡◌, refl, sym, ap, ◌∙◌}
 use mathlib.Core.List.{List}
 use lib.Ieee.{Float}
 use Rattle.gaussian.specs.Elimination.{Outcome, pivot, not_finite, message}
-use Rattle.gaussian.specs.Answers.{eliminatedAs, messageStored, marginalAnswer, marginalFrom, marginalOf, momentsIn, refusedAs}
+use Rattle.gaussian.specs.Answers.{eliminated_as, message_stored, marginal_answer, marginal_from, marginal_of, moments_in, refused_as}
 use Rattle.cholesky.specs.Forms.{Form}
 use Rattle.cholesky.specs.Forms as forms
 use Rattle.cholesky.specs.declared.exchange.Exchanged.{Exchanged}
@@ -16,12 +16,12 @@ use Rattle.gaussian.specs.declared.marginal.Answer.{Answer}
 use Rattle.cholesky.specs.Answers.{told}
 
 -- an elimination's answer with the message store, and what the answer tells
-pub stored-tells : (r : Eliminated) (o : Outcome) (l s : List Float) (to : ℕ) → (r ≡ eliminatedAs o) × (s ≡ messageStored l to o)
-    → (r ≡ eliminatedAs o) × ((s ≡ messageStored l to o) × (eliminated_told r ≡ message_told o))
-unfolding eliminatedAs eliminated_told message_told
+pub stored-tells : (r : Eliminated) (o : Outcome) (l s : List Float) (to : ℕ) → (r ≡ eliminated_as o) × (s ≡ message_stored l to o)
+    → (r ≡ eliminated_as o) × ((s ≡ message_stored l to o) × (eliminated_told r ≡ message_told o))
+unfolding eliminated_as eliminated_told message_told
 stored-tells r o l s to (e, h) = (e, (h, ap eliminated_told e ∙ go o))
   where
-    go : (o : Outcome) → eliminated_told (eliminatedAs o) ≡ message_told o
+    go : (o : Outcome) → eliminated_told (eliminated_as o) ≡ message_told o
     go (message r a xi w) = refl
     go pivot = refl
     go not_finite = refl
@@ -38,23 +38,23 @@ solved-tells m r mean covariance e = (e, go r ∙ sym (ap moments_told e))
     go exchanged.NotFinite = refl
 
 -- a marginal from what its message comes to
-by_moments : (key s : ℕ) (m : Form) → ending_told (marginalAnswer key s m).ending ≡ moments_told m
-unfolding marginalAnswer refusedAs ending_told moments_told
+by_moments : (key s : ℕ) (m : Form) → ending_told (marginal_answer key s m).ending ≡ moments_told m
+unfolding marginal_answer refused_as ending_told moments_told
 by_moments key s (forms.form mean covariance) = refl
 by_moments key s forms.pivot = refl
 by_moments key s forms.not_finite = refl
 
-pub from-tells : (key s y : ℕ) (t : List Float) (x : Answer) → x ≡ marginalOf key s y t
-    → (x ≡ marginalOf key s y t) × (ending_told x.ending ≡ moments_told (momentsIn y s t))
-unfolding marginalOf
-from-tells key s y t x e = (e, ap (λ (a : Answer). ending_told a.ending) e ∙ by_moments key s (momentsIn y s t))
+pub from-tells : (key s y : ℕ) (t : List Float) (x : Answer) → x ≡ marginal_of key s y t
+    → (x ≡ marginal_of key s y t) × (ending_told x.ending ≡ moments_told (moments_in y s t))
+unfolding marginal_of
+from-tells key s y t x e = (e, ap (λ (a : Answer). ending_told a.ending) e ∙ by_moments key s (moments_in y s t))
 
 -- a marginal from the last elimination
-pub last-tells : (key s : ℕ) (o : Outcome) (x : Answer) → x ≡ marginalFrom key s o → (x ≡ marginalFrom key s o) × (ending_told x.ending ≡ last_told s o)
-unfolding marginalFrom refusedAs ending_told last_told
+pub last-tells : (key s : ℕ) (o : Outcome) (x : Answer) → x ≡ marginal_from key s o → (x ≡ marginal_from key s o) × (ending_told x.ending ≡ last_told s o)
+unfolding marginal_from refused_as ending_told last_told
 last-tells key s o x e = (e, ap (λ (a : Answer). ending_told a.ending) e ∙ go o)
   where
-    go : (o : Outcome) → ending_told (marginalFrom key s o).ending ≡ last_told s o
+    go : (o : Outcome) → ending_told (marginal_from key s o).ending ≡ last_told s o
     go (message r a xi w) = by_moments key s (moments_of r s a xi w)
     go pivot = refl
     go not_finite = refl

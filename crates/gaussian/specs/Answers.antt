@@ -22,26 +22,26 @@ use Rattle.gaussian.specs.declared.marginal.Answer.{Answer}
 use Rattle.gaussian.specs.Marginals.{moments_of}
 
 -- 15 is `Pivot` and 17 is `NotFinite`
-unfoldable pub eliminatedAs : Outcome → Eliminated
-eliminatedAs pivot = Pivot
-eliminatedAs not_finite = NotFinite
-eliminatedAs (message r a xi w) = Rows r
+unfoldable pub eliminated_as : Outcome → Eliminated
+eliminated_as pivot = Pivot
+eliminated_as not_finite = NotFinite
+eliminated_as (message r a xi w) = Rows r
 
 -- a message stands as A, xi, W from place `to` on, and the rest is as it was; a refusal leaves the whole
-unfoldable pub messageStored : List Float → ℕ → Outcome → List Float
-messageStored l to pivot = l
-messageStored l to not_finite = l
-messageStored l to (message r a xi w) = splice l to (to + length (a ++ (xi ++ w))) (a ++ (xi ++ w))
+unfoldable pub message_stored : List Float → ℕ → Outcome → List Float
+message_stored l to pivot = l
+message_stored l to not_finite = l
+message_stored l to (message r a xi w) = splice l to (to + length (a ++ (xi ++ w))) (a ++ (xi ++ w))
 
 -- where the work store t then holds them, for u cleared and d kept columns
-unfoldable pub leftIn : (u d : ℕ) (t : List Float) → Outcome → List Float
-leftIn u d t pivot = []
-leftIn u d t not_finite = []
-leftIn u d t (message r a xi w) = part t (frame_of u r d).a (frame_of u r d).end
+unfoldable pub left_in : (u d : ℕ) (t : List Float) → Outcome → List Float
+left_in u d t pivot = []
+left_in u d t not_finite = []
+left_in u d t (message r a xi w) = part t (frame_of u r d).a (frame_of u r d).end
 
 -- the factors of a list of slot numbers
-unfoldable pub viewsOf : (factors messages : List Float) (keys heads slots : List ℕ) → List FactorView
-viewsOf factors messages keys heads slots = map (λ number. read_view factors messages keys (head_of heads number)) slots
+unfoldable pub views_of : (factors messages : List Float) (keys heads slots : List ℕ) → List FactorView
+views_of factors messages keys heads slots = map (λ number. read_view factors messages keys (head_of heads number)) slots
 
 -- ---- between the functions
 
@@ -51,36 +51,36 @@ ended_as Done σ = done σ
 ended_as Refused σ = refused
 
 -- the branch with the factors read one by one
-unfoldable pub branchedAt : (u d : ℕ) (m : Layout) (factors messages : List Float) (keys heads slots : List ℕ) → Outcome
-branchedAt u d m factors messages keys heads slots =
+unfoldable pub branched_at : (u d : ℕ) (m : Layout) (factors messages : List Float) (keys heads slots : List ℕ) → Outcome
+branched_at u d m factors messages keys heads slots =
     branched u d (rows_of_all m (view_at factors messages keys heads slots) (length slots)) m (view_at factors messages keys heads slots) (length slots)
 
 -- n places, of which the first hold a list and the others zeros
-abbrev pub paddedFloats : ℕ → List Float → List Float
-paddedFloats n l = l ++ replicate (n - length l) plus_zero
+abbrev pub padded_floats : ℕ → List Float → List Float
+padded_floats n l = l ++ replicate (n - length l) plus_zero
 
-abbrev pub marginalAt : (key s : ℕ) (mean covariance : List Float) → Marginal
-marginalAt key s mean covariance = record { key = key; size = s; mean = mean; covariance = covariance }
+abbrev pub marginal_at : (key s : ℕ) (mean covariance : List Float) → Marginal
+marginal_at key s mean covariance = record { key = key; size = s; mean = mean; covariance = covariance }
 
-unfoldable pub refusedAs : ℕ → ℕ → Ending → Answer
-refusedAs key s ending = record { ending = ending; marginal = marginalAt key s (replicate max_size plus_zero) (replicate (max_size * max_size) plus_zero) }
+unfoldable pub refused_as : ℕ → ℕ → Ending → Answer
+refused_as key s ending = record { ending = ending; marginal = marginal_at key s (replicate max_size plus_zero) (replicate (max_size * max_size) plus_zero) }
 
 -- 16 is `Pivot` and 17 is `NotFinite`
-unfoldable pub marginalAnswer : ℕ → ℕ → Form → Answer
-marginalAnswer key s (forms.form mean covariance) =
-    record { ending = Done; marginal = marginalAt key s (paddedFloats max_size mean) (paddedFloats (max_size * max_size) covariance) }
-marginalAnswer key s forms.pivot = refusedAs key s Pivot
-marginalAnswer key s forms.not_finite = refusedAs key s NotFinite
+unfoldable pub marginal_answer : ℕ → ℕ → Form → Answer
+marginal_answer key s (forms.form mean covariance) =
+    record { ending = Done; marginal = marginal_at key s (padded_floats max_size mean) (padded_floats (max_size * max_size) covariance) }
+marginal_answer key s forms.pivot = refused_as key s Pivot
+marginal_answer key s forms.not_finite = refused_as key s NotFinite
 
 -- A, xi and W of the message stand one after the other at the start of t
-abbrev pub momentsIn : ℕ → ℕ → List Float → Form
-momentsIn y s t = moments_of y s (part t 0 (y * s)) (part t (y * s) (y * s + y)) (part t (y * s + y) (y * s + y + y * y))
+abbrev pub moments_in : ℕ → ℕ → List Float → Form
+moments_in y s t = moments_of y s (part t 0 (y * s)) (part t (y * s) (y * s + y)) (part t (y * s + y) (y * s + y + y * y))
 
-unfoldable pub marginalOf : (key s y : ℕ) (t : List Float) → Answer
-marginalOf key s y t = marginalAnswer key s (momentsIn y s t)
+unfoldable pub marginal_of : (key s y : ℕ) (t : List Float) → Answer
+marginal_of key s y t = marginal_answer key s (moments_in y s t)
 
 -- from the last elimination, which keeps the key alone; 15 is `ClearedPivot`
-unfoldable pub marginalFrom : ℕ → ℕ → Outcome → Answer
-marginalFrom key s pivot = refusedAs key s ClearedPivot
-marginalFrom key s not_finite = refusedAs key s NotFinite
-marginalFrom key s (message r a xi w) = marginalAnswer key s (moments_of r s a xi w)
+unfoldable pub marginal_from : ℕ → ℕ → Outcome → Answer
+marginal_from key s pivot = refused_as key s ClearedPivot
+marginal_from key s not_finite = refused_as key s NotFinite
+marginal_from key s (message r a xi w) = marginal_answer key s (moments_of r s a xi w)

@@ -1,4 +1,6 @@
 // One elimination: the cleared keys go out of the factors of its slots, and a message over the kept keys stays.
+#![tactic(auto)]
+
 pub mod marginal;
 
 ghost use Rattle.std.specs.Prelude.{◌≡◌, ℕ, ◌+◌, ◌-◌, ◌<◌, ◌≤◌, length, get_or};
@@ -12,7 +14,7 @@ ghost use Rattle.slots.specs.Views.{rows_of_all, with_views, factor_numbers};
 ghost use Rattle.slots.specs.Tables.{head_of, view_at};
 ghost use Rattle.slots.specs.Fitting.{SlotReady, Counted};
 ghost use Rattle.gaussian.specs.Elimination.{branch_of, message_rows, begun, filled_w, lost, factorised, in_branch, eliminate, numbers_in};
-ghost use Rattle.gaussian.specs.Answers.{ended_as, eliminatedAs, messageStored, leftIn, viewsOf, branchedAt};
+ghost use Rattle.gaussian.specs.Answers.{ended_as, eliminated_as, message_stored, left_in, views_of, branched_at};
 ghost use Rattle.gaussian.specs.Asked.{Asked, Roomy, SlotsAsked};
 ghost use Rattle.gaussian.specs.Told.{eliminated_told, message_told};
 ghost use Rattle.workspace.specs.Parts.{FrameLaid, matrices_in};
@@ -157,10 +159,10 @@ fn eliminate_to<'a>(
         → SlotReady f layout branch (rows_of_all layout (view_at factors.now messages.now keys.now heads.now slots.now) i)
         factors.now messages.now keys.now scratch_numbers (head_of heads.now (get_or slots.now i 0)) }
     ensures value { result
-        ≡ eliminatedAs
+        ≡ eliminated_as
         (in_branch branch f layout (view_at factors.now messages.now keys.now heads.now slots.now)
         (length slots.now)) }
-    ensures slots_after { leftIn f.cleared f.kept work.new
+    ensures slots_after { left_in f.cleared f.kept work.new
         (in_branch branch f layout (view_at factors.now messages.now keys.now heads.now slots.now)
         (length slots.now))
         ≡ numbers_in
@@ -196,10 +198,10 @@ fn eliminate_by<'a>(
 ) -> Eliminated
     requires { SlotsAsked u d layout factors.now messages.now (length work.old) keys.now heads.now slots.now }
     ensures value { result
-        ≡ eliminatedAs (branchedAt u d layout factors.now messages.now keys.now heads.now slots.now) }
-    ensures slots_after { leftIn u d work.new
-        (branchedAt u d layout factors.now messages.now keys.now heads.now slots.now)
-        ≡ numbers_in (branchedAt u d layout factors.now messages.now keys.now heads.now slots.now) }
+        ≡ eliminated_as (branched_at u d layout factors.now messages.now keys.now heads.now slots.now) }
+    ensures slots_after { left_in u d work.new
+        (branched_at u d layout factors.now messages.now keys.now heads.now slots.now)
+        ≡ numbers_in (branched_at u d layout factors.now messages.now keys.now heads.now slots.now) }
 {
     let y = count_rows(layout, keys, heads, slots);
     let branch = branch_of(y, d);
@@ -224,12 +226,12 @@ pub fn eliminate_in<'a>(
 ) -> Eliminated
     requires { Asked kept.now cleared.now sizes factors.now messages.now (length work.old) keys.now heads.now slots.now }
     ensures value { result
-        ≡ eliminatedAs (eliminate (viewsOf factors.now messages.now keys.now heads.now slots.now)
+        ≡ eliminated_as (eliminate (views_of factors.now messages.now keys.now heads.now slots.now)
         kept.now cleared.now sizes) }
-    ensures sizes_after { leftIn (dim_of sizes cleared.now) (dim_of sizes kept.now) work.new
-        (eliminate (viewsOf factors.now messages.now keys.now heads.now slots.now)
+    ensures sizes_after { left_in (dim_of sizes cleared.now) (dim_of sizes kept.now) work.new
+        (eliminate (views_of factors.now messages.now keys.now heads.now slots.now)
         kept.now cleared.now sizes)
-        ≡ numbers_in (eliminate (viewsOf factors.now messages.now keys.now heads.now slots.now)
+        ≡ numbers_in (eliminate (views_of factors.now messages.now keys.now heads.now slots.now)
         kept.now cleared.now sizes) }
 {
     let layout = layout_of(kept, cleared, sizes);
@@ -268,14 +270,14 @@ pub fn eliminate_slots(
     requires asked { Asked kept.now cleared.now sizes factors.now messages.old (length work.old) keys.now heads.now slots.now }
     requires roomy { Roomy kept.now cleared.now sizes keys.now heads.now slots.now to (length messages.old) }
     ensures value { result
-        ≡ eliminatedAs (eliminate (viewsOf factors.now messages.old keys.now heads.now slots.now)
+        ≡ eliminated_as (eliminate (views_of factors.now messages.old keys.now heads.now slots.now)
         kept.now cleared.now sizes) }
     ensures messages_after { messages.new
-        ≡ messageStored messages.old to
-        (eliminate (viewsOf factors.now messages.old keys.now heads.now slots.now)
+        ≡ message_stored messages.old to
+        (eliminate (views_of factors.now messages.old keys.now heads.now slots.now)
         kept.now cleared.now sizes) }
     ensures result_value { eliminated_told result
-        ≡ message_told (eliminate (viewsOf factors.now messages.old keys.now heads.now slots.now)
+        ≡ message_told (eliminate (views_of factors.now messages.old keys.now heads.now slots.now)
         kept.now cleared.now sizes) }
 {
     match eliminate_in(

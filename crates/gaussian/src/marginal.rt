@@ -3,7 +3,7 @@ ghost use Rattle.std.specs.Prelude.{◌≡◌, [], ◌∷◌, ◌+◌, ◌*◌, 
 ghost use Rattle.matrix.specs.Sums.{plus_zero};
 ghost use Rattle.factor.specs.Limits.{max_size, max_total};
 ghost use Rattle.gaussian.specs.Elimination.{eliminate};
-ghost use Rattle.gaussian.specs.Answers.{viewsOf, marginalFrom, marginalOf, momentsIn, refusedAs};
+ghost use Rattle.gaussian.specs.Answers.{views_of, marginal_from, marginal_of, moments_in, refused_as};
 ghost use Rattle.gaussian.specs.Asked.{Asked};
 ghost use Rattle.gaussian.specs.Marginals.{moments_of};
 ghost use Rattle.gaussian.specs.Told.{solved_told, ending_told, moments_told, last_told};
@@ -80,7 +80,7 @@ fn moments(
 
 // The answer of a refusal.
 fn refused(key: usize, size: usize, ending: Ending) -> Answer
-    ensures { result ≡ refusedAs key size ending }
+    ensures { result ≡ refused_as key size ending }
 {
     Answer {
         ending,
@@ -97,8 +97,8 @@ impl Marginal {
     // The marginal of a key of size s from the message of so many rows that keeps it alone: A, xi and W stand at the start of the part lent.
     pub fn from(key: usize, size: usize, rows: usize, message: &[f64]) -> Answer
         requires { (size ≤ max_size) × (rows ≤ max_total) × (factor_numbers rows size ≤ length message.now) }
-        ensures value { result ≡ marginalOf key size rows message.now }
-        ensures ending_value { ending_told result.ending ≡ moments_told (momentsIn rows size message.now) }
+        ensures value { result ≡ marginal_of key size rows message.now }
+        ensures ending_value { ending_told result.ending ≡ moments_told (moments_in rows size message.now) }
     {
         let o = 0;
         let p = rows * size;
@@ -151,12 +151,12 @@ pub fn marginalize<'a>(
     requires asked { Asked (key ∷ []) cleared.now sizes factors.now messages.now (length work.old) keys.now heads.now slots.now }
     requires key_bound { get_or sizes key 0 ≤ max_size }
     ensures value { result
-        ≡ marginalFrom key (get_or sizes key 0)
-        (eliminate (viewsOf factors.now messages.now keys.now heads.now slots.now)
+        ≡ marginal_from key (get_or sizes key 0)
+        (eliminate (views_of factors.now messages.now keys.now heads.now slots.now)
         (key ∷ []) cleared.now sizes) }
     ensures ending_value { ending_told result.ending
         ≡ last_told (get_or sizes key 0)
-        (eliminate (viewsOf factors.now messages.now keys.now heads.now slots.now)
+        (eliminate (views_of factors.now messages.now keys.now heads.now slots.now)
         (key ∷ []) cleared.now sizes) }
 {
     let kept = [key];

@@ -1,4 +1,6 @@
 // The factor graph as a plain value, and the calls that register its variables and factors.
+#![tactic(auto)]
+
 pub mod checks;
 pub mod refusal;
 

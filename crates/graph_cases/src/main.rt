@@ -1,4 +1,6 @@
 // Calls with good and bad input, and a line for each: what it answered, and whether it changed the graph and the store.
+#![tactic(auto)]
+
 mod report;
 mod superseding;
 
@@ -6,33 +8,33 @@ use factor::limits::FACTORS;
 use graph::{Graph, Symbol};
 use report::{forged, observation, prior, variable};
 
-fn main() {
-    variables();
+fn main(rt: HostRuntime) {
+    variables(&rt);
     let g = three();
-    priors(g);
-    prior_numbers(g);
-    shapes(g);
-    observations(g);
-    observation_numbers(g);
-    limits(g);
-    widest(g);
-    factor_limit();
-    forged_variables(g);
-    forged_factors(g);
-    forged_widest(g);
-    superseding::cases(g);
+    priors(&rt, g);
+    prior_numbers(&rt, g);
+    shapes(&rt, g);
+    observations(&rt, g);
+    observation_numbers(&rt, g);
+    limits(&rt, g);
+    widest(&rt, g);
+    factor_limit(&rt);
+    forged_variables(&rt, g);
+    forged_factors(&rt, g);
+    forged_widest(&rt, g);
+    superseding::cases(&rt, g);
 }
 
-fn variables() {
-    let g = variable(b"first variable", Graph::new(), 97, 0, 1);
-    let g = variable(b"a surrogate as letter", g, 0xD800, 0, 1);
-    let g = variable(b"a letter past Unicode", g, 0x110000, 0, 1);
-    let g = variable(b"the last letter", g, 0x10FFFF, 0, 6);
-    let g = variable(b"size 0", g, 97, 1, 0);
-    let g = variable(b"size 7", g, 97, 1, 7);
-    let g = variable(b"size 7 with a name taken", g, 97, 0, 7);
-    let g = variable(b"name taken", g, 97, 0, 1);
-    variable(b"the same letter, another index", g, 97, 1, 2);
+fn variables(rt: &HostRuntime) {
+    let g = variable(rt, b"first variable", Graph::new(), 97, 0, 1);
+    let g = variable(rt, b"a surrogate as letter", g, 0xD800, 0, 1);
+    let g = variable(rt, b"a letter past Unicode", g, 0x110000, 0, 1);
+    let g = variable(rt, b"the last letter", g, 0x10FFFF, 0, 6);
+    let g = variable(rt, b"size 0", g, 97, 1, 0);
+    let g = variable(rt, b"size 7", g, 97, 1, 7);
+    let g = variable(rt, b"size 7 with a name taken", g, 97, 0, 7);
+    let g = variable(rt, b"name taken", g, 97, 0, 1);
+    variable(rt, b"the same letter, another index", g, 97, 1, 2);
 }
 
 // Keys 0, 1 and 2 of sizes 1, 2 and 1.
@@ -45,30 +47,31 @@ fn three() -> Graph {
     c.graph
 }
 
-fn priors(g: Graph) {
+fn priors(rt: &HostRuntime, g: Graph) {
     let one = [1.0];
     let two = [1.0, 1.0];
     let four = [2.0, 1.0, 1.0, 2.0];
     let nan = [0.0 / 0.0];
-    prior(b"prior on a key not there", g, 3, &one, &one, 8);
-    prior(b"mean too long", g, 0, &two, &one, 8);
-    prior(b"variance too long", g, 0, &one, &two, 8);
-    prior(b"store one short", g, 1, &two, &four, 5);
-    prior(b"store short and not a number", g, 0, &nan, &one, 1);
-    let g = prior(b"prior", g, 1, &two, &four, 6);
-    prior(b"the next prior, store one short", g, 0, &one, &one, 7);
-    prior(b"the next prior", g, 0, &one, &one, 8);
+    prior(rt, b"prior on a key not there", g, 3, &one, &one, 8);
+    prior(rt, b"mean too long", g, 0, &two, &one, 8);
+    prior(rt, b"variance too long", g, 0, &one, &two, 8);
+    prior(rt, b"store one short", g, 1, &two, &four, 5);
+    prior(rt, b"store short and not a number", g, 0, &nan, &one, 1);
+    let g = prior(rt, b"prior", g, 1, &two, &four, 6);
+    prior(rt, b"the next prior, store one short", g, 0, &one, &one, 7);
+    prior(rt, b"the next prior", g, 0, &one, &one, 8);
 }
 
-fn prior_numbers(g: Graph) {
+fn prior_numbers(rt: &HostRuntime, g: Graph) {
     let nan = 0.0 / 0.0;
     let inf = 1.0 / 0.0;
     let one = [1.0];
     let two = [1.0, 1.0];
-    prior(b"mean not a number", g, 0, &[nan], &one, 8);
-    prior(b"mean infinite", g, 0, &[inf], &one, 8);
-    prior(b"variance not a number", g, 0, &one, &[nan], 8);
+    prior(rt, b"mean not a number", g, 0, &[nan], &one, 8);
+    prior(rt, b"mean infinite", g, 0, &[inf], &one, 8);
+    prior(rt, b"variance not a number", g, 0, &one, &[nan], 8);
     prior(
+        rt,
         b"lower triangle infinite",
         g,
         1,
@@ -77,6 +80,7 @@ fn prior_numbers(g: Graph) {
         8,
     );
     prior(
+        rt,
         b"upper triangle not a number",
         g,
         1,
@@ -85,6 +89,7 @@ fn prior_numbers(g: Graph) {
         8,
     );
     prior(
+        rt,
         b"upper triangle infinite",
         g,
         1,
@@ -92,12 +97,29 @@ fn prior_numbers(g: Graph) {
         &[1.0, 0.0, 0.0 - inf, 1.0],
         8,
     );
-    prior(b"variance zero", g, 0, &one, &[0.0], 8);
-    prior(b"variance negative", g, 0, &one, &[0.0 - 1.0], 8);
-    prior(b"variance singular", g, 1, &two, &[1.0, 1.0, 1.0, 1.0], 8);
-    prior(b"variance indefinite", g, 1, &two, &[1.0, 2.0, 2.0, 1.0], 8);
-    prior(b"an inverse that overflows", g, 0, &one, &[1.0e-320], 8);
+    prior(rt, b"variance zero", g, 0, &one, &[0.0], 8);
+    prior(rt, b"variance negative", g, 0, &one, &[0.0 - 1.0], 8);
     prior(
+        rt,
+        b"variance singular",
+        g,
+        1,
+        &two,
+        &[1.0, 1.0, 1.0, 1.0],
+        8,
+    );
+    prior(
+        rt,
+        b"variance indefinite",
+        g,
+        1,
+        &two,
+        &[1.0, 2.0, 2.0, 1.0],
+        8,
+    );
+    prior(rt, b"an inverse that overflows", g, 0, &one, &[1.0e-320], 8);
+    prior(
+        rt,
         b"a variance that isn't symmetric",
         g,
         1,
@@ -106,6 +128,7 @@ fn prior_numbers(g: Graph) {
         8,
     );
     prior(
+        rt,
         b"mean too short, variance not symmetric",
         g,
         1,
@@ -114,6 +137,7 @@ fn prior_numbers(g: Graph) {
         8,
     );
     prior(
+        rt,
         b"a variance neither symmetric nor definite",
         g,
         1,
@@ -122,6 +146,7 @@ fn prior_numbers(g: Graph) {
         8,
     );
     prior(
+        rt,
         b"zeros of either sign across the diagonal",
         g,
         1,
@@ -131,11 +156,12 @@ fn prior_numbers(g: Graph) {
     );
 }
 
-fn shapes(g: Graph) {
+fn shapes(rt: &HostRuntime, g: Graph) {
     let one = [1.0];
     let two = [1.0, 1.0];
-    observation(b"no rows", g, &[0], 0, &one, &one, &one, 8);
+    observation(rt, b"no rows", g, &[0], 0, &one, &one, &one, 8);
     observation(
+        rt,
         b"a variance of 2 rows that isn't symmetric",
         g,
         &[0],
@@ -145,23 +171,44 @@ fn shapes(g: Graph) {
         &[2.0, 1.0, 5.0, 2.0],
         8,
     );
-    observation(b"equal keys", g, &[1, 1], 1, &one, &one, &one, 8);
-    observation(b"falling keys", g, &[1, 0], 1, &one, &one, &one, 8);
-    observation(b"equal keys not there", g, &[9, 9], 1, &one, &one, &one, 8);
-    observation(b"a key not there", g, &[0, 3], 1, &one, &one, &one, 8);
-    observation(b"A too short", g, &[0, 2], 1, &one, &one, &one, 8);
-    observation(b"means too many", g, &[0], 1, &one, &two, &one, 8);
-    observation(b"variance too short", g, &[0], 2, &two, &two, &two, 8);
+    observation(rt, b"equal keys", g, &[1, 1], 1, &one, &one, &one, 8);
+    observation(rt, b"falling keys", g, &[1, 0], 1, &one, &one, &one, 8);
+    observation(
+        rt,
+        b"equal keys not there",
+        g,
+        &[9, 9],
+        1,
+        &one,
+        &one,
+        &one,
+        8,
+    );
+    observation(rt, b"a key not there", g, &[0, 3], 1, &one, &one, &one, 8);
+    observation(rt, b"A too short", g, &[0, 2], 1, &one, &one, &one, 8);
+    observation(rt, b"means too many", g, &[0], 1, &one, &two, &one, 8);
+    observation(rt, b"variance too short", g, &[0], 2, &two, &two, &two, 8);
 }
 
-fn observations(g: Graph) {
+fn observations(rt: &HostRuntime, g: Graph) {
     let one = [1.0];
     let a = [1.0, 2.0, 3.0];
-    observation(b"store one short", g, &[0, 1], 1, &a, &one, &one, 4);
-    let g = observation(b"observation", g, &[0, 1], 1, &a, &one, &[4.0], 5);
-    let g = observation(b"observation without keys", g, &[], 1, &[], &one, &one, 12);
-    let g = prior(b"prior after observations", g, 2, &one, &one, 12);
+    observation(rt, b"store one short", g, &[0, 1], 1, &a, &one, &one, 4);
+    let g = observation(rt, b"observation", g, &[0, 1], 1, &a, &one, &[4.0], 5);
+    let g = observation(
+        rt,
+        b"observation without keys",
+        g,
+        &[],
+        1,
+        &[],
+        &one,
+        &one,
+        12,
+    );
+    let g = prior(rt, b"prior after observations", g, 2, &one, &one, 12);
     observation(
+        rt,
         b"the next one, store short",
         g,
         &[2],
@@ -171,16 +218,17 @@ fn observations(g: Graph) {
         &one,
         11,
     );
-    observation(b"the next one", g, &[2], 1, &one, &one, &one, 12);
+    observation(rt, b"the next one", g, &[2], 1, &one, &one, &one, 12);
 }
 
-fn observation_numbers(g: Graph) {
+fn observation_numbers(rt: &HostRuntime, g: Graph) {
     let nan = 0.0 / 0.0;
     let inf = 1.0 / 0.0;
     let one = [1.0];
-    observation(b"A not a number", g, &[0], 1, &[nan], &one, &one, 8);
-    observation(b"A infinite", g, &[0], 1, &[inf], &one, &one, 8);
+    observation(rt, b"A not a number", g, &[0], 1, &[nan], &one, &one, 8);
+    observation(rt, b"A infinite", g, &[0], 1, &[inf], &one, &one, 8);
     observation(
+        rt,
         b"observed mean infinite",
         g,
         &[0],
@@ -191,6 +239,7 @@ fn observation_numbers(g: Graph) {
         8,
     );
     observation(
+        rt,
         b"observed variance infinite",
         g,
         &[0],
@@ -200,8 +249,19 @@ fn observation_numbers(g: Graph) {
         &[inf],
         8,
     );
-    observation(b"observed variance zero", g, &[0], 1, &one, &one, &[0.0], 8);
     observation(
+        rt,
+        b"observed variance zero",
+        g,
+        &[0],
+        1,
+        &one,
+        &one,
+        &[0.0],
+        8,
+    );
+    observation(
+        rt,
         b"A that would overflow",
         g,
         &[0],
@@ -211,24 +271,24 @@ fn observation_numbers(g: Graph) {
         &one,
         8,
     );
-    observation(b"xi overflows", g, &[0], 1, &one, &[1.7e308], &[0.5], 8);
+    observation(rt, b"xi overflows", g, &[0], 1, &one, &[1.7e308], &[0.5], 8);
 }
 
 // Sizes that add up to the limit, and past it; as many variables as there is room for, and one more.
-fn limits(g: Graph) {
-    let g = variable(b"sizes to 10", g, 99, 0, 6);
-    let g = variable(b"sizes to 16", g, 99, 1, 6);
-    let g = variable(b"sizes to 22", g, 99, 2, 6);
-    let g = variable(b"sizes to 28", g, 99, 3, 6);
-    variable(b"sizes to 33", g, 99, 4, 5);
-    variable(b"sizes to 32", g, 99, 4, 4);
+fn limits(rt: &HostRuntime, g: Graph) {
+    let g = variable(rt, b"sizes to 10", g, 99, 0, 6);
+    let g = variable(rt, b"sizes to 16", g, 99, 1, 6);
+    let g = variable(rt, b"sizes to 22", g, 99, 2, 6);
+    let g = variable(rt, b"sizes to 28", g, 99, 3, 6);
+    variable(rt, b"sizes to 33", g, 99, 4, 5);
+    variable(rt, b"sizes to 32", g, 99, 4, 4);
     let mut full = Graph::new();
     for i in 0..32 {
         let added = full.add_variable(Symbol(97, i), 1);
         full = added.graph;
     }
-    variable(b"a 33rd variable", full, 98, 0, 1);
-    variable(b"a 33rd variable, name taken", full, 97, 31, 1);
+    variable(rt, b"a 33rd variable", full, 98, 0, 1);
+    variable(rt, b"a 33rd variable, name taken", full, 97, 31, 1);
 }
 
 // The identity of dimension 6.
@@ -241,7 +301,7 @@ fn identity() -> [f64; 36] {
 }
 
 // As many keys and rows as an observation may have, and one more.
-fn widest(g: Graph) {
+fn widest(rt: &HostRuntime, g: Graph) {
     let one = [1.0];
     let six = [1.0; 6];
     let seven = [1.0; 7];
@@ -249,11 +309,31 @@ fn widest(g: Graph) {
     let four = d.graph;
     let e = four.add_variable(Symbol(98, 2), 1);
     let five = e.graph;
-    observation(b"4 keys", four, &[0, 1, 2, 3], 1, &[1.0; 5], &one, &one, 7);
-    observation(b"5 keys", five, &[0, 1, 2, 3, 4], 1, &six, &one, &one, 8);
-    observation(b"5 keys not there", g, &[9; 5], 1, &one, &one, &one, 8);
-    observation(b"6 rows", g, &[0], 6, &six, &six, &identity(), 48);
-    observation(b"7 rows", g, &[0], 7, &seven, &seven, &[1.0; 49], 63);
+    observation(
+        rt,
+        b"4 keys",
+        four,
+        &[0, 1, 2, 3],
+        1,
+        &[1.0; 5],
+        &one,
+        &one,
+        7,
+    );
+    observation(
+        rt,
+        b"5 keys",
+        five,
+        &[0, 1, 2, 3, 4],
+        1,
+        &six,
+        &one,
+        &one,
+        8,
+    );
+    observation(rt, b"5 keys not there", g, &[9; 5], 1, &one, &one, &one, 8);
+    observation(rt, b"6 rows", g, &[0], 6, &six, &six, &identity(), 48);
+    observation(rt, b"7 rows", g, &[0], 7, &seven, &seven, &[1.0; 49], 63);
 }
 
 // So many factors, or as many as there is room for: observations without keys, of 2 numbers each.
@@ -269,11 +349,12 @@ pub fn filled(n: usize) -> Graph {
 }
 
 // As many factors as there is room for, and one more.
-fn factor_limit() {
+fn factor_limit(rt: &HostRuntime) {
     let one = [1.0];
     let full = filled(FACTORS);
-    observation(b"a 65th factor", full, &[], 1, &[], &one, &one, 130);
+    observation(rt, b"a 65th factor", full, &[], 1, &[], &one, &one, 130);
     observation(
+        rt,
         b"a 65th factor, not a number",
         full,
         &[],
@@ -285,39 +366,39 @@ fn factor_limit() {
     );
 }
 
-fn forged_variables(g: Graph) {
+fn forged_variables(rt: &HostRuntime, g: Graph) {
     let mut bad = g;
     bad.variables = 33;
-    forged(b"33 variables", bad);
+    forged(rt, b"33 variables", bad);
     bad = g;
     bad.variables = 2;
-    forged(b"a variable more than counted", bad);
+    forged(rt, b"a variable more than counted", bad);
     bad = g;
     bad.variables = 4;
-    forged(b"a variable less than counted", bad);
+    forged(rt, b"a variable less than counted", bad);
     bad = g;
     bad.symbols[1] = Symbol(97, 0);
-    forged(b"a name twice", bad);
+    forged(rt, b"a name twice", bad);
     bad = g;
     bad.symbols[2] = Symbol(0xDFFF, 0);
-    forged(b"a surrogate", bad);
+    forged(rt, b"a surrogate", bad);
     bad = g;
     bad.sizes[2] = 0;
-    forged(b"a size of 0", bad);
+    forged(rt, b"a size of 0", bad);
     bad = g;
     bad.sizes[2] = 7;
-    forged(b"a size of 7", bad);
+    forged(rt, b"a size of 7", bad);
     bad = g;
     bad.symbols[31] = Symbol(0, 1);
-    forged(b"a name in an unused place", bad);
+    forged(rt, b"a name in an unused place", bad);
     bad = g;
     bad.count = 1;
-    forged(b"a factor less than counted", bad);
+    forged(rt, b"a factor less than counted", bad);
     bad.count = 65;
-    forged(b"65 factors", bad);
+    forged(rt, b"65 factors", bad);
 }
 
-fn forged_factors(g: Graph) {
+fn forged_factors(rt: &HostRuntime, g: Graph) {
     let one = [1.0];
     let mut store = [9.0; 16];
     let added = g.add_observation(
@@ -331,35 +412,43 @@ fn forged_factors(g: Graph) {
     let right = added.graph;
     let mut f = right.factors[0];
     f.keys[0] = 2;
-    report::with_factor(b"keys that don't rise", right, f);
+    report::with_factor(rt, b"keys that don't rise", right, f);
     f = right.factors[0];
     f.keys[1] = 3;
-    report::with_factor(b"a key not there", right, f);
+    report::with_factor(rt, b"a key not there", right, f);
     f = right.factors[0];
     f.keys[2] = 1;
-    report::with_factor(b"a spare key", right, f);
+    report::with_factor(rt, b"a spare key", right, f);
     f = right.factors[0];
     f.rows = 7;
-    report::with_factor(b"7 rows", right, f);
+    report::with_factor(rt, b"7 rows", right, f);
     f = right.factors[0];
     f.touched = 5;
-    report::with_factor(b"5 keys", right, f);
+    report::with_factor(rt, b"5 keys", right, f);
     f = right.factors[0];
     f.prior = true;
-    report::with_factor(b"a prior with two keys", right, f);
+    report::with_factor(rt, b"a prior with two keys", right, f);
     f.touched = 1;
     f.keys[1] = 0;
-    report::with_factor(b"a prior with rows unlike its size", right, f);
+    report::with_factor(rt, b"a prior with rows unlike its size", right, f);
     f.rows = 1;
-    report::with_factor(b"a prior as it should be", right, f);
+    report::with_factor(rt, b"a prior as it should be", right, f);
     let mut bad = right;
     bad.count = 0;
-    forged(b"a factor more than counted", bad);
-    prior(b"the graph that was not forged", right, 0, &one, &one, 16);
+    forged(rt, b"a factor more than counted", bad);
+    prior(
+        rt,
+        b"the graph that was not forged",
+        right,
+        0,
+        &one,
+        &one,
+        16,
+    );
 }
 
 // A first factor with as many keys and rows as there may be, and one row more.
-fn forged_widest(g: Graph) {
+fn forged_widest(rt: &HostRuntime, g: Graph) {
     let one = [1.0];
     let d = g.add_variable(Symbol(98, 1), 1);
     let four = d.graph;
@@ -368,7 +457,7 @@ fn forged_widest(g: Graph) {
     let right = added.graph;
     let mut f = right.factors[0];
     f.rows = 6;
-    report::with_factor(b"4 keys and 6 rows", right, f);
+    report::with_factor(rt, b"4 keys and 6 rows", right, f);
     f.rows = 7;
-    report::with_factor(b"4 keys and 7 rows", right, f);
+    report::with_factor(rt, b"4 keys and 7 rows", right, f);
 }

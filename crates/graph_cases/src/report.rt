@@ -5,20 +5,21 @@ use factor::Factor;
 use factor::limits::{FACTORS, KEYS, VARIABLES};
 use graph::refusal::code;
 use graph::{Added, Graph, Outcome, Symbol};
+use streams::{write_all, write_decimal};
 
-fn print_outcome(outcome: Outcome) {
+fn print_outcome(rt: &HostRuntime, outcome: Outcome) {
     match outcome {
         Outcome::Key(key) => {
-            io::write_all(1, b"key ");
-            io::print_decimal(1, key as u64);
+            write_all(&mut rt.stdout(), b"key ");
+            write_decimal(&mut rt.stdout(), key as u64);
         }
         Outcome::Number(number) => {
-            io::write_all(1, b"number ");
-            io::print_decimal(1, number as u64);
+            write_all(&mut rt.stdout(), b"number ");
+            write_decimal(&mut rt.stdout(), number as u64);
         }
         Outcome::Refused(why) => {
-            io::write_all(1, b"refused ");
-            io::print_decimal(1, code(why) as u64);
+            write_all(&mut rt.stdout(), b"refused ");
+            write_decimal(&mut rt.stdout(), code(why) as u64);
         }
     }
 }
@@ -83,37 +84,45 @@ fn untouched(store: [f64; 130]) -> bool {
     true
 }
 
-fn print_state(graph: bool, store: bool) {
+fn print_state(rt: &HostRuntime, graph: bool, store: bool) {
     if graph {
-        io::write_all(1, b", graph as it was");
+        write_all(&mut rt.stdout(), b", graph as it was");
     } else {
-        io::write_all(1, b", graph changed");
+        write_all(&mut rt.stdout(), b", graph changed");
     }
     if store {
-        io::write_all(1, b", store as it was\n");
+        write_all(&mut rt.stdout(), b", store as it was\n");
     } else {
-        io::write_all(1, b", store changed\n");
+        write_all(&mut rt.stdout(), b", store changed\n");
     }
 }
 
-fn line(label: &[u8], g: Graph, added: Added, store: bool) {
-    io::write_all(1, label);
-    io::write_all(1, b": ");
+fn line(rt: &HostRuntime, label: &[u8], g: Graph, added: Added, store: bool) {
+    write_all(&mut rt.stdout(), label);
+    write_all(&mut rt.stdout(), b": ");
     let outcome = added.outcome;
     let next = added.graph;
-    print_outcome(outcome);
-    print_state(same_graph(g, next), store);
+    print_outcome(rt, outcome);
+    print_state(rt, same_graph(g, next), store);
 }
 
 // Registers a variable, prints a line of what came of it, and hands the graph on.
-pub fn variable(label: &[u8], g: Graph, letter: u32, index: u32, size: usize) -> Graph {
+pub fn variable(
+    rt: &HostRuntime,
+    label: &[u8],
+    g: Graph,
+    letter: u32,
+    index: u32,
+    size: usize,
+) -> Graph {
     let added = g.add_variable(Symbol(letter, index), size);
-    line(label, g, added, true);
+    line(rt, label, g, added, true);
     added.graph
 }
 
 // As `variable`, with a prior; the call is lent a store of `room` numbers.
 pub fn prior(
+    rt: &HostRuntime,
     label: &[u8],
     g: Graph,
     key: usize,
@@ -125,12 +134,13 @@ pub fn prior(
 {
     let mut store = [9.0; 130];
     let added = g.add_prior(key, mean, variance, &mut store[0..room]);
-    line(label, g, added, untouched(store));
+    line(rt, label, g, added, untouched(store));
     added.graph
 }
 
 // As `variable`, with an observation; the call is lent a store of `room` numbers.
 pub fn observation(
+    rt: &HostRuntime,
     label: &[u8],
     g: Graph,
     keys: &[usize],
@@ -144,12 +154,13 @@ pub fn observation(
 {
     let mut store = [9.0; 130];
     let added = g.add_observation(keys, rows, a, mean, variance, &mut store[0..room]);
-    line(label, g, added, untouched(store));
+    line(rt, label, g, added, untouched(store));
     added.graph
 }
 
 // As `prior`, in place of the factor of that number.
 pub fn over_prior(
+    rt: &HostRuntime,
     label: &[u8],
     g: Graph,
     number: usize,
@@ -162,12 +173,13 @@ pub fn over_prior(
 {
     let mut store = [9.0; 130];
     let added = g.supersede_prior(number, key, mean, variance, &mut store[0..room]);
-    line(label, g, added, untouched(store));
+    line(rt, label, g, added, untouched(store));
     added.graph
 }
 
 // As `observation`, in place of the factor of that number.
 pub fn over_observation(
+    rt: &HostRuntime,
     label: &[u8],
     g: Graph,
     number: usize,
@@ -183,41 +195,41 @@ pub fn over_observation(
     let mut store = [9.0; 130];
     let lent = &mut store[0..room];
     let added = g.supersede_observation(number, keys, rows, a, mean, variance, lent);
-    line(label, g, added, untouched(store));
+    line(rt, label, g, added, untouched(store));
     added.graph
 }
 
 // Both calls in place of the factor of that number, with arguments that are accepted where it is live.
-pub fn over_each(label: &[u8], g: Graph, number: usize) {
+pub fn over_each(rt: &HostRuntime, label: &[u8], g: Graph, number: usize) {
     let one = [1.0];
-    over_prior(label, g, number, 0, &one, &one, 32);
-    over_observation(label, g, number, &[], 1, &[], &one, &one, 32);
+    over_prior(rt, label, g, number, 0, &one, &one, 32);
+    over_observation(rt, label, g, number, &[], 1, &[], &one, &one, 32);
 }
 
 // The numbers of the live factors.
-pub fn live(label: &[u8], g: Graph) {
-    io::write_all(1, label);
-    io::write_all(1, b": live");
+pub fn live(rt: &HostRuntime, label: &[u8], g: Graph) {
+    write_all(&mut rt.stdout(), label);
+    write_all(&mut rt.stdout(), b": live");
     for number in 0..FACTORS {
         if g.is_live(number) {
-            io::write_all(1, b" ");
-            io::print_decimal(1, number as u64);
+            write_all(&mut rt.stdout(), b" ");
+            write_decimal(&mut rt.stdout(), number as u64);
         }
     }
-    io::write_all(1, b"\n");
+    write_all(&mut rt.stdout(), b"\n");
 }
 
 // A record that no calls yield: each call is made on it, with arguments that a right one would accept.
-pub fn forged(label: &[u8], g: Graph) {
+pub fn forged(rt: &HostRuntime, label: &[u8], g: Graph) {
     let one = [1.0];
-    variable(label, g, 122, 0, 1);
-    prior(label, g, 0, &one, &one, 32);
-    observation(label, g, &[], 1, &[], &one, &one, 32);
+    variable(rt, label, g, 122, 0, 1);
+    prior(rt, label, g, 0, &one, &one, 32);
+    observation(rt, label, g, &[], 1, &[], &one, &one, 32);
 }
 
 // `forged` for a graph whose first factor is replaced by f.
-pub fn with_factor(label: &[u8], g: Graph, f: Factor) {
+pub fn with_factor(rt: &HostRuntime, label: &[u8], g: Graph, f: Factor) {
     let mut bad = g;
     bad.factors[0] = f;
-    forged(label, bad);
+    forged(rt, label, bad);
 }

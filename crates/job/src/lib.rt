@@ -1,4 +1,6 @@
 // A whole job in one call: its bytes are read into a graph, the graph is run, and the answer is laid as text.
+#![tactic(auto)]
+
 ghost use Rattle.std.specs.Prelude.{◌≡◌, true, length};
 ghost use Rattle.graph.specs.Record.{valid};
 ghost use Rattle.lines.specs.Lines.{written, laid_in};

@@ -1,4 +1,6 @@
 // The lists of an elimination, out of a plan's arrays: kept keys, cleared keys and slots.
+#![tactic(auto)]
+
 ghost use Rattle.std.specs.Prelude.{◌≡◌, ◌++◌, map, ◌+◌, ◌-◌, ◌<◌, ◌≤◌, length, take, drop};
 ghost use Rattle.factor.specs.Limits.{max_variables};
 ghost use Rattle.schedule.specs.Pass.{at};

@@ -12,7 +12,7 @@ use Rattle.schedule.specs.Gather.{Gathered}
 use Rattle.plan.specs.Gather.{gathered_of}
 use Rattle.plan.specs.declared.gather.Gathered as arrays
 use Rattle.gaussian.specs.Elimination.{Outcome, pivot, not_finite, message, eliminate}
-use Rattle.gaussian.specs.Answers.{viewsOf, marginalAnswer, marginalFrom, refusedAs}
+use Rattle.gaussian.specs.Answers.{views_of, marginal_answer, marginal_from, refused_as}
 use Rattle.gaussian.specs.Asked.{Asked}
 use Rattle.cholesky.specs.Forms.{Form}
 use Rattle.cholesky.specs.Forms as forms
@@ -36,9 +36,9 @@ module _ (sizes : List ℕ) (factors messages : List Float) (keys heads : List �
       → Asked (key ∷ []) (cleared_of l) sizes factors messages work keys heads (listed_slots l)
   lists_asked work a = rw (h.cleared, h.slots) a
 
-  pub lists_last : (s : ℕ) (r : Answer) → r ≡ marginalFrom key s
-      (eliminate (viewsOf factors messages keys heads (listed_slots l)) (key ∷ []) (cleared_of l) sizes)
-      → r ≡ marginalFrom key s (last_by sizes factors messages keys heads key q)
+  pub lists_last : (s : ℕ) (r : Answer) → r ≡ marginal_from key s
+      (eliminate (views_of factors messages keys heads (listed_slots l)) (key ∷ []) (cleared_of l) sizes)
+      → r ≡ marginal_from key s (last_by sizes factors messages keys heads key q)
   lists_last s r e = rw (h.cleared, h.slots) at e
 
 -- ---- the answer
@@ -53,16 +53,16 @@ Tells s a f = told_by a.ending
     told_by ending.Pivot = f ≡ refused MarginalPivot
     told_by ending.NotFinite = f ≡ refused ResultNotFinite
 
-tells-moments : (key s r : ℕ) (a xi w : List Float) (m : Form) → moments_of r s a xi w ≡ m → Tells s (marginalAnswer key s m) (found_by m)
-unfolding marginalAnswer found_by refusedAs
+tells-moments : (key s r : ℕ) (a xi w : List Float) (m : Form) → moments_of r s a xi w ≡ m → Tells s (marginal_answer key s m) (found_by m)
+unfolding marginal_answer found_by refused_as
 tells-moments key s r a xi w (forms.form mean covariance) e =
     let long = moments-long s mean covariance r a xi w e in
     (refl, rw (take_at mean _ s long.0, take_at covariance _ (s * s) long.1) refl)
 tells-moments key s r a xi w forms.pivot e = refl
 tells-moments key s r a xi w forms.not_finite e = refl
 
-tells : (key s : ℕ) (o : Outcome) → Tells s (marginalFrom key s o) (found_in s o)
-unfolding marginalFrom found_in refusedAs
+tells : (key s : ℕ) (o : Outcome) → Tells s (marginal_from key s o) (found_in s o)
+unfolding marginal_from found_in refused_as
 tells key s pivot = refl
 tells key s not_finite = refl
 tells key s (message r a xi w) = tells-moments key s r a xi w (moments_of r s a xi w) refl
@@ -86,7 +86,7 @@ module _ (sizes : List ℕ) (factors messages : List Float) (keys heads : List �
   abbrev f : Found
   f = found_at sizes factors messages keys heads key (gathered_of q)
 
-  module _ (a : Answer) (ea : a ≡ marginalFrom key s (last_by sizes factors messages keys heads key (gathered_of q))) where
+  module _ (a : Answer) (ea : a ≡ marginal_from key s (last_by sizes factors messages keys heads key (gathered_of q))) where
     told : Tells s a f
     unfolding found_at
     told = rw ea (tells key s (last_by sizes factors messages keys heads key (gathered_of q)))

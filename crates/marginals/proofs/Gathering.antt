@@ -27,7 +27,7 @@ use Rattle.workspace.specs.Frames.{work_numbers}
 use Rattle.slots.specs.Limits.{max_slots}
 use Rattle.slots.specs.Tables.{head_of, slot_store, read_view}
 use Rattle.slots.specs.Views.{FactorView}
-use Rattle.gaussian.specs.Answers.{viewsOf}
+use Rattle.gaussian.specs.Answers.{views_of}
 use Rattle.gaussian.specs.Asked.{HeadFits}
 use Rattle.tables.specs.Originals.{original_view}
 use Rattle.tables.proofs.Dimensions.{total-within, kept_listed, cleared_listed}
@@ -188,8 +188,8 @@ module _ (g : Graph) (p : schedule.Plan) (at : List arrays.Gathered) (factors me
         map_same view (original_view g factors) q.originals (λ i m. slot_view_lem g fw run.forward 0 0 (length fw) keys heads (omega arith)
         (omega arith) run.tables run.placed factors messages run.stored (original i) (from-lt i g.count (settled.originals i (mem_in m)).0))
 
-    views-are : viewsOf factors messages keys heads (gathered_numbers q) ≡ gathered_views g factors p (values g factors fw) (values g factors bw) q
-    unfolding viewsOf gathered_views
+    views-are : views_of factors messages keys heads (gathered_numbers q) ≡ gathered_views g factors p (values g factors fw) (values g factors bw) q
+    unfolding views_of gathered_views
     views-are =
         map-append view (map (message_number 0) q.forward) (map (message_number backward_shift) q.backward ++ q.originals)
         ∙ rw (map-append view (map (message_number backward_shift) q.backward) q.originals, forward-views, backward-views, original-views) refl

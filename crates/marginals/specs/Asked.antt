@@ -10,7 +10,7 @@ use Rattle.plan.specs.Gather.{Held, gathered_of}
 use Rattle.plan.specs.Plan.{no_gathered}
 use Rattle.plan.specs.declared.gather.Gathered as arrays
 use Rattle.gaussian.specs.Elimination.{Outcome, eliminate}
-use Rattle.gaussian.specs.Answers.{viewsOf}
+use Rattle.gaussian.specs.Answers.{views_of}
 use Rattle.gaussian.specs.Asked.{Asked}
 use Rattle.lists.specs.Lists.{backward_shift, gathered_numbers}
 use Rattle.messages.specs.Figure.{need}
@@ -26,7 +26,7 @@ use Rattle.marginals.specs.Marginals.{marginal_numbers, Found, found_in, planned
 
 -- what the last elimination of a key comes to, its slots read through the tables
 abbrev pub last_by : (sizes : List ℕ) (factors messages : List Float) (keys heads : List ℕ) (k : ℕ) (q : Gathered) → Outcome
-last_by sizes factors messages keys heads k q = eliminate (viewsOf factors messages keys heads (gathered_numbers q)) (k ∷ []) q.last sizes
+last_by sizes factors messages keys heads k q = eliminate (views_of factors messages keys heads (gathered_numbers q)) (k ∷ []) q.last sizes
 
 unfoldable pub found_at : (sizes : List ℕ) (factors messages : List Float) (keys heads : List ℕ) (k : ℕ) (q : Gathered) → Found
 found_at sizes factors messages keys heads k q = found_in (get_or sizes k 0) (last_by sizes factors messages keys heads k q)

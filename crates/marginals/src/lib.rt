@@ -1,11 +1,13 @@
 // The marginals of a run: for each key, rising, the last elimination of what it gathers, and the mean and the covariance from its message.
+#![tactic(auto)]
+
 ghost use Rattle.std.specs.Prelude.{◌≡◌, [], ◌∷◌, ◌++◌, ◌+◌, ◌*◌, ◌≤◌, length, get_or, take};
 ghost use Rattle.factor.specs.Limits.{max_size, max_variables};
 ghost use Rattle.factor.specs.Factor.{lay};
 ghost use Rattle.plan.specs.Gather.{Held, gathered_of};
 ghost use Rattle.slots.specs.Limits.{max_slots};
 ghost use Rattle.gaussian.specs.Elimination.{eliminate};
-ghost use Rattle.gaussian.specs.Answers.{viewsOf, marginalFrom};
+ghost use Rattle.gaussian.specs.Answers.{views_of, marginal_from};
 ghost use Rattle.gaussian.specs.Asked.{Asked};
 ghost use Rattle.messages.specs.Asked.{cleared_of, listed_slots, refusal_in};
 ghost use Rattle.marginals.specs.Marginals.{missing_from, marginals_in};
@@ -47,8 +49,8 @@ fn marginal_by<'a>(
 ) -> Answer
     requires clears_le_max_variables { (l.clears ≤ max_variables) × (l.count ≤ max_slots) × (get_or sizes key 0 ≤ max_size) }
     requires asked { Asked (key ∷ []) (cleared_of l) sizes factors.now messages.now (length work.old) keys.now heads.now (listed_slots l) }
-    ensures { result ≡ marginalFrom key (get_or sizes key 0)
-        (eliminate (viewsOf factors.now messages.now keys.now heads.now (listed_slots l))
+    ensures { result ≡ marginal_from key (get_or sizes key 0)
+        (eliminate (views_of factors.now messages.now keys.now heads.now (listed_slots l))
         (key ∷ []) (cleared_of l) sizes) }
 {
     let cleared = l.cleared;
@@ -81,7 +83,7 @@ fn marginal_of<'a>(
 ) -> Answer
     requires { Held q × AskedAt sizes factors.now messages.now (length work.old) keys.now heads.now key (gathered_of q)
         × (get_or sizes key 0 ≤ max_size) }
-    ensures { result ≡ marginalFrom key (get_or sizes key 0)
+    ensures { result ≡ marginal_from key (get_or sizes key 0)
         (last_by sizes factors.now messages.now keys.now heads.now key (gathered_of q)) }
 {
     let l = gathered_lists(q, key);

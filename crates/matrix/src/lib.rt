@@ -1,5 +1,7 @@
 // Dense matrices of f64 in lent slices, column by column: every operation is rounded once, in the order that specs/ lays down.
 // Two loops do all multiplying: `dot` adds the terms of a product sum up, and `deduct` takes them off a number one at a time.
+#![tactic(auto)]
+
 ghost use Rattle.std.specs.Prelude.{◌≡◌, ℕ, ◌+◌, ◌*◌, ◌<◌, ◌≤◌, ◌^◌, length, set};
 ghost use Rattle.matrix.specs.Views.{place, entry, Inside, flip};
 ghost use Rattle.matrix.specs.Sums.{dot_of, deduct_of};

@@ -1,5 +1,7 @@
 // What the comparison with the original and the benchmark call beside `firmware`: reading, runs, plans, roots and lookups alone, a direct elimination,
 // and the run and the plan along a lent order.
+#![tactic(auto)]
+
 ghost use Rattle.std.specs.Prelude.{◌≡◌, ◌≤◌, length};
 ghost use Rattle.workspace.specs.Frames.{work_numbers};
 ghost use Rattle.root.specs.Root.{root_of};
@@ -22,8 +24,7 @@ use solver::run::{Ended, Ran, run, run_along};
 use workspace::WORK;
 
 // The numbers of a job's factors, at the start of the lent store. The rest of the store is as it was.
-#[unsafe(no_mangle)]
-pub extern "C" fn strips_store(bytes: &[u8], store: &mut [f64])
+pub fn strips_store(bytes: &[u8], store: &mut [f64])
     ensures { store.new ≡ (read_all bytes.now store.old).store }
 {
     records::read(bytes, store);
@@ -48,8 +49,7 @@ fn repeat(
 }
 
 // Reads a job once and runs its graph as often as is asked. Messages and marginals are the caller's, who compares them or times the runs.
-#[unsafe(no_mangle)]
-pub extern "C" fn strips_repeat(
+pub fn strips_repeat(
     bytes: &[u8],
     times: usize,
     messages: &mut [f64],
@@ -79,8 +79,7 @@ fn number_in(answer: Direct) -> usize
 
 // Reads a job and eliminates the cleared keys from some of its factors. The answer is the rows of the message, which stands at the
 // start of the lent store, or the refusal's number with the mark.
-#[unsafe(no_mangle)]
-pub extern "C" fn strips_eliminate(
+pub fn strips_eliminate(
     bytes: &[u8],
     slots: &[usize],
     kept: &[usize],
@@ -117,8 +116,7 @@ fn replan(g: Graph, times: usize) -> usize
 }
 
 // Reads a job once and makes the plan of its graph as often as is asked.
-#[unsafe(no_mangle)]
-pub extern "C" fn strips_plan(bytes: &[u8], times: usize) -> usize
+pub fn strips_plan(bytes: &[u8], times: usize) -> usize
     ensures { result ≡ spec.replanned (spec.read_job bytes.now).answer.graph times }
 {
     let mut factors = [0.0; FACTOR_ROOM];
@@ -129,8 +127,7 @@ pub extern "C" fn strips_plan(bytes: &[u8], times: usize) -> usize
 
 // Reads a job and runs its graph along an order, each byte of which is a key; what `strips` would then print stands at the start of out, and the answer is its
 // length. Where out is too short, answers the largest number and leaves out as it was.
-#[unsafe(no_mangle)]
-pub extern "C" fn strips_ordered(job: &[u8], order: &[u8], out: &mut [u8]) -> usize
+pub fn strips_ordered(job: &[u8], order: &[u8], out: &mut [u8]) -> usize
     ensures value { result ≡ length_of (written out.old (job_along_text job.now order.now)) }
     ensures out_after { out.new ≡ laid_in out.old (job_along_text job.now order.now) }
 {
@@ -138,8 +135,7 @@ pub extern "C" fn strips_ordered(job: &[u8], order: &[u8], out: &mut [u8]) -> us
 }
 
 // The same with the text of the job's plan along the order.
-#[unsafe(no_mangle)]
-pub extern "C" fn strips_ordered_plan(job: &[u8], order: &[u8], out: &mut [u8]) -> usize
+pub fn strips_ordered_plan(job: &[u8], order: &[u8], out: &mut [u8]) -> usize
     ensures value { result ≡ length_of (written out.old (show_along_text job.now order.now)) }
     ensures out_after { out.new ≡ laid_in out.old (show_along_text job.now order.now) }
 {
@@ -169,8 +165,7 @@ fn ran_number(ran: Ran) -> usize
 
 // Reads a job and runs its graph along an order over the lent stores. The answer is the figure, 2^32 times, and the number of the refusal, 0 where there is
 // none. A job that is refused in reading isn't run.
-#[unsafe(no_mangle)]
-pub extern "C" fn strips_ordered_run(
+pub fn strips_ordered_run(
     job: &[u8],
     order: &[u8],
     messages: &mut [f64],
@@ -196,8 +191,7 @@ pub extern "C" fn strips_ordered_run(
 }
 
 // The root of a pivot, and +0.0 for a refused one.
-#[unsafe(no_mangle)]
-pub extern "C" fn strips_root(pivot: f64) -> f64
+pub fn strips_root(pivot: f64) -> f64
     ensures { result ≡ spec.root_in (root_of pivot) }
 {
     match root::root(pivot) {
@@ -211,8 +205,7 @@ const MOST_RISING: usize = 256;
 
 // The lookup of a key in keys that rise: 256 times the count of keys read, and the key's place, or 255 where it isn't there. Keys past those that
 // can rise are not looked at.
-#[unsafe(no_mangle)]
-pub extern "C" fn strips_lookup(keys: &[u8], key: usize) -> usize
+pub fn strips_lookup(keys: &[u8], key: usize) -> usize
     ensures { result ≡ spec.lookup_number keys.now key }
 {
     let looked = lookup(&keys[0..least(MOST_RISING, keys.len())], key);

@@ -23,7 +23,7 @@ use Rattle.slots.specs.Views.{FactorView, factor_numbers}
 use Rattle.slots.specs.Layouts.{layout_of}
 use Rattle.slots.specs.Tables.{head_of, read_view, rows_by_all}
 use Rattle.gaussian.specs.Elimination.{Outcome, pivot, not_finite, message, eliminate, numbers_in}
-use Rattle.gaussian.specs.Answers.{eliminatedAs, messageStored, viewsOf}
+use Rattle.gaussian.specs.Answers.{eliminated_as, message_stored, views_of}
 use Rattle.gaussian.specs.Asked.{Asked, Roomy, Sized}
 use Rattle.gaussian.specs.declared.Eliminated.{Eliminated}
 use Rattle.gaussian.specs.declared.Eliminated.TheVariants.{Rows, Pivot, NotFinite}
@@ -197,8 +197,8 @@ module _ (g : Graph) (factors : List Float) (ms : List ClosedFactor) (c : Carria
   roomy_lists = rw (holds.kept, holds.cleared, holds.slots) roomy
 
   -- the factors that the elimination reads are those of the definition
-  views-are : viewsOf factors messages keys heads slots ≡ map (slot_view g factors ms (values_to g factors ms j)) m.content
-  unfolding viewsOf
+  views-are : views_of factors messages keys heads slots ≡ map (slot_view g factors ms (values_to g factors ms j)) m.content
+  unfolding views_of
   views-are = go m.content (λ s h. h)
     where
       go : (content : List Slot) → ((s : Slot) → Memᴰ s content → Memᴰ s m.content)
@@ -210,21 +210,21 @@ module _ (g : Graph) (factors : List Float) (ms : List ClosedFactor) (c : Carria
           (known g ms c shift start j keys heads low l tables before sized s (h s (Memᴰ.head refl))))
           (ap (λ (r : List FactorView). slot_view g factors ms (values_to g factors ms j) s ∷ r) (go rest (λ t k. h t (Memᴰ.tail k))))
 
-  plain_value : eliminate (viewsOf factors messages keys heads slots) m.kept m.cleared g.sizes ≡ value_at g factors ms j
+  plain_value : eliminate (views_of factors messages keys heads slots) m.kept m.cleared g.sizes ≡ value_at g factors ms j
   unfolding message_made
   plain_value = rw views-are refl
 
-  value-is : eliminate (viewsOf factors messages keys heads (listed_slots lists)) (kept_of lists) (cleared_of lists) g.sizes ≡ value_at g factors ms j
+  value-is : eliminate (views_of factors messages keys heads (listed_slots lists)) (kept_of lists) (cleared_of lists) g.sizes ≡ value_at g factors ms j
   value-is = rw (holds.kept, holds.cleared, holds.slots) plain_value
 
   abbrev outcome : Outcome
-  outcome = eliminate (viewsOf factors messages keys heads (listed_slots lists)) (kept_of lists) (cleared_of lists) g.sizes
+  outcome = eliminate (views_of factors messages keys heads (listed_slots lists)) (kept_of lists) (cleared_of lists) g.sizes
 
-  module _ (told : Eliminated) (messages' : List Float) (et : told ≡ eliminatedAs outcome) (em : messages' ≡ messageStored messages to outcome) where
+  module _ (told : Eliminated) (messages' : List Float) (et : told ≡ eliminated_as outcome) (em : messages' ≡ message_stored messages to outcome) where
     -- a message was made
     module _ (r : ℕ) (er : told ≡ Rows r) where
       came : Came (value_at g factors ms j) r
-      came = at_rows (value_at g factors ms j) r (ap eliminatedAs (sym value-is) ∙ sym et ∙ er)
+      came = at_rows (value_at g factors ms j) r (ap eliminated_as (sym value-is) ∙ sym et ∙ er)
 
       sizes_are : Sized (rows_by_all (layout_of m.kept m.cleared g.sizes) keys heads slots (length slots)) (width_at g ms j) r came.a
           came.xi came.w
@@ -244,7 +244,7 @@ module _ (g : Graph) (factors : List Float) (ms : List ClosedFactor) (c : Carria
       t_length = t_plain ∙ ap (λ (x : ℕ). factor_numbers x (width_at g ms j)) rows_told
 
       written : messages' ≡ splice messages to (to + length t) t
-      unfolding messageStored numbers_in
+      unfolding message_stored numbers_in
       written = em ∙ rw (value-is, came.is) refl
 
       values-more : values_to g factors ms (j + 1) ≡ values_to g factors ms j ++ (message r came.a came.xi came.w ∷ [])
@@ -307,7 +307,7 @@ module _ (g : Graph) (factors : List Float) (ms : List ClosedFactor) (c : Carria
     -- a message was refused: those before it stay
     module _ (why : Refusal) (o : Outcome) (eo : value_at g factors ms j ≡ o)
         (stops : (i : ℕ) (rest : List Outcome) → refusal_from i (o ∷ rest) ≡ refused_at i why)
-        (None-more : (rest : List Outcome) → finished_numbers (o ∷ rest) ≡ []) (keeps : messageStored messages to o ≡ messages) where
+        (None-more : (rest : List Outcome) → finished_numbers (o ∷ rest) ≡ []) (keeps : message_stored messages to o ≡ messages) where
       refused : (refusal_in (Refused j why) ≡ refusal_from 0 (values g factors ms)) × (messages' ≡ lay store start (finished_numbers (values g factors ms)))
       unfolding values
       refused =
@@ -320,19 +320,19 @@ module _ (g : Graph) (factors : List Float) (ms : List ClosedFactor) (c : Carria
           ∙ append-nil (finished_numbers (values_to g factors ms j)) in (
             sym (ap (refusal_from 0) e ∙ stop_on 0 (values_to g factors ms j) (o ∷ r.0) p.all_made ∙ ap (λ (i : ℕ). refusal_from i (o ∷ r.0)) n
                 ∙ stops j r.0),
-            em ∙ ap (messageStored messages to) (value-is ∙ eo) ∙ keeps ∙ p.lies ∙ ap (lay store start) (sym (ap finished_numbers e ∙ f)),
+            em ∙ ap (message_stored messages to) (value-is ∙ eo) ∙ keeps ∙ p.lies ∙ ap (lay store start) (sym (ap finished_numbers e ∙ f)),
           )
 
     pub refused-pivot : told ≡ Pivot → (refusal_in (Refused j ClearedPivot) ≡ refusal_from 0 (values g factors ms)) ×
         (messages' ≡ lay store start (finished_numbers (values g factors ms)))
-    unfolding refusal_from finished_numbers messageStored
-    refused-pivot e = refused ClearedPivot pivot (at-pivot (value_at g factors ms j) (ap eliminatedAs (sym value-is) ∙ sym et ∙ e)) (λ i rest. refl)
+    unfolding refusal_from finished_numbers message_stored
+    refused-pivot e = refused ClearedPivot pivot (at-pivot (value_at g factors ms j) (ap eliminated_as (sym value-is) ∙ sym et ∙ e)) (λ i rest. refl)
         (λ rest. refl) refl
 
     pub refused_unbounded : told ≡ NotFinite → (refusal_in (Refused j ResultNotFinite) ≡ refusal_from 0 (values g factors ms)) ×
         (messages' ≡ lay store start (finished_numbers (values g factors ms)))
-    unfolding refusal_from finished_numbers messageStored
-    refused_unbounded e = refused ResultNotFinite not_finite (at_unbounded (value_at g factors ms j) (ap eliminatedAs (sym value-is) ∙ sym et ∙ e))
+    unfolding refusal_from finished_numbers message_stored
+    refused_unbounded e = refused ResultNotFinite not_finite (at_unbounded (value_at g factors ms j) (ap eliminated_as (sym value-is) ∙ sym et ∙ e))
         (λ i rest. refl) (λ rest. refl) refl
 
 -- ---- the whole pass

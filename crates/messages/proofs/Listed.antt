@@ -9,7 +9,7 @@ use lib.ListN.{length, take}
 use Rattle.factor.specs.Factor.{lay}
 use Rattle.slots.specs.Layouts.{dim_of}
 use Rattle.gaussian.specs.Elimination.{eliminate}
-use Rattle.gaussian.specs.Answers.{eliminatedAs, messageStored, viewsOf}
+use Rattle.gaussian.specs.Answers.{eliminated_as, message_stored, views_of}
 use Rattle.gaussian.specs.declared.Eliminated.{Eliminated}
 use Rattle.schedule.specs.Pass.{ClosedFactor}
 use Rattle.lists.specs.Lists.{Holds}
@@ -53,5 +53,5 @@ within shift m l h = record { kept = omega (arith, h.few_kept); cleared = omega 
 abbrev pub EliminatedBy : (sizes : List ℕ) (factors messages : List Float) (keys heads : List ℕ) (to : ℕ) (r : Eliminated) (messages' : List Float)
     (kept cleared slots : List ℕ) → Type 0
 EliminatedBy sizes factors messages keys heads to r messages' kept cleared slots =
-    (r ≡ eliminatedAs (eliminate (viewsOf factors messages keys heads slots) kept cleared sizes))
-    × (messages' ≡ messageStored messages to (eliminate (viewsOf factors messages keys heads slots) kept cleared sizes))
+    (r ≡ eliminated_as (eliminate (views_of factors messages keys heads slots) kept cleared sizes))
+    × (messages' ≡ message_stored messages to (eliminate (views_of factors messages keys heads slots) kept cleared sizes))

@@ -1,4 +1,6 @@
 // The messages of a pass: their places in the tables and in the message store, told before any arithmetic, and their making.
+#![tactic(auto)]
+
 ghost use Rattle.std.specs.Prelude.{◌≡◌, false, ◌+◌, ◌*◌, ◌≤◌, length};
 ghost use Rattle.factor.specs.Limits.{max_variables};
 ghost use Rattle.factor.specs.Factor.{lay};
@@ -8,7 +10,7 @@ ghost use Rattle.slots.specs.Fitting.{Counted};
 ghost use Rattle.workspace.specs.Frames.{work_numbers};
 ghost use Rattle.graph.specs.Record.{offset};
 ghost use Rattle.gaussian.specs.Elimination.{eliminate};
-ghost use Rattle.gaussian.specs.Answers.{eliminatedAs, messageStored, viewsOf};
+ghost use Rattle.gaussian.specs.Answers.{eliminated_as, message_stored, views_of};
 ghost use Rattle.gaussian.specs.Asked.{Asked, Roomy};
 ghost use Rattle.lists.specs.Lists.{backward_shift};
 ghost use Rattle.messages.specs.Figure.{need};
@@ -168,11 +170,11 @@ fn eliminate_listed(
     requires lists_within { ListsWithin l }
     requires asked { Asked (kept_of l) (cleared_of l) sizes factors.now messages.old (length work.old) keys.now heads.now (listed_slots l) }
     requires roomy { Roomy (kept_of l) (cleared_of l) sizes keys.now heads.now (listed_slots l) to (length messages.old) }
-    ensures value { result ≡ eliminatedAs
-        (eliminate (viewsOf factors.now messages.old keys.now heads.now (listed_slots l))
+    ensures value { result ≡ eliminated_as
+        (eliminate (views_of factors.now messages.old keys.now heads.now (listed_slots l))
         (kept_of l) (cleared_of l) sizes) }
-    ensures messages_after { messages.new ≡ messageStored messages.old to
-        (eliminate (viewsOf factors.now messages.old keys.now heads.now (listed_slots l))
+    ensures messages_after { messages.new ≡ message_stored messages.old to
+        (eliminate (views_of factors.now messages.old keys.now heads.now (listed_slots l))
         (kept_of l) (cleared_of l) sizes) }
 {
     let kept = l.kept;

@@ -1,38 +1,43 @@
 // Reads orders of keys and jobs from standard input in turn, each behind the count of its bytes. Prints for each job how many numbers of the message
 // store its messages need along the order, then what the job prints along the order, then its plan along the order.
+#![tactic(auto)]
+
 use job::{FACTOR_ROOM, OUTPUT_ROOM};
 use lines::Written;
 use plan_text::TEXT_ROOM;
 use solver::run::run_along;
-use streams::{COUNTED, print, read_counted};
+use streams::{COUNTED, print, read_counted, write_all, write_decimal};
 
 // More cases aren't read.
 const CASES: usize = 256;
 
-fn main() {
+fn main(rt: HostRuntime) {
     for _ in 0..CASES {
-        if !print_next() {
+        if !print_next(&rt) {
             return;
         }
     }
 }
 
 // The next order and job; or there is none.
-fn print_next() -> bool {
+fn print_next(rt: &HostRuntime) -> bool {
     let mut order = [0u8; COUNTED];
-    let keys = read_counted(&mut order);
+    let keys = read_counted(&mut rt.stdin(), &mut order);
     if keys == COUNTED {
         return false;
     }
     let mut input = [0u8; COUNTED];
-    let n = read_counted(&mut input);
+    let n = read_counted(&mut rt.stdin(), &mut input);
     if n == COUNTED {
-        io::write_all(2, b"ordered: no whole job follows the order\n");
+        write_all(
+            &mut rt.stderr(),
+            b"ordered: no whole job follows the order\n",
+        );
         return false;
     }
-    print_figure(&order[0..keys], &input[0..n]);
-    print_answer(&order[0..keys], &input[0..n]);
-    print_plan(&order[0..keys], &input[0..n]);
+    print_figure(rt, &order[0..keys], &input[0..n]);
+    print_answer(rt, &order[0..keys], &input[0..n]);
+    print_plan(rt, &order[0..keys], &input[0..n]);
     true
 }
 
@@ -54,17 +59,19 @@ fn figure_of(order: &[u8], bytes: &[u8]) -> usize {
     }
 }
 
-fn print_figure(order: &[u8], bytes: &[u8]) {
-    io::write_all(1, b"figure ");
-    io::print_decimal(1, figure_of(order, bytes) as u64);
-    io::write_all(1, b"\n");
+fn print_figure(rt: &HostRuntime, order: &[u8], bytes: &[u8]) {
+    write_all(&mut rt.stdout(), b"figure ");
+    write_decimal(&mut rt.stdout(), figure_of(order, bytes) as u64);
+    write_all(&mut rt.stdout(), b"\n");
 }
 
 // The text is never longer than its room.
-fn print_answer(order: &[u8], bytes: &[u8]) {
+fn print_answer(rt: &HostRuntime, order: &[u8], bytes: &[u8]) {
     let mut text = [0u8; OUTPUT_ROOM];
     match job::solve_along(bytes, order, &mut text) {
         Written::Length(n) => print(
+            &mut rt.stdout(),
+            &mut rt.stderr(),
             &text[0..n],
             b"ordered: not all of the text could be written\n",
         ),
@@ -73,10 +80,12 @@ fn print_answer(order: &[u8], bytes: &[u8]) {
 }
 
 // Nor is this one.
-fn print_plan(order: &[u8], bytes: &[u8]) {
+fn print_plan(rt: &HostRuntime, order: &[u8], bytes: &[u8]) {
     let mut text = [0u8; TEXT_ROOM];
     match plan_text::show_along(bytes, order, &mut text) {
         Written::Length(n) => print(
+            &mut rt.stdout(),
+            &mut rt.stderr(),
             &text[0..n],
             b"ordered: not all of the plan could be written\n",
         ),

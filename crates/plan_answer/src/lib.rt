@@ -1,5 +1,7 @@
 // The plan of a graph as it is told: what a plan says, copied out of the arrays in which it was made.
 // A set of keys, or of messages, is a mask whose bit j says whether j is in it. Unused places hold zeros.
+#![tactic(auto)]
+
 ghost use Rattle.std.specs.Prelude.{◌≡◌, ◌++◌, map, ℕ, ◌-◌, ◌≤◌, ◌<◌, length, get_or, take, drop};
 ghost use Rattle.factor.specs.Limits.{max_variables};
 ghost use Rattle.schedule.specs.Pass.{at};

@@ -26,43 +26,43 @@ use Rattle.plan_text.specs.Shown.{shown_as, left_as, shown_of, left_of, shown, s
 use Rattle.solver.specs.Stages.{read}
 
 -- the text of a plan in arrays
-abbrev pub arraysText : Arranged → List ℕ
-arraysText made = plan_text (plan_in made.keys made.plan)
+abbrev pub arrays_text : Arranged → List ℕ
+arrays_text made = plan_text (plan_in made.keys made.plan)
 
 module _ (g : Graph) (made : Arranged) (is : read made ≡ planned g) where
   -- the text is laid, or the buffer is too short for it
-  pub laid : (out : List ℕ) (w v : Written) (after : List ℕ) → made.outcome ≡ Done → w ≡ v → Lays out (arraysText made) w after
+  pub laid : (out : List ℕ) (w v : Written) (after : List ℕ) → made.outcome ≡ Done → w ≡ v → Lays out (arrays_text made) w after
       → (shown_as Done v ≡ shown g out) × (after ≡ shown_in g out)
   unfolding shown shown_in read
   laid out w v after e f p = (
     sym (ap₂ shown_as e (sym p.0 ∙ f)) ∙ ap (λ a. shown_of a out) is,
-    p.1 ∙ sym (ap (λ o. left_as o out (laid_in out (arraysText made))) e) ∙ ap (λ a. left_of a out) is,
+    p.1 ∙ sym (ap (λ o. left_as o out (laid_in out (arrays_text made))) e) ∙ ap (λ a. left_of a out) is,
   )
 
   -- the graph is refused
   pub turned_back_lem : (out : List ℕ) (why : Refusal) → made.outcome ≡ Refused why → (shows.Refused why ≡ shown g out) × (out ≡ shown_in g out)
   unfolding shown shown_in read
   turned_back_lem out why e = (
-    sym (ap (λ o. shown_as o (written out (arraysText made))) e) ∙ ap (λ a. shown_of a out) is,
-    sym (ap (λ o. left_as o out (laid_in out (arraysText made))) e) ∙ ap (λ a. left_of a out) is,
+    sym (ap (λ o. shown_as o (written out (arrays_text made))) e) ∙ ap (λ a. shown_of a out) is,
+    sym (ap (λ o. left_as o out (laid_in out (arrays_text made))) e) ∙ ap (λ a. left_of a out) is,
   )
 
-  arrays-text : valid g ≡ true → arraysText made ≡ plan_text (graph_plan g)
+  arrays_text_lem : valid g ≡ true → arrays_text made ≡ plan_text (graph_plan g)
   unfolding planned read
-  arrays-text v = ap (λ (a : Answer). plan_text a.plan) is ∙ rw v refl
+  arrays_text_lem v = ap (λ (a : Answer). plan_text a.plan) is ∙ rw v refl
 
 -- ---- along an order
 
 module _ (g : Graph) (order : List ℕ) (made : Arranged) (is : read made ≡ planned_along g order) where
-  text : outcome_text made.outcome (arraysText made) ≡ along_text g order
+  text : outcome_text made.outcome (arrays_text made) ≡ along_text g order
   unfolding along_text read
   text = ap (λ (a : Answer). outcome_text a.outcome (plan_text a.plan)) is
 
-  pub along-made : made.outcome ≡ Done → arraysText made ≡ along_text g order
-  along-made e = sym (ap (λ o. outcome_text o (arraysText made)) e) ∙ text
+  pub along_made : made.outcome ≡ Done → arrays_text made ≡ along_text g order
+  along_made e = sym (ap (λ o. outcome_text o (arrays_text made)) e) ∙ text
 
-  pub along-refused : (why : Refusal) → made.outcome ≡ Refused why → refusal_text (refusal_number why) 1 0 ≡ along_text g order
-  along-refused why e = sym (ap (λ o. outcome_text o (arraysText made)) e) ∙ text
+  pub along_refused : (why : Refusal) → made.outcome ≡ Refused why → refusal_text (refusal_number why) 1 0 ≡ along_text g order
+  along_refused why e = sym (ap (λ o. outcome_text o (arrays_text made)) e) ∙ text
 
 -- ---- how the reading ended
 
@@ -71,20 +71,20 @@ module _ (bytes : List ℕ) (store : List Float) (r : Read) (is : r ≡ (read_al
   abbrev text_of : Graph → List Float → List ℕ
   text_of g factors = plan_text (graph_plan g)
 
-  pub whole : (made : Arranged) → read made ≡ planned r.graph → valid r.graph ≡ true → r.ended ≡ reading.Done → arraysText made ≡ show_text bytes
+  pub whole : (made : Arranged) → read made ≡ planned r.graph → valid r.graph ≡ true → r.ended ≡ reading.Done → arrays_text made ≡ show_text bytes
   unfolding show_text
-  whole made p v e = arrays-text r.graph made p v ∙ endings.whole text_of bytes store r is stored e
+  whole made p v e = arrays_text_lem r.graph made p v ∙ endings.whole text_of bytes store r is stored e
 
   pub refused : (why : Refusal) (place : ℕ) → r.ended ≡ reading.Refused why place → refusal_text (refusal_number why) reading_stage place ≡ show_text bytes
   unfolding show_text
   refused why place e = endings.reading-refused text_of bytes store r is stored why place e
 
   module _ (order : List ℕ) where
-    pub whole-along : r.ended ≡ reading.Done → along_text r.graph order ≡ show_along_text bytes order
+    pub whole_along : r.ended ≡ reading.Done → along_text r.graph order ≡ show_along_text bytes order
     unfolding show_along_text
-    whole-along e = endings.whole (λ g factors. along_text g order) bytes store r is stored e
+    whole_along e = endings.whole (λ g factors. along_text g order) bytes store r is stored e
 
-    pub refused-along : (why : Refusal) (place : ℕ) → r.ended ≡ reading.Refused why place
+    pub refused_along : (why : Refusal) (place : ℕ) → r.ended ≡ reading.Refused why place
         → refusal_text (refusal_number why) reading_stage place ≡ show_along_text bytes order
     unfolding show_along_text
-    refused-along why place e = endings.reading-refused (λ g factors. along_text g order) bytes store r is stored why place e
+    refused_along why place e = endings.reading-refused (λ g factors. along_text g order) bytes store r is stored why place e

@@ -44,7 +44,7 @@ use Rattle.job.proofs.Endings.{Lays}
 use Rattle.plan_text.specs.Shown.{text_room}
 use Rattle.plan_text.specs.Text.{forward_word, backward_word, key_word, step_word, content_word, kept_word, cleared_word, originals_word, leaves_word}
 use Rattle.plan_text.specs.Text.{last_word, slot_text, named_text, list_text, content_text, message_text, key_text, numbered, plan_text}
-use Rattle.plan_text.proofs.Answers.{arraysText}
+use Rattle.plan_text.proofs.Answers.{arrays_text}
 use Rattle.plan_text.proofs.Growing.{joined-nil, joined-one, joined-map, member-more, part_none, part-more, given-none, given-more, taken_none}
 use Rattle.plan_text.proofs.Growing.{taken_more}
 use Rattle.solver.specs.Stages.{read}
@@ -202,7 +202,7 @@ low-steps p ms most e few low j l =
     omega (arith, low j (omega arith))
 
 pub arranged_most : (g : Graph) (order : List ℕ) (made : Arranged) → read made ≡ planned_along g order → Bounded made.keys made.plan
-    → made.outcome ≡ Done → length (arraysText made) ≤ text_room
+    → made.outcome ≡ Done → length (arrays_text made) ≤ text_room
 unfolding read plan_in planned_along
 arranged_most g order made is b e =
     let n = g.variables in
@@ -216,7 +216,7 @@ arranged_most g order made is b e =
     (low-steps made.plan.backward _ n (ap (λ (x : Answer). x.plan.backward) a) few can.backward_steps)
 
 pub rising-most : (g : Graph) (made : Arranged) → read made ≡ planned g → valid g ≡ true → Bounded made.keys made.plan
-    → length (arraysText made) ≤ text_room
+    → length (arrays_text made) ≤ text_room
 unfolding read planned
 rising-most g made is v b = arranged_most g (from 0 g.variables) made (is ∙ sym (rising-plan g)) b (ap (λ (x : Answer). x.outcome) is ∙ rw v)
 

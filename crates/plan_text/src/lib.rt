@@ -4,6 +4,8 @@
 //     key 0 forward backward 0 originals 0 1 2 leaves 3 0 1 2 last
 // A content names an original by its number and the message j as mj.
 // The text goes twice through the same functions, first to find its length, then to lay it where it fits: see `text`.
+#![tactic(auto)]
+
 ghost use Rattle.std.specs.Prelude.{◌≡◌, [], map, ◌≤◌, ◌<◌, length, take, drop};
 ghost use Rattle.factor.specs.Limits.{max_variables, max_factors};
 ghost use Rattle.text.specs.Decimals.{field_text};

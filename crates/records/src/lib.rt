@@ -1,4 +1,6 @@
 // A job file read into a graph, record by record.
+#![tactic(auto)]
+
 pub mod answer;
 pub mod bytes;
 mod input;

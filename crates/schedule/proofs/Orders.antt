@@ -17,6 +17,7 @@ use Rattle.schedule.proofs.Sums.{sum-le, sum_perm, length-sum, length_from}
 module _ {A : Type 0} (p : A → Bool) where
   all-at : (l : List A) {x : A} → T (all p l) → Memᴰ x l → T (p x)
   unfolding all
+  all-at [] t m = elim m [ ]
   all-at (y ∷ l) t (Memᴰ.head e) = subst (λ (z : A). T (p z)) (sym e) (and_l (p y) (all p l) t)
   all-at (y ∷ l) t (Memᴰ.tail m) = all-at l (and_r (p y) (all p l) t) m
 

@@ -1,4 +1,6 @@
 // What each slot of an elimination adds to its matrices, from the numbers in the lent stores.
+#![tactic(auto)]
+
 pub mod layout;
 pub mod limits;
 mod sums;

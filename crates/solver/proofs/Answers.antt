@@ -36,20 +36,20 @@ same_live : (g : Graph) → live_among g.factors g.count ≡ live_numbers g
 same_live g = rising-same g.count (λ i. (factor_at g i).live) (λ i. live_at g i) (λ i l. sym (live-is g i l))
 
 -- the live originals and the order, as the plan's code is given them: the plan is the graph's
-pub along-plan : (g : Graph) (live : Lives) (keys order : List ℕ) → Lists g.factors g.count live → take g.variables keys ≡ order
+pub along_plan : (g : Graph) (live : Lives) (keys order : List ℕ) → Lists g.factors g.count live → take g.variables keys ≡ order
     → schedule.plan g.variables (keys_among g.factors g.count) (take live.count live.numbers) (take g.variables keys) ≡ plan_along g order
 unfolding plan_along
-along-plan g live keys order l e = rw (l.are ∙ same_live g, e, same_keys g)
+along_plan g live keys order l e = rw (l.are ∙ same_live g, e, same_keys g)
 
 -- there are no messages along an order of no keys
-empty-plan : (K : ℕ → List ℕ) (N : List ℕ) → schedule.plan 0 K N [] ≡ no_plan
+empty_plan : (K : ℕ → List ℕ) (N : List ℕ) → schedule.plan 0 K N [] ≡ no_plan
 unfolding schedule.plan
-empty-plan K N = refl
+empty_plan K N = refl
 
-pub none-held : (why : Refusal) (K : ℕ → List ℕ) (N : List ℕ) (p : Plan) → plan_in 0 p ≡ schedule.plan 0 K N []
+pub none_held : (why : Refusal) (K : ℕ → List ℕ) (N : List ℕ) (p : Plan) → plan_in 0 p ≡ schedule.plan 0 K N []
     → read (record { outcome = Refused why; keys = 0; plan = p }) ≡ turned_back why
 unfolding read
-none-held why K N p e = rw (e ∙ empty-plan K N)
+none_held why K N p e = rw (e ∙ empty_plan K N)
 
 module _ (g : Graph) (order : List ℕ) where
   pub held : (p : Plan) → valid g ≡ true → each_once g.variables order ≡ true → plan_in g.variables p ≡ plan_along g order
@@ -72,9 +72,9 @@ unfolding read
 told r a p e h = rw (h, ← e)
 
 -- what it tells in the numbers of the documents
-pub plan-tells : (g : Graph) (r : Planned) → r ≡ plan_answer g → plan_outcome_told r.outcome ≡ plan_told g
+pub plan_tells : (g : Graph) (r : Planned) → r ≡ plan_answer g → plan_outcome_told r.outcome ≡ plan_told g
 unfolding plan_answer planned plan_told plan_outcome_told
-plan-tells g r e = ap (λ (x : Planned). plan_outcome_told x.outcome) e ∙ go (valid g)
+plan_tells g r e = ap (λ (x : Planned). plan_outcome_told x.outcome) e ∙ go (valid g)
   where
     go : (b : Bool) → plan_outcome_told (cond {A = Answer} b (made g (graph_plan g)) (turned_back NoSuchGraph)).outcome ≡ cond b (value []) (refusal 30 [])
     go true = refl
@@ -97,9 +97,9 @@ module _ (g : Graph) (order : List ℕ) where
       go true false = refl
       go false o = refl
 
-  pub along-tells : (r : Planned) → r ≡ plan_along_answer g order → plan_outcome_told r.outcome ≡ plan_along_told g order
+  pub along_tells : (r : Planned) → r ≡ plan_along_answer g order → plan_outcome_told r.outcome ≡ plan_along_told g order
   unfolding plan_along_answer plan_along_told plan_outcome_told
-  along-tells r e = ap (λ (x : Planned). plan_outcome_told x.outcome) e ∙ ap plan_outcome_told outcome ∙ go (valid g) (each_once g.variables order)
+  along_tells r e = ap (λ (x : Planned). plan_outcome_told x.outcome) e ∙ ap plan_outcome_told outcome ∙ go (valid g) (each_once g.variables order)
     where
       go : (b o : Bool) → plan_outcome_told (by b o Done (Refused OrderUnlike) (Refused NoSuchGraph))
           ≡ by {A = Told} b o (value []) (refusal 21 []) (refusal 30 [])
@@ -122,10 +122,10 @@ module _ (g : Graph) (order : List ℕ) where
         go false o z = absurd (let x : ◌≡◌ {A = ℕ} 0 1 = cc in omega arith)
 
     -- a refused one refuses the run alike, with figure 0, stage 1, key 0
-    pub refused-run : (why : Refusal) → r.outcome ≡ Refused why → (factors messages : List Float) (work : ℕ) (marginals : List Float)
+    pub refused_run : (why : Refusal) → r.outcome ≡ Refused why → (factors messages : List Float) (work : ℕ) (marginals : List Float)
         → run.run_verdict (run.refusal 0 why 1 0) messages marginals ≡ run.run_along g order factors messages work marginals
     unfolding run.run_along
-    refused-run why e factors messages work marginals = go (valid g) (each_once g.variables order) _ (sym e ∙ ends)
+    refused_run why e factors messages work marginals = go (valid g) (each_once g.variables order) _ (sym e ∙ ends)
       where
         go : (b o : Bool) (x : run.RunVerdict) → Refused why ≡ by b o Done (Refused OrderUnlike) (Refused NoSuchGraph)
             → run.run_verdict (run.refusal 0 why 1 0) messages marginals

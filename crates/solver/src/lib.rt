@@ -1,4 +1,6 @@
 // The plan of a graph, made before any arithmetic.
+#![tactic(auto)]
+
 pub mod run;
 
 ghost use Rattle.std.specs.Prelude.{◌≡◌, ◌≤◌};

@@ -1,5 +1,5 @@
--- Inner: what is known of a reading. No contract can say which bytes C's `read` puts into the room.
-use Rattle.std.specs.Prelude.{ℕ, zero, suc, ◌<◌, ◌≤◌, min, ℤ, pos, negsuc}
+-- Inner: what is known of a reading. No contract can say which bytes a file or a terminal gives.
+use Rattle.std.specs.Prelude.{ℕ, zero, suc, ◌<◌, ◌≤◌, Result, Ok, Err}
 use Rattle.streams.specs.declared.Input.{Input}
 use Rattle.streams.specs.declared.Input.TheVariants as input
 use Rattle.streams.specs.declared.Chunk.{Chunk}
@@ -17,8 +17,8 @@ Moved (chunk.Bytes n) room = (0 < n) × (n ≤ room)
 Moved chunk.End room = Unit {0}
 Moved chunk.Failed room = Unit {0}
 
--- what the answer of C's `read` says: negative, a failure; 0, the end of the input; otherwise how many bytes it moved
-abbrev pub chunk_of : ℤ → ℕ → Chunk
-chunk_of (negsuc k) room = chunk.Failed
-chunk_of (pos zero) room = chunk.End
-chunk_of (pos (suc k)) room = chunk.Bytes (min (suc k) room)
+-- what the answer of a read says: an error, a failure; 0, the end of the input; otherwise how many bytes it moved
+abbrev pub chunk_of : {E : Type 0} → Result ℕ E → Chunk
+chunk_of (Err e) = chunk.Failed
+chunk_of (Ok zero) = chunk.End
+chunk_of (Ok (suc k)) = chunk.Bytes (suc k)

@@ -1,4 +1,6 @@
 // The heads and the keys of a graph's factors in lent tables, as an elimination of slots reads them.
+#![tactic(auto)]
+
 ghost use Rattle.std.specs.Prelude.{◌≡◌, true, cond, ◌+◌, ◌*◌, ◌<◌, ◌≤◌, length};
 ghost use Rattle.factor.specs.Limits.{max_factors, max_keys};
 ghost use Rattle.factor.specs.Factor.{lay};

@@ -1,5 +1,7 @@
 // Text in a lent buffer: bytes, words, and whole numbers in decimal. Each function that puts text answers the place after it. What lies
 // past the buffer's end is dropped, so the same calls find a text's length and lay it, and none asks for room.
+#![tactic(auto)]
+
 ghost use Rattle.std.specs.Prelude.{◌≡◌, [], ◌∷◌, ◌≤◌, length};
 ghost use Rattle.text.specs.Decimals.{decimal, field_text};
 ghost use Rattle.text.specs.Putting.{Puts, next_place};

@@ -2,19 +2,22 @@
 // The input is words of 16 upper-case hexadecimal digits, one a line: how many roots, a bit pattern for each; then, to the end, records of
 // a dimension n, n * n numbers of a matrix column by column, and n numbers of a right side.
 // The output is a line for each number: a root or `refused`; of a record `stopped`, or `done` and the factor, the solution and the inverse.
+#![tactic(auto)]
+
 ghost use Rattle.std.specs.Prelude.{◌≤◌, ◌<◌, ◌*◌, length};
 
 use cholesky::Factored;
 use matrix::View;
 use root::Pivot;
+use streams::{read_full, write_all, write_hex};
 
-fn main() {
-    let mut buffer = io::large_buffer();
-    let got = io::read_full(0, &mut buffer);
+fn main(rt: HostRuntime) {
+    let mut buffer = [0u8; 65536];
+    let got = read_full(&mut rt.stdin(), &mut buffer);
     let text: &[u8] = &buffer;
     let count = least(word(text, 0), 3855);
-    roots(text, count);
-    factorisations(text, count + 1, got / 17);
+    roots(&rt, text, count);
+    factorisations(&rt, text, count + 1, got / 17);
 }
 
 fn least(a: u64, b: usize) -> usize
@@ -56,31 +59,31 @@ fn float(bits: u64) -> f64 {
     f64::from_bits(bits)
 }
 
-fn print(x: f64) {
+fn print(rt: &HostRuntime, x: f64) {
     if x != x {
-        io::write_all(1, b"nan\n");
+        write_all(&mut rt.stdout(), b"nan\n");
         return;
     }
-    io::print_hex(1, f64::to_bits(x), 16);
-    io::write_all(1, b"\n");
+    write_hex(&mut rt.stdout(), f64::to_bits(x));
+    write_all(&mut rt.stdout(), b"\n");
 }
 
-fn print_all(s: &[f64], count: usize)
+fn print_all(rt: &HostRuntime, s: &[f64], count: usize)
     requires { count ≤ length s.now }
 {
     for i in 0..count {
-        print(s[i]);
+        print(rt, s[i]);
     }
 }
 
-fn roots(text: &[u8], count: usize)
+fn roots(rt: &HostRuntime, text: &[u8], count: usize)
     requires { count ≤ 4096 }
 {
     for i in 0..count {
         match root::root(float(word(text, i + 1))) {
-            Pivot::Root(r) => print(r),
+            Pivot::Root(r) => print(rt, r),
             Pivot::Refused => {
-                io::write_all(1, b"refused\n");
+                write_all(&mut rt.stdout(), b"refused\n");
             }
         }
     }
@@ -94,7 +97,7 @@ fn numbers(text: &[u8], from: usize, s: &mut [f64], count: usize)
     }
 }
 
-fn factorisations(text: &[u8], from: usize, end: usize)
+fn factorisations(rt: &HostRuntime, text: &[u8], from: usize, end: usize)
     requires { (from ≤ 4096) × (end ≤ 4096) }
 {
     let mut at = from;
@@ -103,12 +106,20 @@ fn factorisations(text: &[u8], from: usize, end: usize)
         let mut l = [0.0; 1024];
         let mut x = [0.0; 1024];
         let mut b = [0.0; 32];
-        factorisation(text, at + 1, n, &mut l, &mut x, &mut b);
+        factorisation(rt, text, at + 1, n, &mut l, &mut x, &mut b);
         at += 1 + n * n + n;
     }
 }
 
-fn factorisation(text: &[u8], at: usize, n: usize, l: &mut [f64], x: &mut [f64], b: &mut [f64])
+fn factorisation(
+    rt: &HostRuntime,
+    text: &[u8],
+    at: usize,
+    n: usize,
+    l: &mut [f64],
+    x: &mut [f64],
+    b: &mut [f64],
+)
     requires at_bound { (at ≤ 8192) × (n ≤ 32) }
     requires in_bounds { (1024 ≤ length l.old) × (1024 ≤ length x.old) × (32 ≤ length b.old) }
 {
@@ -121,15 +132,15 @@ fn factorisation(text: &[u8], at: usize, n: usize, l: &mut [f64], x: &mut [f64],
     numbers(text, at + n * n, b, n);
     match cholesky::cholesky(l, v, n) {
         Factored::Refused => {
-            io::write_all(1, b"stopped\n");
+            write_all(&mut rt.stdout(), b"stopped\n");
         }
         Factored::Done => {
-            io::write_all(1, b"done\n");
+            write_all(&mut rt.stdout(), b"done\n");
             cholesky::solve(&l[..], v, n, b, v, 0);
             cholesky::inverse(&l[..], v, n, x, v);
-            print_all(&l[..], n * n);
-            print_all(&b[..], n);
-            print_all(&x[..], n * n);
+            print_all(rt, &l[..], n * n);
+            print_all(rt, &b[..], n);
+            print_all(rt, &x[..], n * n);
         }
     }
 }

@@ -1,4 +1,6 @@
 // The work store of an elimination: one lent slice holds its six matrices one after the other, and each function changes one of them.
+#![tactic(auto)]
+
 ghost use Rattle.std.specs.Prelude.{◌≡◌, ℕ, ◌+◌, ◌-◌, ◌*◌, ◌<◌, ◌≤◌, length};
 ghost use Rattle.matrix.specs.Views.{place, Inside, flip, columns};
 ghost use Rattle.matrix.specs.Stores.{block_column};
@@ -9,7 +11,7 @@ ghost use Rattle.cholesky.specs.Factor.{factor};
 ghost use Rattle.workspace.specs.Blocks.{corner, stamp_entry, stamp, solved_columns, solved_in, subtracted_column_in, subtracted_in, zeroed};
 ghost use Rattle.workspace.specs.Sums.{pick, change};
 ghost use Rattle.workspace.specs.Frames.{frame_of};
-ghost use Rattle.cholesky.specs.Answers.{factoredAs, list_of};
+ghost use Rattle.cholesky.specs.Answers.{factored_as, list_of};
 ghost use Rattle.workspace.specs.Parts.{FrameLaid, matrices_in, part_from, part_to};
 
 use cholesky::Factored;
@@ -266,7 +268,7 @@ pub fn fill_upper_at(work: &mut [f64], f: Frame)
 // S becomes its Cholesky factor L.
 pub fn cholesky_at(work: &mut [f64], f: Frame) -> Factored
     requires { FrameLaid f (length work.old) }
-    ensures value { result ≡ factoredAs (factor (columns f.cleared) f.cleared (matrices_in f work.old).s f.cleared) }
+    ensures value { result ≡ factored_as (factor (columns f.cleared) f.cleared (matrices_in f work.old).s f.cleared) }
     ensures work_after { matrices_in f work.new
         ≡ change Part.S (λ c. list_of (factor (columns f.cleared) f.cleared c f.cleared)) (matrices_in f work.old) }
 {

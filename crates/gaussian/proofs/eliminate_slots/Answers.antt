@@ -3,7 +3,7 @@ use mathlib.Core.Path.{◌≡◌}
 use native.Mathlib.Omega.{arith}
 use lib.ListN.{length}
 use Rattle.gaussian.specs.Elimination.{eliminate}
-use Rattle.gaussian.specs.Answers.{viewsOf}
+use Rattle.gaussian.specs.Answers.{views_of}
 use Rattle.gaussian.proofs.Outcomes.{pivot-stored, unbounded_stored, few_rows, has_room, message_sent}
 use Rattle.gaussian.proofs.Telling.{stored-tells}
 use Rattle.gaussian.proofs.eliminate_slots.Goals as goal
@@ -44,13 +44,13 @@ returns-in-Rows c =
 pub returns-in-Pivot : goal.returns-in-Pivot
 returns-in-Pivot c =
     let args = c.args in
-    let all = stored-tells _ _ _ _ _ (pivot-stored (eliminate (viewsOf args.factors.now args.messages.now args.keys.now args.heads.now
+    let all = stored-tells _ _ _ _ _ (pivot-stored (eliminate (views_of args.factors.now args.messages.now args.keys.now args.heads.now
     args.slots.now) args.kept.now args.cleared.now args.sizes) _ c.eliminate_in.ensures.value _
     args.to c.in-Pivot.is) in record { value = all.0; messages_after = all.1.0; result_value = all.1.1 }
 
 pub returns-in-NotFinite : goal.returns-in-NotFinite
 returns-in-NotFinite c =
     let args = c.args in
-    let all = stored-tells _ _ _ _ _ (unbounded_stored (eliminate (viewsOf args.factors.now args.messages.now args.keys.now args.heads.now
+    let all = stored-tells _ _ _ _ _ (unbounded_stored (eliminate (views_of args.factors.now args.messages.now args.keys.now args.heads.now
     args.slots.now) args.kept.now args.cleared.now args.sizes) _ c.eliminate_in.ensures.value _
     args.to c.in-NotFinite.is) in record { value = all.0; messages_after = all.1.0; result_value = all.1.1 }

@@ -1,7 +1,7 @@
 -- `plan_text::show_along` meets its contract: whichever way the reading ended, what is laid is the text of that ending. Assumes nothing.
 use native.Mathlib.Omega.{arith}
 use lib.Ieee.{of_bits}
-use Rattle.plan_text.proofs.Answers.{whole-along, refused-along}
+use Rattle.plan_text.proofs.Answers.{whole_along, refused_along}
 use Rattle.plan_text.proofs.Longest.{refusal-within, all_same}
 use Rattle.plan_text.proofs.show_along.Goals as goal
 
@@ -9,7 +9,7 @@ pub returns-in-Done : goal.returns-in-Done
 unfolding of_bits
 returns-in-Done c =
     let args = c.args in
-    let all = all_same args.out.now _ _ _ _ (whole-along args.bytes.now _ c.read-read.result c.read-read.ensures.value.0 c.read-read.ensures.store_after args.order.now
+    let all = all_same args.out.now _ _ _ _ (whole_along args.bytes.now _ c.read-read.result c.read-read.ensures.value.0 c.read-read.ensures.store_after args.order.now
     c.in-Done.is) (c.lay_along.ensures.value, c.lay_along.ensures.out_after) c.lay_along.ensures.order_len_bound in record { value = all.0; out_after = all.1.0; order_len_bound = all.1.1 }
 
 pub returns-in-Refused : goal.returns-in-Refused
@@ -17,5 +17,5 @@ unfolding of_bits
 returns-in-Refused c =
     let args = c.args in
     let ended = c.ended-1.given in
-    let all = all_same args.out.now _ _ _ _ (refused-along args.bytes.now _ c.read-read.result c.read-read.ensures.value.0 c.read-read.ensures.store_after args.order.now _ _
+    let all = all_same args.out.now _ _ _ _ (refused_along args.bytes.now _ c.read-read.result c.read-read.ensures.value.0 c.read-read.ensures.store_after args.order.now _ _
     ended.1) (c.lay_refusal.ensures.value, c.lay_refusal.ensures.out_after) (refusal-within ended.0.0 0 ended.0.1.0 (omega arith) (omega arith)) in record { value = all.0; out_after = all.1.0; order_len_bound = all.1.1 }

@@ -14,7 +14,7 @@ use Rattle.schedule.specs.Count.{each_once}
 use Rattle.schedule.proofs.Orders.{Each, order_each, order_long}
 use Rattle.plan.proofs.Rising.{live-ordered}
 use Rattle.solver.proofs.Tables.{registered}
-use Rattle.solver.proofs.Answers.{along-plan, held, no_graph, no_order}
+use Rattle.solver.proofs.Answers.{along_plan, held, no_graph, no_order}
 use Rattle.solver.proofs.arrange_along.Goals as goal
 
 -- the keys of an order that passes, in their array
@@ -57,6 +57,6 @@ returns c = let all = let v = tells c.valid.ensures.0
     (not-false _ c.if-not-valid.false-raw) in
     let o = tells c.is_order.ensures (not-false _ c.if-not-is_order.false-raw) in
     let keys = in_array _ _ _ o c.in_array-keys.ensures in (
-      held _ _ _ v o (c.plan_of.ensures.result_value ∙ along-plan _ _ _ _ c.live_of-lives.ensures keys.1),
+      held _ _ _ v o (c.plan_of.ensures.result_value ∙ along_plan _ _ _ _ c.live_of-lives.ensures keys.1),
       (valid-variables _ v, c.plan_of.ensures.bounded),
     ) in record { result_value = all.0; keys_le_max_variables = all.1 }

@@ -18,7 +18,7 @@ room : (n : ℕ) → n ≤ max_rows → n * n ≤ max_rows * max_rows
 room n l = mul-le-mul l l
 
 lent : (n : ℕ) (l xi w : List Float) → l ≡ replicate (n * n) plus_zero → xi ≡ replicate n plus_zero → w ≡ replicate (n * n) plus_zero → FormLent n l xi w
-lent n l xi w el ex ew = record { of-l = rw el (length-replicate (n * n) plus_zero); of-x = rw ex (length-replicate n plus_zero); of-y = ew }
+lent n l xi w el ex ew = record { of_l = rw el (length-replicate (n * n) plus_zero); of_x = rw ex (length-replicate n plus_zero); of_y = ew }
 
 pub slice_bounds-l-end : goal.slice_bounds-l-end
 slice_bounds-l-end c =

@@ -6,7 +6,7 @@ use lib.ListN.{length, get_or}
 use Rattle.slots.proofs.Adding.{fits-part}
 use Rattle.gaussian.specs.Elimination.{eliminate}
 use Rattle.gaussian.proofs.Telling.{last-tells}
-use Rattle.gaussian.specs.Answers.{viewsOf}
+use Rattle.gaussian.specs.Answers.{views_of}
 use Rattle.gaussian.proofs.Branches.{spans}
 use Rattle.gaussian.proofs.Outcomes.{few_rows, marginal-pivot, marginal_unbounded, marginal-message}
 use Rattle.slots.specs.Views.{factor_numbers}
@@ -98,14 +98,14 @@ returns-in-Rows c =
 pub returns-in-Pivot : goal.returns-in-Pivot
 returns-in-Pivot c =
     let args = c.args in
-    let all = last-tells _ _ _ _ (marginal-pivot (eliminate (viewsOf args.factors.now args.messages.now args.keys.now args.heads.now
+    let all = last-tells _ _ _ _ (marginal-pivot (eliminate (views_of args.factors.now args.messages.now args.keys.now args.heads.now
     args.slots.now) (args.key ∷ []) args.cleared.now args.sizes) _ c.eliminate_in.ensures.value
     args.key (get_or args.sizes args.key 0) c.dim_of-size.result _ c.in-Pivot.is (omega (arith, c.dim_of-size.ensures)) c.refused.ensures) in record { value = all.0; ending_value = all.1 }
 
 pub returns-in-NotFinite : goal.returns-in-NotFinite
 returns-in-NotFinite c =
     let args = c.args in
-    let all = last-tells _ _ _ _ (marginal_unbounded (eliminate (viewsOf args.factors.now args.messages.now args.keys.now args.heads.now
+    let all = last-tells _ _ _ _ (marginal_unbounded (eliminate (views_of args.factors.now args.messages.now args.keys.now args.heads.now
     args.slots.now) (args.key ∷ []) args.cleared.now args.sizes) _ c.eliminate_in.ensures.value
     args.key (get_or args.sizes args.key 0) c.dim_of-size.result _ c.in-NotFinite.is (omega (arith, c.dim_of-size.ensures))
     c.refused-in-NotFinite.ensures) in record { value = all.0; ending_value = all.1 }

@@ -23,12 +23,12 @@ pub exchange-requires : goal.exchange-requires
 exchange-requires c =
     let args = c.args in
     record {
-      of-x = c.gemv_tr.auto.c
+      of_x = c.gemv_tr.auto.c
           ∙ ap length c.requires.mean_value.0 ∙ length-replicate args.s plus_zero;
-      of-l =
+      of_l =
           c.quadform.auto.c ∙ ap length c.requires.mean_value.1
           ∙ length-replicate (args.s * args.s) plus_zero;
-      of-y = c.requires.mean_value.2;
+      of_y = c.requires.mean_value.2;
     }
 
 pub returns : goal.returns

@@ -6,7 +6,7 @@ use borrow.Author.Rules.{rules}
 use Rattle.schedule.proofs.Orders.{order_each, order_long}
 use Rattle.plan.specs.Plan.{plan_in}
 use Rattle.solver.specs.Run.{key_at}
-use Rattle.solver.proofs.Answers.{made_of, refused-run}
+use Rattle.solver.proofs.Answers.{made_of, refused_run}
 use Rattle.solver.proofs.Stages.{made-planned, as_held, enough-told, short-checked, enough-checked, run-made}
 use Rattle.solver.proofs.Telling.{run-tells}
 use Rattle.solver.proofs.run.run_along.Goals as goal
@@ -14,7 +14,7 @@ use Rattle.solver.proofs.run.run_along.Goals as goal
 pub returns-in-Refused : goal.returns-in-Refused
 returns-in-Refused c =
     let args = c.args in
-    let all = run-tells _ _ _ _ (rw c.refused.ensures (refused-run args.g args.order.now c.arrange_along-made.result c.arrange_along-made.ensures.result_value _
+    let all = run-tells _ _ _ _ (rw c.refused.ensures (refused_run args.g args.order.now c.arrange_along-made.result c.arrange_along-made.ensures.result_value _
     c.in-Refused.is args.factors.now args.messages.now (length args.work.now) args.marginals.now)) in record { marginals_after = all.0; result_value = all.1 }
 
 pub place_plan-places-requires : goal.place_plan-places-requires
