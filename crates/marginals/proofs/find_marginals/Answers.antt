@@ -16,7 +16,7 @@ loop-key-init c =
     let args = c.args in (
       refl,
       walk_start args.g.sizes args.factors.now args.messages.now args.keys.now args.heads.now
-          (entries args.t2 args.g.variables) args.results.now,
+          (entries args.at args.g.variables) args.results.now,
     )
 
 pub offset_bounds-at-key : goal.offset_bounds-at-key
@@ -32,15 +32,15 @@ find_marginal-c-requires c =
     let pre = c.requires in
     let args = c.args in
     let loop = c.loop-key in
-    record { held = turn_asked args.g args.t2 args.factors.now args.messages.now (length args.work.now) args.keys.now args.heads.now
-          args.results.now (pre) loop.results loop.to loop.key loop.invariant.1 c.loop-key-test.true (length loop.work) loop.invariant.0; key_in_bounds = turn_room args.g args.t2 args.factors.now args.messages.now (length args.work.now) args.keys.now args.heads.now
+    record { held = turn_asked args.g args.at args.factors.now args.messages.now (length args.work.now) args.keys.now args.heads.now
+          args.results.now (pre) loop.results loop.to loop.key loop.invariant.1 c.loop-key-test.true (length loop.work) loop.invariant.0; key_in_bounds = turn_room args.g args.at args.factors.now args.messages.now (length args.work.now) args.keys.now args.heads.now
           args.results.now (pre) loop.results loop.to loop.key loop.invariant.1 c.loop-key-test.true }
 
 pub returns-in_default : goal.returns-in_default
 returns-in_default c =
     let args = c.args in
     let loop = c.loop-key in
-    search_halted args.g args.t2 args.factors.now args.messages.now (length args.work.now) args.keys.now args.heads.now
+    search_halted args.g args.at args.factors.now args.messages.now (length args.work.now) args.keys.now args.heads.now
     args.results.now c.requires loop.results loop.to loop.key loop.invariant.1
     c.loop-key-test.true _ _ c.find_marginal-c.result _
     c.in_default.is c.find_marginal-c.ensures.result_value
@@ -52,7 +52,7 @@ overflow_mul-to c =
     let small : c.size_of-s.result ≤ max_size = omega (
       arith,
       c.size_of-s.ensures.0,
-      key-small args.g args.t2 args.factors.now args.messages.now (length args.work.now) args.keys.now args.heads.now
+      key-small args.g args.at args.factors.now args.messages.now (length args.work.now) args.keys.now args.heads.now
           args.results.now c.requires loop.results loop.to loop.key loop.invariant.1
           c.loop-key-test.true,
     ) in
@@ -65,7 +65,7 @@ overflow_add-to c =
     let small : c.size_of-s.result ≤ max_size = omega (
       arith,
       c.size_of-s.ensures.0,
-      key-small args.g args.t2 args.factors.now args.messages.now (length args.work.now) args.keys.now args.heads.now
+      key-small args.g args.at args.factors.now args.messages.now (length args.work.now) args.keys.now args.heads.now
           args.results.now c.requires loop.results loop.to loop.key loop.invariant.1
           c.loop-key-test.true,
     ) in
@@ -79,7 +79,7 @@ overflow_add-to-in-loop-key c =
     let small : c.size_of-s.result ≤ max_size = omega (
       arith,
       c.size_of-s.ensures.0,
-      key-small args.g args.t2 args.factors.now args.messages.now (length args.work.now) args.keys.now args.heads.now
+      key-small args.g args.at args.factors.now args.messages.now (length args.work.now) args.keys.now args.heads.now
           args.results.now (pre) loop.results loop.to loop.key loop.invariant.1 c.loop-key-test.true,
     ) in
     record {
@@ -87,7 +87,7 @@ overflow_add-to-in-loop-key c =
         arith,
         small,
         mul-le-mul small small,
-        turn_low args.g args.t2 args.factors.now args.messages.now
+        turn_low args.g args.at args.factors.now args.messages.now
             (length args.work.now) args.keys.now args.heads.now args.results.now (pre) loop.results loop.to loop.key loop.invariant.1
             c.loop-key-test.true,
       );
@@ -99,7 +99,7 @@ loop-key-preserved c =
     let loop = c.loop-key in
     (
       search rules,
-      search_on args.g args.t2 args.factors.now args.messages.now (length args.work.now) args.keys.now
+      search_on args.g args.at args.factors.now args.messages.now (length args.work.now) args.keys.now
           args.heads.now args.results.now c.requires loop.results loop.to loop.key loop.invariant.1
           c.loop-key-test.true c.find_marginal-c.result _
           c.size_of-s.result c.in-Done.is c.find_marginal-c.ensures.result_value c.find_marginal-c.ensures.results_after c.size_of-s.ensures.0,
@@ -109,5 +109,5 @@ pub returns : goal.returns
 returns c =
     let args = c.args in
     let loop = c.loop-key in
-    search_done args.g args.t2 args.factors.now args.messages.now (length args.work.now) args.keys.now args.heads.now
+    search_done args.g args.at args.factors.now args.messages.now (length args.work.now) args.keys.now args.heads.now
     args.results.now c.requires loop.results loop.to loop.key loop.invariant.1 (omega arith)

@@ -76,56 +76,44 @@ overflow_add-next-in-loop-j-2 c =
 
 pub eliminate_listed-requires : goal.eliminate_listed-requires
 eliminate_listed-requires c =
-    let good = c.well_formed in
-    let all = let sized : length c.args.g.sizes
+    let sized : length c.args.g.sizes
     ≡ max_variables = search rules in
     let args = c.args in
-    let loop = c.loop-j in
-    (
-      within _ _ _ c.message_lists-l.ensures,
-      (
-        asked_lists args.g args.factors.now (messages_of args.p) c.requires.pass_ready.1 args.shift args.start args.keys.now args.heads.now
+    let loop = c.loop-j in record { lists_within = within _ _ _ c.message_lists-l.ensures; asked = asked_lists args.g args.factors.now (messages_of args.p) c.requires.pass_ready.1 args.shift args.start args.keys.now args.heads.now
             args.messages.now loop.messages loop.to loop.j (length loop.work) c.requires.pass_ready.2
             (omega (arith, messages-length args.p, c.loop-j-test.true)) c.requires.tables.0 c.requires.tables.1 sized c.requires.count_in_bounds.0 c.requires.count_in_bounds.1
-            (omega (arith, c.requires.count_in_bounds.2, loop.invariant.1)) loop.invariant.0 _ c.message_lists-l.ensures,
-        roomy_lists args.g args.factors.now
+            (omega (arith, c.requires.count_in_bounds.2, loop.invariant.1)) loop.invariant.0 _ c.message_lists-l.ensures; roomy = roomy_lists args.g args.factors.now
             (messages_of args.p) c.requires.pass_ready.1 args.shift args.start args.keys.now args.heads.now args.messages.now loop.messages
             loop.to loop.j (length loop.work) c.requires.pass_ready.2 (omega (arith, messages-length args.p, c.loop-j-test.true)) c.requires.tables.0
-            c.requires.tables.1 sized c.requires.count_in_bounds.0 c.requires.count_in_bounds.1 (omega (arith, c.requires.count_in_bounds.2, loop.invariant.1)) loop.invariant.0 _ c.message_lists-l.ensures,
-      ),
-    ) in record { lists_within = all.0; asked = all.1.0; roomy = all.1.1 }
+            c.requires.tables.1 sized c.requires.count_in_bounds.0 c.requires.count_in_bounds.1 (omega (arith, c.requires.count_in_bounds.2, loop.invariant.1)) loop.invariant.0 _ c.message_lists-l.ensures }
 
 pub returns-in-Pivot : goal.returns-in-Pivot
 returns-in-Pivot c =
-    let good = c.well_formed in
     let sized : length c.args.g.sizes ≡ max_variables = search rules in
     let args = c.args in
     let loop = c.loop-j in
-    let all = let r = refused-pivot args.g args.factors.now (messages_of args.p) c.requires.pass_ready.1 args.shift args.start args.keys.now
+    let r = refused-pivot args.g args.factors.now (messages_of args.p) c.requires.pass_ready.1 args.shift args.start args.keys.now
     args.heads.now args.messages.now loop.messages loop.to loop.j (length loop.work) c.requires.pass_ready.2 (omega (
       arith,
       messages-length args.p,
       c.loop-j-test.true,
     )) c.requires.tables.0 c.requires.tables.1 sized c.requires.count_in_bounds.0 c.requires.count_in_bounds.1 (omega (arith, c.requires.count_in_bounds.2, loop.invariant.1)) loop.invariant.0 _
     c.message_lists-l.ensures _ _ c.eliminate_listed.ensures.value
-    c.eliminate_listed.ensures.messages_after c.in-Pivot.is in
-    (r.0, (r.1, (λ e. absurd (halted_through _ _ e), carried-tells _ _ r.0))) in record { result_value = all.0; messages_after = all.1.0; all_stored = all.1.1.0; result_value_2 = all.1.1.1 }
+    c.eliminate_listed.ensures.messages_after c.in-Pivot.is in record { result_value = r.0; messages_after = r.1; all_stored = λ e. absurd (halted_through _ _ e); result_value_2 = carried-tells _ _ r.0 }
 
 pub returns-in-NotFinite : goal.returns-in-NotFinite
 returns-in-NotFinite c =
-    let good = c.well_formed in
     let sized : length c.args.g.sizes ≡ max_variables = search rules in
     let args = c.args in
     let loop = c.loop-j in
-    let all = let r = refused_unbounded args.g args.factors.now (messages_of args.p) c.requires.pass_ready.1 args.shift args.start args.keys.now
+    let r = refused_unbounded args.g args.factors.now (messages_of args.p) c.requires.pass_ready.1 args.shift args.start args.keys.now
     args.heads.now args.messages.now loop.messages loop.to loop.j (length loop.work) c.requires.pass_ready.2 (omega (
       arith,
       messages-length args.p,
       c.loop-j-test.true,
     )) c.requires.tables.0 c.requires.tables.1 sized c.requires.count_in_bounds.0 c.requires.count_in_bounds.1 (omega (arith, c.requires.count_in_bounds.2, loop.invariant.1)) loop.invariant.0 _
     c.message_lists-l.ensures _ _ c.eliminate_listed.ensures.value
-    c.eliminate_listed.ensures.messages_after c.in-NotFinite.is in
-    (r.0, (r.1, (λ e. absurd (halted_through _ _ e), carried-tells _ _ r.0))) in record { result_value = all.0; messages_after = all.1.0; all_stored = all.1.1.0; result_value_2 = all.1.1.1 }
+    c.eliminate_listed.ensures.messages_after c.in-NotFinite.is in record { result_value = r.0; messages_after = r.1; all_stored = λ e. absurd (halted_through _ _ e); result_value_2 = carried-tells _ _ r.0 }
 
 pub overflow_step-j : goal.overflow_step-j
 overflow_step-j c =
@@ -140,7 +128,6 @@ overflow_step-j c =
 
 pub loop-j-preserved : goal.loop-j-preserved
 loop-j-preserved c =
-    let good = c.well_formed in
     let sized : length c.args.g.sizes ≡ max_variables = search rules in
     let args = c.args in
     let loop = c.loop-j in
@@ -152,7 +139,7 @@ loop-j-preserved c =
           (omega (arith, messages-length args.p, c.loop-j-test.true)) c.requires.tables.0 c.requires.tables.1 sized c.requires.count_in_bounds.0 c.requires.count_in_bounds.1
           (omega (arith, c.requires.count_in_bounds.2, loop.invariant.1)) loop.invariant.0 _ c.message_lists-l.ensures _ _ c.eliminate_listed.ensures.value c.eliminate_listed.ensures.messages_after _ c.in-Rows.is _
           (next-told args.g (messages_of args.p) loop.to _ _ loop.j t.0 t.1),
-      c.eliminate_listed.auto.1.1.1.1.1.0 ∙ loop.invariant.1,
+      c.eliminate_listed.auto.work ∙ loop.invariant.1,
       omega (arith, t.2, t.3, t.4, t.5, loop.invariant.2),
     )
 
@@ -160,6 +147,5 @@ pub returns : goal.returns
 returns c =
     let args = c.args in
     let loop = c.loop-j in
-    let all = let r = carried args.g args.factors.now (messages_of args.p) args.start args.messages.now loop.messages loop.to loop.j
-    loop.invariant.0 (omega (arith, messages-length args.p, loop.invariant.0.few)) in
-    (r.0, (r.1, (λ e. r.2, carried-tells _ _ r.0))) in record { result_value = all.0; messages_after = all.1.0; all_stored = all.1.1.0; result_value_2 = all.1.1.1 }
+    let r = carried args.g args.factors.now (messages_of args.p) args.start args.messages.now loop.messages loop.to loop.j
+    loop.invariant.0 (omega (arith, messages-length args.p, loop.invariant.0.few)) in record { result_value = r.0; messages_after = r.1; all_stored = λ e. r.2; result_value_2 = carried-tells _ _ r.0 }

@@ -65,8 +65,7 @@ overflow_add-result-3 c =
 pub returns : goal.returns
 returns c =
     let args = c.args in
-    let all = let p = placed-is args.kept.now args.cleared.now args.slots.now args.sizes args.keys.now args.heads.now args.number
+    let p = placed-is args.kept.now args.cleared.now args.slots.now args.sizes args.keys.now args.heads.now args.number
     args.start _ _ _ _ c.message_rows-r.ensures
     c.dim_of-d.ensures
-    c.put_list.ensures c.put_head.ensures in
-    (p.0, (p.1, p.2)) in record { value = all.0; keys_after = all.1.0; heads_after = all.1.1 }
+    c.put_list.ensures c.put_head.ensures in record { value = p.0; keys_after = p.1; heads_after = p.2 }

@@ -34,7 +34,6 @@ place_listed-next-requires c =
 
 pub loop-j-preserved : goal.loop-j-preserved
 loop-j-preserved c =
-    let good = c.well_formed in
     let sized : length c.args.g.sizes
     ≡ max_variables = search rules in
     let args = c.args in

@@ -25,9 +25,9 @@ loop-k-preserved c =
     let args = c.args in
     let loop = c.loop-k in (
       omega arith,
-      map_more key_plan_of (map gathered_of (take args.n args.t1)) _ loop.keys loop.k (gathered_of no_gathered) _
-          (omega (arith, keys_length args.t1 args.n (omega arith))) (omega arith) loop.invariant.1
-          (c.key_plan_of.ensures ∙ ap key_plan_of (key-at args.t1 args.n loop.k c.loop-k-test.true)),
+      map_more key_plan_of (map gathered_of (take args.n args.at)) _ loop.keys loop.k (gathered_of no_gathered) _
+          (omega (arith, keys_length args.at args.n (omega arith))) (omega arith) loop.invariant.1
+          (c.key_plan_of.ensures ∙ ap key_plan_of (key-at args.at args.n loop.k c.loop-k-test.true)),
     )
 
 pub returns : goal.returns
@@ -35,5 +35,5 @@ unfolding spec.key_table
 returns c =
     let args = c.args in
     let loop = c.loop-k in
-    loop.invariant.1 ∙ map-done key_plan_of (map gathered_of (take args.n args.t1)) spec.no_key_plan max_variables loop.k
-    (omega (arith, keys_length args.t1 args.n (omega arith)))
+    loop.invariant.1 ∙ map-done key_plan_of (map gathered_of (take args.n args.at)) spec.no_key_plan max_variables loop.k
+    (omega (arith, keys_length args.at args.n (omega arith)))

@@ -20,5 +20,5 @@ pub returns : goal.returns
 returns c =
     let args = c.args in
     let pre = c.requires in
-    message-is args.t1 args.j _ _ _ pre.0 pre.1 c.lay.ensures c.mask.ensures
-    c.mask.type-inv c.mask-2.ensures c.mask-2.type-inv
+    message-is args.p args.j _ _ _ pre.0 pre.1 c.lay.ensures c.mask.ensures
+    c.mask.type_inv c.mask-2.ensures c.mask-2.type_inv

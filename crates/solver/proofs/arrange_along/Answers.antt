@@ -44,19 +44,13 @@ in_array-keys-requires c =
     omega (arith, order_long _ _ (order_each _ _ o), valid-variables _ v)
 
 pub plan_of-requires : goal.plan_of-requires
-plan_of-requires c = let all = let v = tells c.valid.ensures.0
+plan_of-requires c = let v = tells c.valid.ensures.0
     (not-false _ c.if-not-valid.false-raw) in
     let o = tells c.is_order.ensures (not-false _ c.if-not-is_order.false-raw) in
-    let keys = in_array _ _ _ o c.in_array-keys.ensures in (
-      registered _ v,
-      live-ordered _ _ _ _ _ c.live_of-lives.ensures (subst (Each _) (sym keys.1) (order_each _ _ o)),
-    ) in record { registered = all.0; ordered = all.1 }
+    let keys = in_array _ _ _ o c.in_array-keys.ensures in record { registered = registered _ v; ordered = live-ordered _ _ _ _ _ c.live_of-lives.ensures (subst (Each _) (sym keys.1) (order_each _ _ o)) }
 
 pub returns : goal.returns
-returns c = let all = let v = tells c.valid.ensures.0
+returns c = let v = tells c.valid.ensures.0
     (not-false _ c.if-not-valid.false-raw) in
     let o = tells c.is_order.ensures (not-false _ c.if-not-is_order.false-raw) in
-    let keys = in_array _ _ _ o c.in_array-keys.ensures in (
-      held _ _ _ v o (c.plan_of.ensures.result_value ∙ along_plan _ _ _ _ c.live_of-lives.ensures keys.1),
-      (valid-variables _ v, c.plan_of.ensures.bounded),
-    ) in record { result_value = all.0; keys_le_max_variables = all.1 }
+    let keys = in_array _ _ _ o c.in_array-keys.ensures in record { result_value = held _ _ _ v o (c.plan_of.ensures.result_value ∙ along_plan _ _ _ _ c.live_of-lives.ensures keys.1); keys_le_max_variables = (valid-variables _ v, c.plan_of.ensures.bounded) }

@@ -1,14 +1,14 @@
 -- Before each turn the first places hold the numbers of the live factors among the first i (`Rising`). Assumes nothing.
 use Prim.Native.Nat.{◌<◌, ◌-◌}
 use mathlib.Core.Path.{refl}
-use mathlib.Core.Logic.{⊎_elim}
 use native.Mathlib.Omega.{arith}
 use Rattle.factor.specs.Limits.{max_factors}
 use Rattle.plan.proofs.Rising.{listed-none, listed-live, listed_other, listed-done}
 use Rattle.plan.proofs.factors.live_of.Goals as goal
+use Rattle.plan.proofs.factors.live_of.Goals.{then-f, else-f}
 
 pub loop-i-init : goal.loop-i-init
-loop-i-init c = (omega arith, listed-none c.args.self _ refl)
+loop-i-init c = (omega arith, listed-none c.args.factors _ refl)
 
 pub offset_bounds-factors-i : goal.offset_bounds-factors-i
 offset_bounds-factors-i c = record { fits = omega arith }
@@ -37,12 +37,14 @@ loop-i-preserved c =
     let loop = c.loop-i in
     let h : loop.i < max_factors = omega arith in (
       omega arith,
-      ⊎_elim (λ w. rw (w.1, w.2) (listed-live args.t1 loop.numbers loop.lives loop.i h loop.invariant.1 w.0.taken))
-          (λ w. rw (w.1, w.2) (listed_other args.t1 loop.numbers loop.lives loop.i h loop.invariant.1 w.0.left)) c.if-f.branch,
+      elim c.if-f.branch [
+        | then-f w ↦ rw (w.numbers-is, w.lives-is) (listed-live args.factors loop.numbers loop.lives loop.i h loop.invariant.1 w.if-f.true)
+        | else-f w ↦ rw (w.numbers-is, w.lives-is) (listed_other args.factors loop.numbers loop.lives loop.i h loop.invariant.1 w.if-f.false)
+      ],
     )
 
 pub returns : goal.returns
 returns c =
     let args = c.args in
     let loop = c.loop-i in
-    listed-done args.t1 loop.numbers loop.lives loop.i args.count loop.invariant.1 (omega arith) (omega arith)
+    listed-done args.factors loop.numbers loop.lives loop.i args.count loop.invariant.1 (omega arith) (omega arith)

@@ -32,13 +32,13 @@ loop-i-smaller c = omega arith
 
 pub loop-i-preserved : goal.loop-i-preserved
 loop-i-preserved c =
-    let long : length c.args.self.keys ≡ max_keys = search rules in
+    let long : length c.args.f.keys ≡ max_keys = search rules in
     let args = c.args in
     let loop = c.loop-i in
     let pre = c.requires in
     (
       omega arith,
-      set-take args.t1.keys loop.i loop.r c.single-r.result (omega (arith, pre.few, long, c.wide-n.ensures)) loop.invariant.1
+      set-take args.f.keys loop.i loop.r c.single-r.result (omega (arith, pre.few, long, c.wide-n.ensures)) loop.invariant.1
           (c.single-r.ensures ∙ ap (λ (x : ℕ). 2 ^ x) c.wide-k.ensures),
     )
 
@@ -46,5 +46,5 @@ pub returns : goal.returns
 returns c =
     let loop = c.loop-i in
     let args = c.args in
-    let e : loop.i ≡ args.t1.touched = omega (arith, c.wide-n.ensures) in
-    subst (λ (m : ℕ). Set (take m args.t1.keys) loop.r) e loop.invariant.1
+    let e : loop.i ≡ args.f.touched = omega (arith, c.wide-n.ensures) in
+    subst (λ (m : ℕ). Set (take m args.f.keys) loop.r) e loop.invariant.1

@@ -6,7 +6,7 @@ use Rattle.plan.proofs.FactorMasks.{masked_none, masked_more, masked_done}
 use Rattle.plan.proofs.factors.masks_of.Goals as goal
 
 pub loop-i-init : goal.loop-i-init
-loop-i-init c = (omega arith, masked_none c.args.self)
+loop-i-init c = (omega arith, masked_none c.args.factors)
 
 pub offset_bounds-factors-i : goal.offset_bounds-factors-i
 offset_bounds-factors-i c = record { fits = omega arith }
@@ -33,10 +33,10 @@ pub loop-i-preserved : goal.loop-i-preserved
 loop-i-preserved c =
     let args = c.args in
     let loop = c.loop-i in
-    (omega arith, masked_more args.t1 loop.r loop.i c.mask_of.result (omega arith) loop.invariant.1 c.mask_of.ensures)
+    (omega arith, masked_more args.factors loop.r loop.i c.mask_of.result (omega arith) loop.invariant.1 c.mask_of.ensures)
 
 pub returns : goal.returns
 returns c =
     let args = c.args in
     let loop = c.loop-i in
-    masked_done args.t1 loop.r args.count loop.i loop.invariant.1 (omega arith)
+    masked_done args.factors loop.r args.count loop.i loop.invariant.1 (omega arith)

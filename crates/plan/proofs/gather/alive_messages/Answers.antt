@@ -1,16 +1,16 @@
 -- Before each turn `upto` is the set of the messages below i of step at most t, and `within` that of the messages they contain (`Alive`).
 -- Assumes nothing.
 use mathlib.Core.Path.{sym, subst₂}
-use mathlib.Core.Logic.{⊎_elim}
 use Prim.Native.Nat.{◌+◌, ◌-◌}
 use native.Mathlib.Omega.{arith}
 use Rattle.plan.proofs.Alive.{AliveTo, start, more, same, done}
 use Rattle.plan.proofs.gather.alive_messages.Goals as goal
+use Rattle.plan.proofs.gather.alive_messages.Goals.{then-at-t, else-at-t}
 
 pub loop-i-init : goal.loop-i-init
 loop-i-init c =
     let args = c.args in
-    start args.t args.t1
+    start args.t args.messages
 
 pub single-upto-requires : goal.single-upto-requires
 single-upto-requires c = omega (arith, c.requires.few)
@@ -52,14 +52,17 @@ pub loop-i-preserved : goal.loop-i-preserved
 loop-i-preserved c =
     let args = c.args in
     let loop = c.loop-i in
-    ⊎_elim (λ w. subst₂ (λ x y. AliveTo args.t args.t1 x y (loop.i + 1)) (sym w.6) (sym w.7)
-    (more args.t args.t1 loop.upto loop.within loop.i loop.invariant c.loop-i-test.true w.1.result w.5.result w.0.taken
-    w.1.ensures w.5.ensures)) (λ w. subst₂ (λ x y. AliveTo args.t args.t1 x y (loop.i + 1)) (sym w.1) (sym w.2)
-    (same args.t args.t1 loop.upto loop.within loop.i loop.invariant c.loop-i-test.true w.0.left)) c.if-at-t.branch
+    elim c.if-at-t.branch [
+      | then-at-t w ↦ subst₂ (λ x y. AliveTo args.t args.messages x y (loop.i + 1)) (sym w.upto-is) (sym w.within-is)
+          (more args.t args.messages loop.upto loop.within loop.i loop.invariant c.loop-i-test.true w.single-upto.result w.messages_in-within.result
+          w.if-at-t.true w.single-upto.ensures w.messages_in-within.ensures)
+      | else-at-t w ↦ subst₂ (λ x y. AliveTo args.t args.messages x y (loop.i + 1)) (sym w.upto-is) (sym w.within-is)
+          (same args.t args.messages loop.upto loop.within loop.i loop.invariant c.loop-i-test.true w.if-at-t.false)
+    ]
 
 pub returns : goal.returns
 returns c =
     let args = c.args in
     let loop = c.loop-i in
     let pre = c.requires in
-    done args.t args.t1 loop.upto loop.within loop.i loop.invariant c.loop-i-test.false (omega (arith, pre.few))
+    done args.t args.messages loop.upto loop.within loop.i loop.invariant c.loop-i-test.false (omega (arith, pre.few))

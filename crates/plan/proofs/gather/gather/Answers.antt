@@ -1,5 +1,6 @@
 -- Each part is what its call ensures; together they are the gathering of the definition (`Gathering`).
 -- Assumes nothing.
+use borrow.Author.Rules.{rules}
 use mathlib.Core.Path.{◌≡◌, refl, sym}
 use lib.ListN.{length, replicate}
 use native.Mathlib.Omega.{arith}
@@ -51,15 +52,12 @@ kept_keys-fk-requires c = c.requires.gatherable.forward
 pub kept_keys-bk-requires : goal.kept_keys-bk-requires
 kept_keys-bk-requires c = c.requires.gatherable.backward
 
-pub slice_bounds-union-end : goal.slice_bounds-union-end
-slice_bounds-union-end c = sym c.well_formed.1.1.0.1.0.1
-
 pub slice_bounds-union-end-2 : goal.slice_bounds-union-end-2
 slice_bounds-union-end-2 c = sym c.uncovered-all.ensures.space.items.long
 
 pub union-uk-requires : goal.union-uk-requires
 union-uk-requires c =
-    let long : length c.args.t3 ≡ max_factors = c.well_formed.1.1.0.1.0.1 in
+    let long : length c.args.keys ≡ max_factors = search rules in
     record { numbers = record {
         few = omega (arith, c.uncovered-all.ensures.space.items.few, c.uncovered-all.ensures.space.items.long);
         low = λ i h. omega (arith, long, c.uncovered-all.ensures.space.items.low i h);
@@ -73,5 +71,5 @@ returns c =
     let args = c.args in
     record { gathers = λ n K ag kd. gathers args.fw args.bw args.live args.count args.r args.s c.requires.gatherable c.alive_messages-forward.result c.alive_messages-backward.result
           c.alive_messages-forward.ensures c.alive_messages-backward.ensures none_yet refl none-space c.leaves_of-one.result c.leaves_of-one.ensures c.leaves_of-two.result
-          c.leaves_of-two.ensures c.uncovered-all.result c.uncovered-all.ensures args.t3 args.k c.kept_keys-fk.result c.kept_keys-bk.result c.union-uk.result
+          c.leaves_of-two.ensures c.uncovered-all.result c.uncovered-all.ensures args.keys args.k c.kept_keys-fk.result c.kept_keys-bk.result c.union-uk.result
           c.single-own.result c.kept_keys-fk.ensures c.kept_keys-bk.ensures c.union-uk.ensures c.single-own.ensures n K ag kd; held = record { items = c.uncovered-all.ensures.space.items; covered = c.uncovered-all.ensures.more } }

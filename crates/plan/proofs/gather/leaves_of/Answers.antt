@@ -1,11 +1,11 @@
 -- Before each turn the items are the leaves under the messages of the set below j (`Uncovered`).
 -- Assumes nothing.
 use mathlib.Core.Path.{sym, subst}
-use mathlib.Core.Logic.{⊎_elim}
 use Prim.Native.Nat.{◌+◌, ◌-◌}
 use native.Mathlib.Omega.{arith}
 use Rattle.plan.proofs.Uncovered.{Leaving, begin, openable, leave_more, leave_same, end}
 use Rattle.plan.proofs.gather.leaves_of.Goals as goal
+use Rattle.plan.proofs.gather.leaves_of.Goals.{then-set-single-ne0, else-set-single-ne0}
 
 pub loop-j-init : goal.loop-j-init
 loop-j-init c = λ f v s. begin c.args.messages c.args.set c.args.listing f v s
@@ -31,12 +31,14 @@ pub loop-j-preserved : goal.loop-j-preserved
 loop-j-preserved c =
     let args = c.args in
     let loop = c.loop-j in
-    λ f v s. ⊎_elim (λ w. subst (λ x. Leaving args.messages args.set args.listing f v s x (loop.j + 1)) (sym w.2)
-    (leave_more args.messages args.set args.listing f v s loop.l loop.j c.single.result (loop.invariant f v s) c.loop-j-test.true
-    c.single.ensures w.0.taken w.1.result w.1.ensures))
-    (λ w. subst (λ x. Leaving args.messages args.set args.listing f v s x (loop.j + 1)) (sym w.1)
-    (leave_same args.messages args.set args.listing f v s loop.l loop.j c.single.result (loop.invariant f v s) c.loop-j-test.true
-    c.single.ensures w.0.left)) c.if-set-single-ne0.branch
+    λ f v s. elim c.if-set-single-ne0.branch [
+      | then-set-single-ne0 w ↦ subst (λ x. Leaving args.messages args.set args.listing f v s x (loop.j + 1)) (sym w.l-is)
+          (leave_more args.messages args.set args.listing f v s loop.l loop.j c.single.result (loop.invariant f v s) c.loop-j-test.true
+          c.single.ensures w.if-set-single-ne0.true w.mark_leaves-l.result w.mark_leaves-l.ensures)
+      | else-set-single-ne0 w ↦ subst (λ x. Leaving args.messages args.set args.listing f v s x (loop.j + 1)) (sym w.l-is)
+          (leave_same args.messages args.set args.listing f v s loop.l loop.j c.single.result (loop.invariant f v s) c.loop-j-test.true
+          c.single.ensures w.if-set-single-ne0.false)
+    ]
 
 pub returns : goal.returns
 returns c =

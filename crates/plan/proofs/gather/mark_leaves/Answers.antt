@@ -13,7 +13,7 @@ bounds-l-0 c = omega arith
 pub loop-l-init : goal.loop-l-init
 loop-l-init c =
     let args = c.args in
-    λ r f. start args.t1 r f args.listing args.root c.requires.space c.requires.openable
+    λ r f. start args.messages r f args.listing args.root c.requires.space c.requires.openable
 
 pub overflow_sub-t : goal.overflow_sub-t
 overflow_sub-t c = omega arith
@@ -29,7 +29,7 @@ overflow_cast-m c =
     record {
       fits = omega (
         arith,
-        top_low args.t1 c.requires.pass_ready c.requires.openable.forest (opened args.t1 c.requires.pass_ready c.requires.openable.forest args.listing args.root) loop.l
+        top_low args.messages c.requires.pass_ready c.requires.openable.forest (opened args.messages c.requires.pass_ready c.requires.openable.forest args.listing args.root) loop.l
             (loop.invariant c.requires.pass_ready c.requires.openable.forest) c.loop-l-test.true,
       );
     }
@@ -38,7 +38,7 @@ pub bounds-messages-m : goal.bounds-messages-m
 bounds-messages-m c =
     let args = c.args in
     let loop = c.loop-l in
-    top_low args.t1 c.requires.pass_ready c.requires.openable.forest (opened args.t1 c.requires.pass_ready c.requires.openable.forest args.listing args.root) loop.l
+    top_low args.messages c.requires.pass_ready c.requires.openable.forest (opened args.messages c.requires.pass_ready c.requires.openable.forest args.listing args.root) loop.l
     (loop.invariant c.requires.pass_ready c.requires.openable.forest) c.loop-l-test.true
 
 pub overflow_cast-from : goal.overflow_cast-from
@@ -49,10 +49,10 @@ overflow_cast-from c =
       fits = omega (
         arith,
         c.requires.pass_ready.ordered (get_or loop.l.stack (loop.l.top - 1) 0)
-            (here args.t1 c.requires.pass_ready c.requires.openable.forest (opened args.t1 c.requires.pass_ready c.requires.openable.forest args.listing args.root) loop.l
+            (here args.messages c.requires.pass_ready c.requires.openable.forest (opened args.messages c.requires.pass_ready c.requires.openable.forest args.listing args.root) loop.l
             (loop.invariant c.requires.pass_ready c.requires.openable.forest) c.loop-l-test.true),
         c.requires.pass_ready.closed (get_or loop.l.stack (loop.l.top - 1) 0)
-            (here args.t1 c.requires.pass_ready c.requires.openable.forest (opened args.t1 c.requires.pass_ready c.requires.openable.forest args.listing args.root) loop.l
+            (here args.messages c.requires.pass_ready c.requires.openable.forest (opened args.messages c.requires.pass_ready c.requires.openable.forest args.listing args.root) loop.l
             (loop.invariant c.requires.pass_ready c.requires.openable.forest) c.loop-l-test.true),
         c.requires.pass_ready.room.contents.few,
       );
@@ -62,7 +62,7 @@ pub bounds-messages-m-in-loop-l : goal.bounds-messages-m-in-loop-l
 bounds-messages-m-in-loop-l c =
     let args = c.args in
     let loop = c.loop-l in
-    top_low args.t1 c.requires.pass_ready c.requires.openable.forest (opened args.t1 c.requires.pass_ready c.requires.openable.forest args.listing args.root) loop.l
+    top_low args.messages c.requires.pass_ready c.requires.openable.forest (opened args.messages c.requires.pass_ready c.requires.openable.forest args.listing args.root) loop.l
     (loop.invariant c.requires.pass_ready c.requires.openable.forest) c.loop-l-test.true
 
 pub overflow_cast-to : goal.overflow_cast-to
@@ -73,7 +73,7 @@ overflow_cast-to c =
       fits = omega (
         arith,
         c.requires.pass_ready.closed (get_or loop.l.stack (loop.l.top - 1) 0)
-            (here args.t1 c.requires.pass_ready c.requires.openable.forest (opened args.t1 c.requires.pass_ready c.requires.openable.forest args.listing args.root) loop.l
+            (here args.messages c.requires.pass_ready c.requires.openable.forest (opened args.messages c.requires.pass_ready c.requires.openable.forest args.listing args.root) loop.l
             (loop.invariant c.requires.pass_ready c.requires.openable.forest) c.loop-l-test.true),
         c.requires.pass_ready.room.contents.few,
       );
@@ -83,26 +83,26 @@ pub visit-l-requires : goal.visit-l-requires
 visit-l-requires c =
     let args = c.args in
     let loop = c.loop-l in
-    visitable args.t1 c.requires.pass_ready c.requires.openable.forest (opened args.t1 c.requires.pass_ready c.requires.openable.forest args.listing args.root) loop.l
+    visitable args.messages c.requires.pass_ready c.requires.openable.forest (opened args.messages c.requires.pass_ready c.requires.openable.forest args.listing args.root) loop.l
     (loop.invariant c.requires.pass_ready c.requires.openable.forest) c.loop-l-test.true
 
 pub loop-l-smaller : goal.loop-l-smaller
 loop-l-smaller c =
     let args = c.args in
     let loop = c.loop-l in
-    falls args.t1 c.requires.pass_ready c.requires.openable.forest (opened args.t1 c.requires.pass_ready c.requires.openable.forest args.listing args.root) loop.l
+    falls args.messages c.requires.pass_ready c.requires.openable.forest (opened args.messages c.requires.pass_ready c.requires.openable.forest args.listing args.root) loop.l
     (loop.invariant c.requires.pass_ready c.requires.openable.forest) c.loop-l-test.true c.visit-l.result c.visit-l.ensures
 
 pub loop-l-preserved : goal.loop-l-preserved
 loop-l-preserved c =
     let args = c.args in
     let loop = c.loop-l in
-    λ r f. again args.t1 r f (opened args.t1 c.requires.pass_ready c.requires.openable.forest args.listing args.root) loop.l (loop.invariant r f)
+    λ r f. again args.messages r f (opened args.messages c.requires.pass_ready c.requires.openable.forest args.listing args.root) loop.l (loop.invariant r f)
     c.loop-l-test.true c.visit-l.result c.visit-l.ensures
 
 pub returns : goal.returns
 returns c =
     let args = c.args in
     let loop = c.loop-l in
-    done args.t1 c.requires.pass_ready c.requires.openable.forest args.listing args.root c.requires.space c.requires.openable loop.l
+    done args.messages c.requires.pass_ready c.requires.openable.forest args.listing args.root c.requires.space c.requires.openable loop.l
     (loop.invariant c.requires.pass_ready c.requires.openable.forest) c.loop-l-test.false

@@ -2,7 +2,6 @@
 -- Assumes nothing.
 use borrow.Author.Rules.{rules}
 use mathlib.Core.Path.{◌≡◌, sym, subst}
-use mathlib.Core.Logic.{⊎_elim}
 use Prim.Native.Nat.{ℕ, ◌+◌, ◌-◌}
 use native.Mathlib.Omega.{arith}
 use Rattle.schedule.specs.Gather.{messages_in}
@@ -10,6 +9,7 @@ use Rattle.plan.specs.Mask.{Set}
 use Rattle.plan.specs.Gather.{content_part}
 use Rattle.plan.proofs.Unions.{inner_msg, inner_orig, inner-none}
 use Rattle.plan.proofs.gather.messages_in.Goals as goal
+use Rattle.plan.proofs.gather.messages_in.Goals.{then-s-ge-FACTORS, else-s-ge-FACTORS}
 
 pub loop-i-init : goal.loop-i-init
 loop-i-init c = (search rules, c.requires.from_le_to, inner-none c.args.content.now c.args.from)
@@ -38,12 +38,14 @@ loop-i-preserved c =
     (
       omega arith,
       omega arith,
-      ⊎_elim (λ w. subst (λ (x : ℕ). Set (messages_in (content_part args.from (loop.i + 1) args.content.now)) x) (sym w.2)
+      elim c.if-s-ge-FACTORS.branch [
+        | then-s-ge-FACTORS w ↦ subst (λ (x : ℕ). Set (messages_in (content_part args.from (loop.i + 1) args.content.now)) x) (sym w.r-is)
           (inner_msg args.content.now args.from loop.i loop.r loop.invariant.0 (omega (arith, c.requires.codes.few, c.requires.codes.long)) loop.invariant.2
-          w.1.result w.0.taken w.1.ensures))
-          (λ w. subst (λ (x : ℕ). Set (messages_in (content_part args.from (loop.i + 1) args.content.now)) x) (sym w.1)
+          w.single-r.result w.if-s-ge-FACTORS.true w.single-r.ensures)
+        | else-s-ge-FACTORS w ↦ subst (λ (x : ℕ). Set (messages_in (content_part args.from (loop.i + 1) args.content.now)) x) (sym w.r-is)
           (inner_orig args.content.now args.from loop.i loop.r loop.invariant.0 (omega (arith, c.requires.codes.few, c.requires.codes.long)) loop.invariant.2
-          w.0.left)) c.if-s-ge-FACTORS.branch,
+          w.if-s-ge-FACTORS.false)
+      ],
     )
 
 pub returns : goal.returns

@@ -12,7 +12,7 @@ items_set-covered-requires c = c.requires.space.items
 pub loop-i-init : goal.loop-i-init
 loop-i-init c =
     let args = c.args in
-    λ g v r s. start args.t1 args.count args.listing g v r s
+    λ g v r s. start args.live args.count args.listing g v r s
 
 pub bounds-live-i : goal.bounds-live-i
 bounds-live-i c = omega (arith, c.requires.live.few)
@@ -27,7 +27,7 @@ pub bounds-l-c : goal.bounds-l-c
 bounds-l-c c =
     let args = c.args in
     let loop = c.loop-i in
-    free-room args.t1 args.count args.listing (search rules) c.requires.live c.requires.coverable c.requires.space loop.l loop.i c.items_set-covered.result
+    free-room args.live args.count args.listing (search rules) c.requires.live c.requires.coverable c.requires.space loop.l loop.i c.items_set-covered.result
     c.single64.result (loop.invariant (search rules) c.requires.live c.requires.coverable c.requires.space) c.loop-i-test.true c.single64.ensures
     c.items_set-covered.ensures c.if-covered-single64-eq0.true
 
@@ -38,7 +38,7 @@ overflow_add-l c =
     record {
       fits = omega (
         arith,
-        free-room args.t1 args.count args.listing (search rules) c.requires.live c.requires.coverable c.requires.space loop.l loop.i
+        free-room args.live args.count args.listing (search rules) c.requires.live c.requires.coverable c.requires.space loop.l loop.i
             c.items_set-covered.result c.single64.result (loop.invariant (search rules) c.requires.live c.requires.coverable c.requires.space) c.loop-i-test.true
             c.single64.ensures
             c.items_set-covered.ensures c.if-covered-single64-eq0.true,
@@ -52,7 +52,7 @@ pub loop-i-preserved-then-covered-single64-eq0 : goal.loop-i-preserved-then-cove
 loop-i-preserved-then-covered-single64-eq0 c =
     let args = c.args in
     let loop = c.loop-i in
-    λ g v r s. list-more args.t1 args.count args.listing g v r s loop.l loop.i c.items_set-covered.result c.single64.result
+    λ g v r s. list-more args.live args.count args.listing g v r s loop.l loop.i c.items_set-covered.result c.single64.result
     (loop.invariant g v r s) c.loop-i-test.true c.single64.ensures c.items_set-covered.ensures c.if-covered-single64-eq0.true
 
 pub loop-i-smaller : goal.loop-i-smaller
@@ -62,12 +62,12 @@ pub loop-i-preserved : goal.loop-i-preserved
 loop-i-preserved c =
     let args = c.args in
     let loop = c.loop-i in
-    λ g v r s. list_same args.t1 args.count args.listing g v r s loop.l loop.i c.items_set-covered.result c.single64.result
+    λ g v r s. list_same args.live args.count args.listing g v r s loop.l loop.i c.items_set-covered.result c.single64.result
     (loop.invariant g v r s) c.loop-i-test.true c.single64.ensures c.items_set-covered.ensures c.if-covered-single64-eq0.false
 
 pub returns : goal.returns
 returns c =
     let args = c.args in
     let loop = c.loop-i in
-    done args.t1 args.count args.listing (search rules) c.requires.live c.requires.coverable c.requires.space loop.l loop.i
+    done args.live args.count args.listing (search rules) c.requires.live c.requires.coverable c.requires.space loop.l loop.i
     (loop.invariant (search rules) c.requires.live c.requires.coverable c.requires.space) c.loop-i-test.false

@@ -5,7 +5,7 @@ use borrow.Author.Tests.{eq-eqb, ne_eqb}
 use mathlib.Core.Path.{◌≡◌, refl, sym, ap, ap₂, ◌∙◌}
 use mathlib.Core.Bool.{Bool, not, ◌&&◌, ◌||◌}
 use mathlib.Core.List.{List}
-use mathlib.Core.Logic.{⊎_elim, ◌⊎◌, inl, inr}
+use mathlib.Core.Logic.{◌⊎◌, inl, inr}
 use Prim.Native.Nat.{ℕ, ◌+◌, ◌<◌, ◌-◌}
 use lib.Bits.{bit_and, bit_or}
 use lib.ListN.{length, get_or, take}
@@ -16,6 +16,7 @@ use Rattle.plan.specs.Pass.{Coupled}
 use Rattle.plan.proofs.Digits.{has-or, has-zero}
 use Rattle.plan.proofs.Prefixes.{or-false, any-take}
 use Rattle.plan.proofs.pass.coupled.Goals as goal
+use Rattle.plan.proofs.pass.coupled.Goals.{then-m-active, else-m-active}
 
 more : (masks slots : List ℕ) (active r i : ℕ) → i < length slots → Coupled masks active (take i slots) r → (m r' : ℕ) → m ≡ get_or masks (get_or slots i 0) 0
     → ((bit_and m active ≡ m → ⊥) × (r' ≡ bit_or r m)) ⊎ ((bit_and m active ≡ m) × (r' ≡ r)) → Coupled masks active (take (i + 1) slots) r'
@@ -64,7 +65,7 @@ loop-i-preserved c =
           loop.invariant.1
           (get_or args.masks.now
           (get_or args.slots.now loop.i 0) 0) c.if-m-active.r refl
-          (⊎_elim (λ w. inl (w.0.taken, w.1)) (λ w. inr (w.0.left, w.1)) c.if-m-active.branch),
+          (elim c.if-m-active.branch [ then-m-active w ↦ inl (w.if-m-active.true, w.r-is) | else-m-active w ↦ inr (w.if-m-active.false, w.r-is) ]),
     )
 
 pub returns : goal.returns

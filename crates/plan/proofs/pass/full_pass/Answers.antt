@@ -37,7 +37,7 @@ loop-t-preserved c =
     (
       omega arith,
       c.step-p.ensures.pass_ready_2,
-      along-more args.t4 args.n begin.result loop.t loop.p c.step-p.result loop.invariant.3 c.requires.order
+      along-more args.order args.n begin.result loop.t loop.p c.step-p.result loop.invariant.3 c.requires.order
           c.loop-t-test.true loop.invariant.2 c.step-p.ensures.steps,
       loop.invariant.3,
     )
@@ -47,5 +47,5 @@ returns c =
     let loop = c.loop-t in
     let args = c.args in
     let e : loop.t ≡ args.n = omega arith in
-    record { pass_ready = subst (λ (k : ℕ). PassReady k loop.p) e loop.invariant.1; passes = along-done args.keys args.live args.t4 args.count args.n c.begin-p.result
-          loop.p c.requires.order.few c.begin-p.ensures.begins (subst (λ (k : ℕ). Along args.t4 args.n c.begin-p.result k loop.p) e loop.invariant.2) }
+    record { pass_ready = subst (λ (k : ℕ). PassReady k loop.p) e loop.invariant.1; passes = along-done args.keys args.live args.order args.count args.n c.begin-p.result
+          loop.p c.requires.order.few c.begin-p.ensures.begins (subst (λ (k : ℕ). Along args.order args.n c.begin-p.result k loop.p) e loop.invariant.2) }

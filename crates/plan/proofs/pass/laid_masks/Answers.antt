@@ -11,11 +11,8 @@ use native.Mathlib.Omega.{arith}
 use Rattle.factor.specs.Limits.{max_variables, max_factors}
 use Rattle.plan.specs.Limits.{pass_slots}
 use Rattle.plan.specs.Pass.{original_masks}
+use Rattle.plan.proofs.pass.laid_masks.Invariants.{part}
 use Rattle.plan.proofs.pass.laid_masks.Goals as goal
-
--- the first i of the keys, and 0 in the other places
-abbrev part : List ℕ → ℕ → List ℕ
-part keys i = take i keys ++ replicate (pass_slots - i) 0
 
 turn : (keys : List ℕ) (i : ℕ) → i < length keys → i < pass_slots → set (part keys i) i (get_or keys i 0) ≡ part keys (i + 1)
 turn keys i h l =
@@ -51,8 +48,8 @@ loop-i-preserved c =
     let loop = c.loop-i in
     let args = c.args in (
       omega arith,
-      ap (λ (l : List ℕ). set l loop.i (get_or args.t1 loop.i 0)) loop.invariant.1
-          ∙ turn args.t1 loop.i (omega arith) (omega arith),
+      ap (λ (l : List ℕ). set l loop.i (get_or args.keys loop.i 0)) loop.invariant.1
+          ∙ turn args.keys loop.i (omega arith) (omega arith),
       loop.invariant.2,
     )
 
@@ -62,4 +59,4 @@ returns c =
     let loop = c.loop-i in
     let args = c.args in
     let e : loop.i ≡ max_factors = omega arith in
-    loop.invariant.1 ∙ ap (part args.t1) e ∙ ap (λ (l : List ℕ). l ++ replicate max_variables 0) (take_all max_factors args.t1 (omega arith))
+    loop.invariant.1 ∙ ap (part args.keys) e ∙ ap (λ (l : List ℕ). l ++ replicate max_variables 0) (take_all max_factors args.keys (omega arith))

@@ -2,7 +2,7 @@
 -- Assumes nothing.
 use borrow.Author.Rules.{rules}
 use mathlib.Core.Path.{◌≡◌, refl, sym, ap, subst, ◌∙◌}
-use mathlib.Core.List.{List, ◌∷◌, ◌++◌}
+use mathlib.Core.List.{List, [], ◌∷◌, ◌++◌}
 use Prim.Native.Nat.{ℕ, ◌+◌, ◌<◌, ◌-◌}
 use lib.ListN.{length, get_or, set, take, length-set}
 use lib.Seq.{take-suc, take-suc-set}
@@ -35,8 +35,8 @@ loop-i-preserved c =
     let loop = c.loop-i in
     let args = c.args in (
       omega arith,
-      length-set loop.r loop.i (get_or args.t1 loop.i 0) ∙ loop.invariant.1,
-      turn loop.r args.t1 loop.i (omega arith) (omega arith)
+      length-set loop.r loop.i (get_or args.live loop.i 0) ∙ loop.invariant.1,
+      turn loop.r args.live loop.i (omega arith) (omega arith)
           loop.invariant.2,
       loop.invariant.3,
     )
@@ -46,4 +46,4 @@ returns c =
     let loop = c.loop-i in
     let args = c.args in
     let e : loop.i ≡ args.count = omega arith in
-    record { long = loop.invariant.1; first = subst (λ (n : ℕ). take n loop.r ≡ take n args.t1) e loop.invariant.2 }
+    record { long = loop.invariant.1; first = subst (λ (n : ℕ). take n loop.r ≡ take n args.live) e loop.invariant.2 }

@@ -57,7 +57,7 @@ gather-requires c =
     let long' : length c.args.order ≡ max_variables = search rules in
     let args = c.args in
     let pre = c.requires in
-    let all = let both : Both args.keys args.live args.order args.count args.n c.full_pass-fw.result c.full_pass-bw.result = record {
+    let both : Both args.keys args.live args.order args.count args.n c.full_pass-fw.result c.full_pass-bw.result = record {
       sound = pre;
       long = long;
       long' = long';
@@ -65,11 +65,8 @@ gather-requires c =
       ready' = c.full_pass-bw.ensures.pass_ready;
       forward = c.full_pass-fw.ensures.passes;
       backward = subst (λ (o : List ℕ). Passes args.keys (take args.count args.live) o args.n c.full_pass-bw.result) c.reversed-back.ensures c.full_pass-bw.ensures.passes;
-    } in (
-      may_gather args.keys args.live args.order args.count args.n c.full_pass-fw.result c.full_pass-bw.result both c.loop-k.k c.place-r.result
-          (args.n - 1 - c.place-r.result) c.loop-k-test.true c.place-r.ensures refl,
-      omega (arith, pre.few),
-    ) in record { gatherable = all.0; k_lt_max_variables = all.1 }
+    } in record { gatherable = may_gather args.keys args.live args.order args.count args.n c.full_pass-fw.result c.full_pass-bw.result both c.loop-k.k c.place-r.result
+          (args.n - 1 - c.place-r.result) c.loop-k-test.true c.place-r.ensures refl; k_lt_max_variables = omega (arith, pre.few) }
 
 pub offset_bounds-at-k : goal.offset_bounds-at-k
 offset_bounds-at-k c = record { fits = omega (arith, c.requires.few) }
@@ -99,7 +96,7 @@ returns c =
     let long' : length c.args.order ≡ max_variables = search rules in
     let args = c.args in
     let loop = c.loop-k in
-    let all = let both : Both args.keys args.live args.order args.count args.n c.full_pass-fw.result c.full_pass-bw.result = record {
+    let both : Both args.keys args.live args.order args.count args.n c.full_pass-fw.result c.full_pass-bw.result = record {
       sound = c.requires;
       long = long;
       long' = long';
@@ -107,9 +104,6 @@ returns c =
       ready' = c.full_pass-bw.ensures.pass_ready;
       forward = c.full_pass-fw.ensures.passes;
       backward = subst (λ (o : List ℕ). Passes args.keys (take args.count args.live) o args.n c.full_pass-bw.result) c.reversed-back.ensures c.full_pass-bw.ensures.passes;
-    } in (
-      done args.keys args.live args.order args.count args.n c.full_pass-fw.result c.full_pass-bw.result both loop.at loop.k (loop.invariant both)
-          c.loop-k-test.false,
-      bounded args.keys args.live args.order args.count args.n c.full_pass-fw.result c.full_pass-bw.result both loop.at loop.k (loop.invariant both)
-          c.loop-k-test.false,
-    ) in record { plans = all.0; bounded = all.1 }
+    } in record { plans = done args.keys args.live args.order args.count args.n c.full_pass-fw.result c.full_pass-bw.result both loop.at loop.k (loop.invariant both)
+          c.loop-k-test.false; bounded = bounded args.keys args.live args.order args.count args.n c.full_pass-fw.result c.full_pass-bw.result both loop.at loop.k (loop.invariant both)
+          c.loop-k-test.false }

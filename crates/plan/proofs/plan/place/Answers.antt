@@ -14,7 +14,7 @@ pub returns-then-x-k : goal.returns-then-x-k
 returns-then-x-k c =
     let args = c.args in
     let loop = c.loop-i in
-    sought_here args.k args.t1 args.n loop.i (omega arith) c.loop-i-test.true loop.invariant.2 c.if-x-k.true
+    sought_here args.k args.order args.n loop.i (omega arith) c.loop-i-test.true loop.invariant.2 c.if-x-k.true
 
 pub overflow_add-i : goal.overflow_add-i
 overflow_add-i c = record { fits = omega arith }
@@ -26,10 +26,10 @@ pub loop-i-preserved : goal.loop-i-preserved
 loop-i-preserved c =
     let loop = c.loop-i in
     let args = c.args in
-    (omega arith, loop.invariant.1, sought_on args.k args.t1 args.n loop.i (omega arith) c.loop-i-test.true loop.invariant.2 c.if-x-k.false)
+    (omega arith, loop.invariant.1, sought_on args.k args.order args.n loop.i (omega arith) c.loop-i-test.true loop.invariant.2 c.if-x-k.false)
 
 pub returns : goal.returns
 returns c =
     let args = c.args in
     let loop = c.loop-i in
-    sought_none args.k args.t1 args.n loop.i c.loop-i-test.false loop.invariant.2
+    sought_none args.k args.order args.n loop.i c.loop-i-test.false loop.invariant.2

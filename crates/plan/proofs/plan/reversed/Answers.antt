@@ -10,7 +10,7 @@ use Rattle.plan.proofs.KeyByKey.{back_none, back_more, back_done}
 use Rattle.plan.proofs.plan.reversed.Goals as goal
 
 pub loop-i-init : goal.loop-i-init
-loop-i-init c = (omega arith, refl, search rules, back_none c.args.self (replicate max_variables 0) c.args.n)
+loop-i-init c = (omega arith, refl, search rules, back_none c.args.order (replicate max_variables 0) c.args.n)
 
 pub overflow_sub-r : goal.overflow_sub-r
 overflow_sub-r c = omega arith
@@ -35,9 +35,9 @@ loop-i-preserved c =
     let loop = c.loop-i in
     let args = c.args in (
       omega arith,
-      length-set loop.r loop.i (get_or args.t1 (args.n - 1 - loop.i) 0) ∙ loop.invariant.1,
+      length-set loop.r loop.i (get_or args.order (args.n - 1 - loop.i) 0) ∙ loop.invariant.1,
       loop.invariant.2,
-      back_more args.t1 loop.r args.n
+      back_more args.order loop.r args.n
           loop.i (omega arith) c.loop-i-test.true (omega arith) loop.invariant.3,
     )
 
@@ -45,4 +45,4 @@ pub returns : goal.returns
 returns c =
     let args = c.args in
     let loop = c.loop-i in
-    back_done args.t1 loop.r args.n loop.i (omega arith) loop.invariant.3
+    back_done args.order loop.r args.n loop.i (omega arith) loop.invariant.3

@@ -45,9 +45,8 @@ returns-in-Refused c =
 pub carry_pass-requires-2 : goal.carry_pass-requires-2
 carry_pass-requires-2 c =
     let args = c.args in
-    let kept = c.carry_pass.auto.1.1.1.1.1 in
     let all = second_asks args.g args.p c.requires.planned.0 args.places args.keys.now args.heads.now c.requires.planned.1 (length args.factors.now) _ _
-    (length args.marginals.now) (enough_later c.requires.enough kept.0 kept.1.0) in record { pass_ready = all.0; tables = all.1.0; count_in_bounds = all.1.1 }
+    (length args.marginals.now) (enough_later c.requires.enough c.carry_pass.auto.messages c.carry_pass.auto.work) in record { pass_ready = all.0; tables = all.1.0; count_in_bounds = all.1.1 }
 
 pub overflow_sub-n : goal.overflow_sub-n
 overflow_sub-n c =
@@ -103,13 +102,11 @@ returns-in-Refused-carry_pass c =
 pub third_stage-requires : goal.third_stage-requires
 third_stage-requires c =
     let args = c.args in
-    let kept = c.carry_pass.auto.1.1.1.1.1 in
-    let kept2 = c.carry_pass-2.auto.1.1.1.1.1 in
-    let enough = enough_later c.requires.enough kept.0 kept.1.0 in
+    let enough = enough_later c.requires.enough c.carry_pass.auto.messages c.carry_pass.auto.work in
     let fw = c.carry_pass.ensures.all_stored c.in-Done.is in
     let bw = c.carry_pass-2.ensures.all_stored c.in-Done-carry_pass.is in
     third_asks args.g args.p c.requires.planned.0 args.places args.keys.now args.heads.now c.requires.planned.1 args.factors.now _ _
-    (length args.marginals.now) (enough_later enough kept2.0 kept2.1.0)
+    (length args.marginals.now) (enough_later enough c.carry_pass-2.auto.messages c.carry_pass-2.auto.work)
     (forward-stays args.g args.p c.requires.planned.0 args.places args.keys.now args.heads.now c.requires.planned.1 args.factors.now _ _
     (length args.marginals.now) enough _ c.carry_pass-2.ensures.messages_after fw bw) bw
 
@@ -117,9 +114,7 @@ pub returns : goal.returns
 unfolding plan_in
 returns c =
     let args = c.args in
-    let kept = c.carry_pass.auto.1.1.1.1.1 in
-    let kept2 = c.carry_pass-2.auto.1.1.1.1.1 in
-    let enough = enough_later c.requires.enough kept.0 kept.1.0 in
+    let enough = enough_later c.requires.enough c.carry_pass.auto.messages c.carry_pass.auto.work in
     let through = c.in-Done.is in
     let through2 = c.in-Done-carry_pass.is in
     let fw = c.carry_pass.ensures.all_stored through in
@@ -130,6 +125,6 @@ returns c =
     args.marginals.now args.places.forward _ _ _ _ c.carry_pass.ensures.result_value c.carry_pass-2.ensures.result_value through c.carry_pass.ensures.messages_after
     c.carry_pass-2.ensures.messages_after ends _ _ through2 (c.third_stage.ensures _
     (gatherable args.g args.p c.requires.planned.0 args.places args.keys.now args.heads.now c.requires.planned.1 args.factors.now _ _
-    (length args.marginals.now) (enough_later enough kept2.0 kept2.1.0)
+    (length args.marginals.now) (enough_later enough c.carry_pass-2.auto.messages c.carry_pass-2.auto.work)
     (forward-stays args.g args.p c.requires.planned.0 args.places args.keys.now args.heads.now c.requires.planned.1 args.factors.now _ _
     (length args.marginals.now) enough _ c.carry_pass-2.ensures.messages_after fw bw) bw))

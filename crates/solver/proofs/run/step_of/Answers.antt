@@ -3,4 +3,4 @@ use Rattle.solver.proofs.Stages.{step-told}
 use Rattle.solver.proofs.run.step_of.Goals as goal
 
 pub returns : goal.returns
-returns c = step-told c.args.self c.args.j c.requires.1
+returns c = step-told c.args.p c.args.j c.requires.1

@@ -19,5 +19,5 @@ union-keys-requires c =
 pub returns : goal.returns
 returns c =
     let args = c.args in
-    record { pass_ready_2 = readied args.t1 c.walk-w.result c.union-keys.result args.cleared args.t c.requires.pass_ready c.requires.t_lt_max_variables c.walk-w.ensures; sends = λ n K st hb m. sends args.t1 c.walk-w.result
+    record { pass_ready_2 = readied args.self c.walk-w.result c.union-keys.result args.cleared args.t c.requires.pass_ready c.requires.t_lt_max_variables c.walk-w.ensures; sends = λ n K st hb m. sends args.self c.walk-w.result
           c.union-keys.result args.cleared args.t c.requires.pass_ready c.requires.t_lt_max_variables c.walk-w.ensures c.union-keys.ensures n K st hb m }
