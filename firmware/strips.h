@@ -1,9 +1,9 @@
 /* Marginals of a strip's factor graph from the bytes of a job: the one call of libfirmware.a.
  *
- * The archive is written by `rt staticlib firmware` to target/staticlib/libfirmware.a, for x86-64. Of the C library it
- * needs memcpy, memmove and memset. It allocates nothing and keeps nothing between calls, so calls on buffers of their
- * own may run at the same time. Its stack is measured, not proved: 160 KiB were enough, with C's own share, for every
- * recorded job.
+ * The archive is written by `tools/archives firmware` to target/staticlib/libfirmware.a, for x86-64 processors with SSE4.2
+ * (x86-64-v2). Of the C library it needs memcpy, memmove and memset. It allocates nothing and keeps nothing between calls,
+ * so calls on buffers of their own may run at the same time. Its stack is measured, not proved: 160 KiB were enough, with
+ * C's own share, for every recorded job. The measurement is of an archive by an older kit.
  */
 #ifndef STRIPS_H
 #define STRIPS_H
@@ -41,7 +41,7 @@
  * `refused NUMBER STAGE PLACE`. The stage is 0 (reading), 1 (forward pass), 2 (backward pass) or 3 (marginals); the place
  * is the record, from 0, at stage 0 and the key at the others. Every line ends with a line feed. No keys: no text.
  *
- * It always ends. It is proved that the answer and the whole of out are those of the definition `jobText`.
+ * It always ends. It is proved that the answer and the whole of out are those of the definition `job_text`.
  */
 size_t strips_solve(const uint8_t *job, size_t job_length, uint8_t *out, size_t out_length);
 

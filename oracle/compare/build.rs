@@ -1,4 +1,4 @@
-//! Links the archives that `rt staticlib firmware` and `rt staticlib measured` write.
+//! Links the archives that `tools/archives` writes.
 use std::env;
 use std::path::PathBuf;
 

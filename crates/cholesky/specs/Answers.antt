@@ -1,5 +1,5 @@
 -- Inner: what the code of `cholesky` answers, and what its slices then hold.
-use Rattle.std.specs.Prelude.{ℕ, ◌-◌, ◌*◌, List, length, replicate, Float, ◌≡◌}
+use Rattle.std.specs.Prelude.{ℕ, ◌*◌, List, length, replicate, Float, ◌≡◌}
 use Rattle.matrix.specs.Sums.{plus_zero}
 use Rattle.cholesky.specs.declared.Factored.{Factored}
 use Rattle.cholesky.specs.declared.Factored.TheVariants as factored

@@ -36,10 +36,10 @@ use Rattle.claims.proofs.Carrying.{run_carries}
 -- ---- a key
 
 -- the number of a factor is among the numbers
-among : (fs : List Accepted) (f : Accepted) → Memᴰ f fs → In f.number (numbers_answered fs)
+among : (f : Accepted) (fs : List Accepted) → Memᴰ f fs → In f.number (numbers_answered fs)
 unfolding count
-among fs f (Memᴰ.head {x = a} {xs = rest} e) = omega (arith, hit_same f.number, ap (λ (x : Accepted). count f.number (numbers_answered (x ∷ rest))) e)
-among fs f (Memᴰ.tail {x = a} {xs = rest} m) = omega (arith, among rest f m)
+among f fs (Memᴰ.head {x = a} {xs = rest} e) = omega (arith, hit_same f.number, ap (λ (x : Accepted). count f.number (numbers_answered (x ∷ rest))) e)
+among f fs (Memᴰ.tail {x = a} {xs = rest} m) = omega (arith, among f rest m)
 
 -- the claim over keys and numbers is the claim over what the calls answered
 rests : (g : Graph) (ks : List ℕ) (fs : List Accepted) → ks ≡ from 0 g.variables → numbers_answered fs ≡ live_numbers g
@@ -62,7 +62,7 @@ rests g ks fs ek en eg p k q l o =
     }
   where
     numbered : (f : Accepted) → Memᴰ f fs → In f.number (live_numbers g)
-    numbered f m = subst (λ (l : List ℕ). In f.number l) en (among fs f m)
+    numbered f m = subst (λ (l : List ℕ). In f.number l) en (among f fs m)
 
     touched : (f : Accepted) → Memᴰ f fs → (j : ℕ) → In j f.keys → In j (factor_keys g f.number)
     touched f m j h = subst (λ (l : List ℕ). In j l) (eg f m) h

@@ -23,7 +23,7 @@ use Rattle.graph.specs.declared.Outcome.TheVariants as outcome
 use Rattle.graph.specs.declared.refusal.Refusal.{Refusal}
 use Rattle.graph.specs.declared.refusal.Refusal.TheVariants.{NotLive}
 use Rattle.graph.proofs.Validity.{valid-factor, offset-more}
-use Rattle.graph.proofs.Calls.{not_live, in_place}
+use Rattle.graph.proofs.Calls.{not_live, in_place_lem}
 use Rattle.graph.proofs.Factors.{added_at, added_else}
 use Rattle.graph.proofs.Checking.{by, Taken, variable-cases, prior-cases, observation-cases}
 use Rattle.graph.proofs.Keeping.{Shaped, Good}
@@ -131,7 +131,7 @@ module _ (g : Graph) (ok : Good g) (len : ℕ) (held : offset g g.count ≤ len)
   call_grown (supersede j exposure own) took store s =
       let plain : Added = entered g exposure own in
       by (live_at g j)
-      (λ h. rw (← (in_place g j plain own own ok.1 _ h plain own (refl, refl) refl).0)
+      (λ h. rw (← (in_place_lem g j plain own own ok.1 _ h plain own (refl, refl) refl).0)
       (replacing_grown plain.graph j plain.outcome (entered_grown exposure own took s)))
       (λ h. rw (← (not_live g j plain own own ok.1 _ h refl).0) (turned NotLive))
 

@@ -1,5 +1,4 @@
 -- `cholesky::inverse` meets its contract. The loop's invariant: the slice is the definition's after the columns passed. Assumes nothing.
-use Prim.Native.Nat.{◌-◌}
 use mathlib.Core.Path.{◌≡◌, refl, ap, ◌∙◌}
 use native.Mathlib.Omega.{arith}
 use Rattle.cholesky.specs.Solve.{inverted, solved}
@@ -18,8 +17,11 @@ unit_column-requires c = λ i h. within c.loop-c.invariant.1
 pub solve-requires : goal.solve-requires
 solve-requires c =
     let l = c.loop-c in
-    record { inside = c.requires.inside; by_index = λ i h. within (c.unit_column.auto.x ∙ l.invariant.1)
-          (c.requires.inside_2 i _ h c.loop-c-test.true) }
+    record {
+      inside = c.requires.inside;
+      by_index = λ i h. within (c.unit_column.auto.x ∙ l.invariant.1)
+          (c.requires.inside_2 i _ h c.loop-c-test.true);
+    }
 
 pub overflow_step-c : goal.overflow_step-c
 overflow_step-c c = omega arith
@@ -31,7 +33,7 @@ pub loop-c-preserved : goal.loop-c-preserved
 unfolding inverted
 loop-c-preserved c =
     let l = c.loop-c in
-    (omega arith, omega (arith, c.solve.auto.1.1.1.0, c.unit_column.auto.x, l.invariant.1), sweep-more _ _ _ _ _ l.invariant.2 (c.solve.ensures ∙ ap (solved _ _ _ _ _) c.unit_column.ensures))
+    (omega arith, omega arith, sweep-more _ _ _ _ _ l.invariant.2 (c.solve.ensures ∙ ap (solved _ _ _ _ _) c.unit_column.ensures))
 
 pub returns : goal.returns
 returns c =

@@ -1,5 +1,5 @@
 -- `cholesky::solve_lower` meets its contract. The loop's invariant: the slice is the definition's after the rows passed. Assumes nothing.
-use Prim.Native.Nat.{◌-◌, ◌+◌}
+use Prim.Native.Nat.{◌+◌}
 use mathlib.Core.Path.{◌≡◌, refl}
 use native.Mathlib.Omega.{arith}
 use native.Mathlib.Numerals.{add-one}

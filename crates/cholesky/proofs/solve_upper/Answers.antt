@@ -1,5 +1,4 @@
 -- `cholesky::solve_upper` meets its contract. The loop's invariant: the slice is the definition's after the rows passed, from the last one up. Assumes nothing.
-use Prim.Native.Nat.{◌-◌}
 use mathlib.Core.Path.{◌≡◌, refl}
 use native.Mathlib.Omega.{arith}
 use Rattle.cholesky.specs.Solve.{solve_upper}
@@ -36,13 +35,12 @@ loop-d-smaller c = omega arith
 
 pub loop-d-preserved : goal.loop-d-preserved
 unfolding solve_upper
-loop-d-preserved c =
-    (
-      omega arith,
-      omega (arith, c.put.auto.s),
-      steps-more _ _ _ _ _ _ _ c.loop-d.invariant.2
-          c.solved_row-t.ensures c.put.ensures,
-    )
+loop-d-preserved c = (
+  omega arith,
+  omega (arith, c.put.auto.s),
+  steps-more _ _ _ _ _ _ _ c.loop-d.invariant.2
+      c.solved_row-t.ensures c.put.ensures,
+)
 
 pub returns : goal.returns
 returns c =

@@ -20,28 +20,28 @@ offset_bounds-g-number c =
     let pre = c.requires in
     let loop = c.loop-place in
     let args = c.args in
-    let b : get_or args.slots.now loop.place 0 < args.t1.count = known-below _ args.slots.now pre.1 loop.place (omega arith) in
-    omega (arith, b, valid-count args.t1 pre.0)
+    let b : get_or args.slots.now loop.place 0 < args.g.count = known-below _ args.slots.now pre.1 loop.place (omega arith) in
+    omega (arith, b, valid-count args.g pre.0)
 
 pub bounds-g-number : goal.bounds-g-number
 bounds-g-number c =
     let pre = c.requires in
     let loop = c.loop-place in
     let args = c.args in
-    let b : get_or args.slots.now loop.place 0 < args.t1.count = known-below _ args.slots.now pre.1 loop.place (omega arith) in
-    omega (arith, b, valid-count args.t1 pre.0)
+    let b : get_or args.slots.now loop.place 0 < args.g.count = known-below _ args.slots.now pre.1 loop.place (omega arith) in
+    omega (arith, b, valid-count args.g pre.0)
 
 pub factor_placed-requires : goal.factor_placed-requires
 factor_placed-requires c =
     let args = c.args in
     let pre = c.requires in
-    valid_touched args.t1 pre.0 _ (known-below _ args.slots.now pre.1 c.loop-place.place (omega arith))
+    valid_touched args.g pre.0 _ (known-below _ args.slots.now pre.1 c.loop-place.place (omega arith))
 
 pub returns-then-not-factor_placed : goal.returns-then-not-factor_placed
 unfolding all_placed
 returns-then-not-factor_placed c =
     let args = c.args in
-    sym (all_fail (λ i. factor_placed args.kept.now args.cleared.now (factor_at args.t1 (get_or args.slots.now i 0))) _
+    sym (all_fail (λ i. factor_placed args.kept.now args.cleared.now (factor_at args.g (get_or args.slots.now i 0))) _
     c.loop-place.place (omega arith) (tells c.factor_placed.ensures (not-true _ c.if-not-factor_placed.true-raw)))
 
 pub loop-place-preserved : goal.loop-place-preserved

@@ -23,8 +23,8 @@ unfolding factor_placed
 returns-then-not-placed c =
     let args = c.args in
     let loop = c.loop-place in
-    sym (all_fail (λ j. member (key_at args.t3 j) args.cleared.now || member (key_at args.t3 j) args.kept.now) _ loop.place
-    (omega (arith, loop.invariant.0)) (key-tells args.kept.now args.cleared.now _ (key_at args.t3 loop.place) _ _
+    sym (all_fail (λ j. member (key_at args.f j) args.cleared.now || member (key_at args.f j) args.kept.now) _ loop.place
+    (omega (arith, loop.invariant.0)) (key-tells args.kept.now args.cleared.now _ (key_at args.f loop.place) _ _
     c.wide-key.ensures c.placed.ensures (not-true _ c.if-not-placed.true-raw)))
 
 pub loop-place-preserved : goal.loop-place-preserved
@@ -33,7 +33,7 @@ loop-place-preserved c =
     let loop = c.loop-place in (
       loop.invariant.0,
       omega arith,
-      all_more _ _ loop.invariant.2 (key-tells args.kept.now args.cleared.now _ (key_at args.t3 loop.place) _ _
+      all_more _ _ loop.invariant.2 (key-tells args.kept.now args.cleared.now _ (key_at args.f loop.place) _ _
           c.wide-key.ensures c.placed.ensures (not-false _ c.if-not-placed.false-raw)),
     )
 
@@ -41,5 +41,5 @@ pub returns : goal.returns
 unfolding factor_placed
 returns c =
     let loop = c.loop-place in
-    let e : loop.place ≡ c.args.t3.touched = omega (arith, loop.invariant.0) in
+    let e : loop.place ≡ c.args.f.touched = omega (arith, loop.invariant.0) in
     sym (rw e at loop.invariant.2)

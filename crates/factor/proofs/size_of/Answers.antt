@@ -17,8 +17,8 @@ pub returns-then-key-lt-VARIABLES : goal.returns-then-key-lt-VARIABLES
 returns-then-key-lt-VARIABLES c =
     let args = c.args in (
       c.wide.ensures,
-      let b : get_or args.t1 args.key 0 < 256 = small (search rules) in omega (arith, c.wide.ensures),
+      let b : get_or args.sizes args.key 0 < 256 = small (search rules) in omega (arith, c.wide.ensures),
     )
 
 pub returns-else-key-lt-VARIABLES : goal.returns-else-key-lt-VARIABLES
-returns-else-key-lt-VARIABLES c = (sym (no_size c.args.self c.args.key (search rules)), search rules)
+returns-else-key-lt-VARIABLES c = (sym (no_size c.args.sizes c.args.key (search rules)), search rules)

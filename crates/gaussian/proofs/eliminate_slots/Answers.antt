@@ -21,14 +21,13 @@ pub send-requires : goal.send-requires
 send-requires c =
     let g = c.well_formed in
     let n : length c.args.sizes ≡ 32 = omega arith in
-    let rows = c.rows-1 in
     let all = rw (c.dim_of-u.ensures, c.dim_of-d.ensures) (
       (
         c.requires.asked.total,
-        few_rows n c.requires.asked _ c.eliminate_in.ensures.value _ rows.given.1,
+        few_rows n c.requires.asked _ c.eliminate_in.ensures.value _ c.in-Rows.is,
         omega (arith, c.requires.asked.enough, c.eliminate_in.auto.1.1.0),
       ),
-      has_room n c.requires.asked _ c.eliminate_in.ensures.value _ rows.given.1 _ _ c.requires.roomy,
+      has_room n c.requires.asked _ c.eliminate_in.ensures.value _ c.in-Rows.is _ _ c.requires.roomy,
     ) in record { d_bound = all.0; d_in_bounds = all.1 }
 
 pub returns-in-Rows : goal.returns-in-Rows

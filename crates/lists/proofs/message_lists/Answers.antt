@@ -17,5 +17,5 @@ pub returns : goal.returns
 returns c =
     let args = c.args in
     let pre = c.requires in
-    message_holds args.t1 args.j args.shift _ _ _ _ _ _ pre.1 pre.2 pre.0 c.put_set-k.ensures.list_after c.put_set-k.ensures.upper_bound
+    message_holds args.p args.j args.shift _ _ _ _ _ _ pre.1 pre.2 pre.0 c.put_set-k.ensures.list_after c.put_set-k.ensures.upper_bound
     c.put_set-c.ensures.list_after c.put_set-c.ensures.upper_bound c.put_slots-n.ensures.list_after c.put_slots-n.ensures.value

@@ -44,8 +44,7 @@ loop-k-smaller c = omega arith
 
 pub loop-k-preserved : goal.loop-k-preserved
 loop-k-preserved c =
-    let loop = c.loop-k in
-    (
+    let loop = c.loop-k in (
       omega arith,
       dot-more _ _ _ _ _ _ _ _ _ _ loop.invariant.1 c.get.ensures c.get-x.ensures,
       dot-more _ _ _ _ _ _ _ _ _ _ loop.invariant.2 c.get-in-loop-k.ensures c.get-x.ensures,

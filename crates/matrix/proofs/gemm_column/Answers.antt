@@ -24,12 +24,11 @@ pub loop-i-smaller : goal.loop-i-smaller
 loop-i-smaller c = omega (arith, c.loop-i-test.true)
 
 pub loop-i-preserved : goal.loop-i-preserved
-loop-i-preserved c =
-    (
-      omega (arith, c.loop-i-test.true),
-      omega (arith, c.gemm_four.auto.c),
-      c.gemm_four.ensures _ c.loop-i.invariant.2,
-    )
+loop-i-preserved c = (
+  omega (arith, c.loop-i-test.true),
+  omega (arith, c.gemm_four.auto.c),
+  c.gemm_four.ensures _ c.loop-i.invariant.2,
+)
 
 pub gemm_rows-requires : goal.gemm_rows-requires
 gemm_rows-requires c =

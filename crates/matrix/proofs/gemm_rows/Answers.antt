@@ -21,13 +21,12 @@ pub loop-i-smaller : goal.loop-i-smaller
 loop-i-smaller c = omega arith
 
 pub loop-i-preserved : goal.loop-i-preserved
-loop-i-preserved c =
-    (
-      omega arith,
-      omega (arith, c.meet.auto.c),
-      λ u e. row_met _ c.args.how _ _ _ _ _ _ _ _ u _ _ _ refl
-          (c.loop-i.invariant.2 u e) c.dot.ensures c.meet.ensures,
-    )
+loop-i-preserved c = (
+  omega arith,
+  omega (arith, c.meet.auto.c),
+  λ u e. row_met _ c.args.how _ _ _ _ _ _ _ _ u _ _ _ refl
+      (c.loop-i.invariant.2 u e) c.dot.ensures c.meet.ensures,
+)
 
 pub returns : goal.returns
 returns c =

@@ -14,6 +14,5 @@ returns-in-Done c =
 pub returns-in-Refused : goal.returns-in-Refused
 returns-in-Refused c =
     let args = c.args in
-    let outcome = c.outcome-1.given in
-    let all = all_same args.out.now _ _ _ _ (along_refused args.g args.order.now c.arrange_along-made.result c.arrange_along-made.ensures.result_value _ outcome.1)
-    (c.lay_refusal.ensures.value, c.lay_refusal.ensures.out_after) (refusal-within outcome.0.0 1 0 (omega arith) (omega arith)) in record { value = all.0; out_after = all.1.0; order_len_bound = all.1.1 }
+    let all = all_same args.out.now _ _ _ _ (along_refused args.g args.order.now c.arrange_along-made.result c.arrange_along-made.ensures.result_value _ c.in-Refused.is)
+    (c.lay_refusal.ensures.value, c.lay_refusal.ensures.out_after) (refusal-within c.in-Refused.why 1 0 (omega arith) (omega arith)) in record { value = all.0; out_after = all.1.0; order_len_bound = all.1.1 }

@@ -14,30 +14,30 @@ use Rattle.plan_text.proofs.put_content.Goals as goal
 abbrev text : ℕ → List ℕ
 text s = slot_text (pass_slot s)
 
-returns : goal.returns
+pub loop-i-init : goal.loop-i-init
+loop-i-init c =
+    let args = c.args in
+    (omega arith, c.requires.0, same (part_none text args.content args.from) none)
+
+pub loop-i-preserved : goal.loop-i-preserved
+loop-i-preserved c =
+    let args = c.args in
+    let loop = c.loop-i in (
+      omega arith,
+      omega arith,
+      same (part-more text args.content args.from loop.i loop.invariant.0 (omega arith))
+          (both loop.invariant.2 c.put_slot-to.ensures),
+    )
+
+pub shape_of-out : goal.shape_of-out
+shape_of-out c = long (both c.put_word-to.ensures c.loop-i.invariant.2)
+
+pub returns : goal.returns
 unfolding content_text
 returns c =
     let args = c.args in
     let loop = c.loop-i in
     let e : loop.i ≡ args.end = omega arith in
     both c.put_word-to.ensures (same
-    (ap (λ (i : ℕ). joined text (drop args.from (take i args.t3))) e
-    ∙ joined-map slot_text pass_slot (drop args.from (take args.end args.t3))) loop.invariant.2)
-
-pub bounds-content-i : goal.bounds-content-i
-bounds-content-i c =
-    let args = c.args in
-    (omega arith, c.requires.0, same (part_none text args.t3 args.from) none)
-
-pub shape_of-out : goal.shape_of-out
-shape_of-out c =
-    let args = c.args in
-    let loop = c.loop-i in (
-      omega arith,
-      omega arith,
-      same (part-more text args.t3 args.from loop.i loop.invariant.0 (omega arith))
-          (both loop.invariant.2 c.put_slot-to.ensures),
-    )
-
-pub returns : goal.returns
-returns c = long (both c.put_word-to.ensures c.loop-i.invariant.2)
+    (ap (λ (i : ℕ). joined text (drop args.from (take i args.content))) e
+    ∙ joined-map slot_text pass_slot (drop args.from (take args.end args.content))) loop.invariant.2)

@@ -13,7 +13,7 @@ use Rattle.plan_text.proofs.put_items.Goals as goal
 pub loop-i-init : goal.loop-i-init
 loop-i-init c =
     let args = c.args in
-    (omega arith, c.requires.0, same (part_none field_text args.t4 args.from) none)
+    (omega arith, c.requires.0, same (part_none field_text args.items args.from) none)
 
 pub loop-i-preserved : goal.loop-i-preserved
 loop-i-preserved c =
@@ -21,7 +21,7 @@ loop-i-preserved c =
     let loop = c.loop-i in (
       omega arith,
       omega arith,
-      same (part-more field_text args.t4 args.from loop.i loop.invariant.0 (omega arith))
+      same (part-more field_text args.items args.from loop.i loop.invariant.0 (omega arith))
           (both loop.invariant.2 c.put_field-to.ensures),
     )
 
@@ -34,5 +34,5 @@ returns c =
     let args = c.args in
     let loop = c.loop-i in
     let e : loop.i ≡ args.end = omega arith in
-    both c.put_word-to.ensures (same (ap (λ (i : ℕ). joined field_text (drop args.from (take i args.t4))) e)
+    both c.put_word-to.ensures (same (ap (λ (i : ℕ). joined field_text (drop args.from (take i args.items))) e)
     loop.invariant.2)

@@ -12,7 +12,7 @@ use Rattle.plan_text.proofs.Growing.{taken_none, taken_more}
 use Rattle.plan_text.proofs.put_keys.Goals as goal
 
 pub loop-k-init : goal.loop-k-init
-loop-k-init c = (omega arith, same (taken_none key_text gathered_of c.args.t3.at) none)
+loop-k-init c = (omega arith, same (taken_none key_text gathered_of c.args.plan.at) none)
 
 pub bounds-plan-k : goal.bounds-plan-k
 bounds-plan-k c = omega (arith, c.requires.0)
@@ -32,7 +32,7 @@ loop-k-preserved c =
     let pre = c.requires in
     let loop = c.loop-k in (
       omega arith,
-      same (taken_more key_text gathered_of args.t3.at loop.k no_gathered (omega (arith, pre.0, pre.1.long)))
+      same (taken_more key_text gathered_of args.plan.at loop.k no_gathered (omega (arith, pre.0, pre.1.long)))
           (both loop.invariant.1 c.put_key-to.ensures),
     )
 
@@ -44,4 +44,4 @@ returns c =
     let args = c.args in
     let loop = c.loop-k in
     let e : loop.k ≡ args.n = omega arith in
-    same (ap (λ (k : ℕ). numbered key_text 0 (map gathered_of (take k args.t3.at))) e) loop.invariant.1
+    same (ap (λ (k : ℕ). numbered key_text 0 (map gathered_of (take k args.plan.at))) e) loop.invariant.1

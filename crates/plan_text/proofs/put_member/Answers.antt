@@ -1,4 +1,5 @@
 -- `plan_text::put_member` meets its contract: by whether the digit of the set is 1. Assumes nothing.
+use mathlib.Core.List.{[]}
 use mathlib.Core.Path.{sym, ap, ◌∙◌}
 use mathlib.Core.Bool.{Bool}
 use Rattle.schedule.specs.Count.{joined, put_if}

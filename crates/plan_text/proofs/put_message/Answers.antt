@@ -1,7 +1,7 @@
 -- `plan_text::put_message` meets its contract: the parts of the line, one after another; the content stands within the array of all contents. Assumes nothing.
 use Prim.Native.Nat.{ℕ, ◌+◌}
 use mathlib.Core.Path.{◌≡◌}
-use mathlib.Core.List.{List, ◌∷◌, ◌++◌, map}
+use mathlib.Core.List.{List, [], ◌∷◌, ◌++◌, map}
 use native.Mathlib.Omega.{arith}
 use lib.ListN.{get_or, take, drop}
 use lib.Seq.{get_or-drop}
@@ -22,22 +22,21 @@ line : (name : List ℕ) (p : Pass) (j : ℕ) → named_text name j ++ named_tex
 unfolding message_text msg_at
 line name p j = rw (get_or-drop max_factors p.masks j 0)
 
-returns : goal.returns
+pub put_content-to-requires : goal.put_content-to-requires
+put_content-to-requires c =
+    let args = c.args in
+    let pre = c.requires in (
+      pre.pass_ready.ordered args.j pre.j_lt_count,
+      omega (arith, pre.pass_ready.closed args.j pre.j_lt_count, pre.pass_ready.room.contents.few),
+    )
+
+pub returns : goal.returns
 returns c =
-    let back8 = c.before.before.before.before.before.before.before.before in
-    let back16 = back8.before.before.before.before.before.before.before.before in
-    let back24 = back16.before.before.before.before.before.before.before.before in
-    let back32 = back24.before.before.before.before.before.before.before.before in
-    let args = back32.args in
-    let lead = back24.put_named-to.ensures in
-    let step = back16.put_named-to-2.ensures in
-    let content = back16.put-content.ensures in
-    let kept = back8.put_set-to.ensures in
+    let args = c.args in
+    let lead = c.put_named-to.ensures in
+    let step = c.put_named-to-2.ensures in
+    let content = c.put_content-to.ensures in
+    let kept = c.put_set-to.ensures in
     let cleared = c.put_set-to-2.ensures in
     let end = c.put.ensures in
-    same (line args.name.now args.t4 args.j) (both (both (both (both (both lead step) content) kept) cleared) end)
-
-pub put_set-to-requires : goal.put_set-to-requires
-put_set-to-requires c =
-    let args = c.args in
-    (c.requires.pass_ready.ordered args.j c.requires.j_lt_count, omega (arith, c.requires.pass_ready.closed args.j c.requires.j_lt_count, c.requires.pass_ready.room.contents.few))
+    same (line args.name.now args.messages args.j) (both (both (both (both (both lead step) content) kept) cleared) end)

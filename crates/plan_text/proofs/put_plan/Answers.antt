@@ -6,22 +6,18 @@ use Rattle.plan_text.specs.Text.{plan_text}
 use Rattle.text.proofs.Putting.{both}
 use Rattle.plan_text.proofs.put_plan.Goals as goal
 
-returns : goal.returns
-unfolding plan_text plan_in
-returns c =
-    let forward = c.put_pass-one.ensures in
-    let backward = c.put_pass-two.ensures in
-    let keys = c.put_keys.ensures in
-    both (both forward backward) keys
+pub put_pass-one-requires : goal.put_pass-one-requires
+put_pass-one-requires c =
+    let args = c.args in
+    let pre = c.requires in
+    ready_later args.n max_variables args.plan.forward args.plan.forward.active pre.0 pre.1.forward
 
 pub put_pass-two-requires : goal.put_pass-two-requires
 put_pass-two-requires c =
     let args = c.args in
     let pre = c.requires in
-    ready_later args.n max_variables args.plan.forward args.plan.forward.active pre.0 pre.1.forward
-
-pub shape_of-out : goal.shape_of-out
-shape_of-out c =
-    let args = c.args in
-    let pre = c.requires in
     ready_later args.n max_variables args.plan.backward args.plan.backward.active pre.0 pre.1.backward
+
+pub returns : goal.returns
+unfolding plan_text plan_in
+returns c = both (both c.put_pass-one.ensures c.put_pass-two.ensures) c.put_keys.ensures

@@ -19,6 +19,5 @@ pub returns-in-Refused : goal.returns-in-Refused
 unfolding of_bits
 returns-in-Refused c =
     let args = c.args in
-    let ended = c.ended-1.given in
-    let all = all_same args.out.now _ _ _ _ (refused args.bytes.now _ c.read-read.result c.read-read.ensures.value.0 c.read-read.ensures.store_after _ _ ended.1)
-    (c.lay_refusal.ensures.value, c.lay_refusal.ensures.out_after) (refusal-within ended.0.0 0 ended.0.1.0 (omega arith) (omega arith)) in record { value = all.0; out_after = all.1.0; bytes_len_bound = all.1.1 }
+    let all = all_same args.out.now _ _ _ _ (refused args.bytes.now _ c.read-read.result c.read-read.ensures.value.0 c.read-read.ensures.store_after _ _ c.in-Refused.is)
+    (c.lay_refusal.ensures.value, c.lay_refusal.ensures.out_after) (refusal-within c.in-Refused.why 0 c.in-Refused.place (omega arith) (omega arith)) in record { value = all.0; out_after = all.1.0; bytes_len_bound = all.1.1 }

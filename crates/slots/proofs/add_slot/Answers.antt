@@ -42,8 +42,11 @@ numbers-nums-requires c = c.requires.slot_ready.stored
 pub add_view-requires : goal.add_view-requires
 add_view-requires c =
     let args = c.args in
-    record { frame_laid = c.requires.frame_laid; fitted = refit (slot_store args.h.slot args.factors.now args.messages.now) _ args.h.at c.numbers-nums.ensures
-          c.requires.slot_ready.stored c.requires.slot_ready.fitted }
+    record {
+      frame_laid = c.requires.frame_laid;
+      fitted = refit (slot_store args.h.slot args.factors.now args.messages.now) _ args.h.at c.numbers-nums.ensures
+          c.requires.slot_ready.stored c.requires.slot_ready.fitted;
+    }
 
 pub rows_of-requires : goal.rows_of-requires
 rows_of-requires c = prior-key c.requires.slot_ready
@@ -56,6 +59,9 @@ overflow_add-result c =
 pub returns : goal.returns
 returns c =
     let args = c.args in
-    record { value = ap (λ (k : ℕ). args.row + k) (c.rows_of.ensures ∙ rows_is c.requires.slot_ready); work_after = view_read args.branch args.f args.layout args.row args.h.prior (head_keys args.keys.now args.h) args.h.rows
+    record {
+      value = ap (λ (k : ℕ). args.row + k) (c.rows_of.ensures ∙ rows_is c.requires.slot_ready);
+      work_after = view_read args.branch args.f args.layout args.row args.h.prior (head_keys args.keys.now args.h) args.h.rows
           args.h.width _ _ _ _ c.numbers-nums.ensures
-          c.add_view.ensures }
+          c.add_view.ensures;
+    }

@@ -28,8 +28,11 @@ head_at-h-requires c =
 pub add_slot-row-requires : goal.add_slot-row-requires
 add_slot-row-requires c =
     let loop = c.loop-i in
-    record { frame_laid = relaid c.args.f loop.invariant.2 c.requires.frame_laid; slot_ready = re_ready loop.invariant.4 loop.invariant.3 c.head_at-h.ensures
-          (c.requires.by_index loop.i (omega (arith, c.loop-i-test.true, loop.invariant.1))) }
+    record {
+      frame_laid = relaid c.args.f loop.invariant.2 c.requires.frame_laid;
+      slot_ready = re_ready loop.invariant.4 loop.invariant.3 c.head_at-h.ensures
+          (c.requires.by_index loop.i (omega (arith, c.loop-i-test.true, loop.invariant.1)));
+    }
 
 pub overflow_step-i : goal.overflow_step-i
 overflow_step-i c = omega (
@@ -45,8 +48,7 @@ loop-i-smaller c = omega arith
 pub loop-i-preserved : goal.loop-i-preserved
 loop-i-preserved c =
     let args = c.args in
-    let loop = c.loop-i in
-    (
+    let loop = c.loop-i in (
       omega (arith, c.loop-i-test.true),
       omega (arith, loop.invariant.1),
       c.add_slot-row.auto.work ∙ loop.invariant.2,

@@ -14,27 +14,27 @@ loop-number-init c = (search rules, refl, refl, search rules, no_offset _, refl,
 
 pub offset_bounds-g-number : goal.offset_bounds-g-number
 offset_bounds-g-number c =
-    omega (arith, valid-count c.args.self c.requires.g_value)
+    omega (arith, valid-count c.args.g c.requires.g_value)
 
 pub bounds-g-number : goal.bounds-g-number
 bounds-g-number c =
-    omega (arith, valid-count c.args.self c.requires.g_value)
+    omega (arith, valid-count c.args.g c.requires.g_value)
 
 pub put_original-requires : goal.put_original-requires
 put_original-requires c =
     let args = c.args in
     let loop = c.loop-number in
-    record { number_lt_max_factors = (omega (arith, loop.invariant.1, valid-count args.t1 c.requires.g_value), valid_touched args.t1 c.requires.g_value loop.number (omega (arith, loop.invariant.1))); max_factors_in_bounds = (omega (arith, loop.invariant.5, c.requires.max_factors_in_bounds.0), omega (arith, loop.invariant.6, c.requires.max_factors_in_bounds.1)) }
+    record { number_lt_max_factors = (omega (arith, loop.invariant.1, valid-count args.g c.requires.g_value), valid_touched args.g c.requires.g_value loop.number (omega (arith, loop.invariant.1))); max_factors_in_bounds = (omega (arith, loop.invariant.5, c.requires.max_factors_in_bounds.0), omega (arith, loop.invariant.6, c.requires.max_factors_in_bounds.1)) }
 
 pub numbers-at-requires : goal.numbers-at-requires
 numbers-at-requires c =
     let loop = c.loop-number in
-    valid_touched c.args.self c.requires.g_value loop.number (omega (arith, loop.invariant.1))
+    valid_touched c.args.g c.requires.g_value loop.number (omega (arith, loop.invariant.1))
 
 pub overflow_add-at : goal.overflow_add-at
 overflow_add-at c =
     let loop = c.loop-number in
-    omega (arith, c.numbers-at.ensures.1, loop.invariant.3, loop.invariant.1, valid-count c.args.self c.requires.g_value)
+    omega (arith, c.numbers-at.ensures.1, loop.invariant.3, loop.invariant.1, valid-count c.args.g c.requires.g_value)
 
 pub loop-number-preserved : goal.loop-number-preserved
 loop-number-preserved c =
@@ -45,11 +45,11 @@ loop-number-preserved c =
       loop.invariant.1,
       loop.invariant.2,
       omega (arith, c.numbers-at.ensures.1, loop.invariant.3),
-      next-offset args.t1 loop.number loop.at _ (factor_at args.t1 loop.number) refl loop.invariant.4 c.numbers-at.ensures.0,
+      next-offset args.g loop.number loop.at _ (factor_at args.g loop.number) refl loop.invariant.4 c.numbers-at.ensures.0,
       c.put_original.auto.1.1.1.1.0 ∙ loop.invariant.5,
       c.put_original.auto.1.1.1.1.1.0 ∙ loop.invariant.6,
-      entered-more args.t1 c.requires.g_value loop.keys loop.heads (omega (arith, loop.invariant.5, c.requires.max_factors_in_bounds.0)) (omega (arith, loop.invariant.6, c.requires.max_factors_in_bounds.1))
-          loop.number loop.at (factor_at args.t1 loop.number) _ _ (omega (arith, loop.invariant.1)) loop.invariant.4 refl
+      entered-more args.g c.requires.g_value loop.keys loop.heads (omega (arith, loop.invariant.5, c.requires.max_factors_in_bounds.0)) (omega (arith, loop.invariant.6, c.requires.max_factors_in_bounds.1))
+          loop.number loop.at (factor_at args.g loop.number) _ _ (omega (arith, loop.invariant.1)) loop.invariant.4 refl
           c.put_original.ensures.keys_after c.put_original.ensures.heads_after loop.invariant.7,
     )
 

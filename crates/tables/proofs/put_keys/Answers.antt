@@ -11,7 +11,7 @@ use Rattle.tables.proofs.put_keys.Goals as goal
 pub loop-place-init : goal.loop-place-init
 loop-place-init c =
     let args = c.args in
-    (search rules, paste-zero args.keys.now args.first args.t3.keys, refl, search rules)
+    (search rules, paste-zero args.keys.now args.first args.f.keys, refl, search rules)
 
 pub offset_bounds-keys-first : goal.offset_bounds-keys-first
 offset_bounds-keys-first c =
@@ -23,7 +23,7 @@ loop-place-preserved c =
     let args = c.args in
     let loop = c.loop-place in (
       omega arith,
-      copy_more args.keys.now loop.keys args.first args.t3.keys loop.place _ 0 loop.invariant.1 c.wide.ensures (omega arith) (omega arith),
+      copy_more args.keys.now loop.keys args.first args.f.keys loop.place _ 0 loop.invariant.1 c.wide.ensures (omega arith) (omega arith),
       simp length-set loop.invariant.2,
       loop.invariant.3,
     )
@@ -35,6 +35,6 @@ pub returns : goal.returns
 returns c =
     let loop = c.loop-place in
     let args = c.args in (
-      copy_done args.keys.now loop.keys args.first args.t3.keys loop.place loop.invariant.1 (omega arith),
+      copy_done args.keys.now loop.keys args.first args.f.keys loop.place loop.invariant.1 (omega arith),
       loop.invariant.3,
     )

@@ -1,5 +1,4 @@
 -- `workspace::copy` meets its contract. The loop's invariant: the elements passed are the source's. Assumes nothing.
-use Prim.Native.Nat.{◌-◌}
 use mathlib.Core.Path.{refl}
 use native.Mathlib.Omega.{arith}
 use lib.ListN.{length-set}

@@ -27,8 +27,12 @@ slice_bounds-gemm-end c =
 pub gemm-requires : goal.gemm-requires
 gemm-requires c =
     let args = c.args in
-    record { inside = λ i j hi hj. within (long args.f args.work.now c.requires.frame_laid args.which _ _ c.begin-p.ensures c.end-q.ensures)
-          (c.requires.inside i j hi hj); inside_2 = c.requires.inside_2; inside_3 = c.requires.inside_3 }
+    record {
+      inside = λ i j hi hj. within (long args.f args.work.now c.requires.frame_laid args.which _ _ c.begin-p.ensures c.end-q.ensures)
+          (c.requires.inside i j hi hj);
+      inside_2 = c.requires.inside_2;
+      inside_3 = c.requires.inside_3;
+    }
 
 pub returns : goal.returns
 returns c =

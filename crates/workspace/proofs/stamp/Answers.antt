@@ -1,5 +1,4 @@
 -- `workspace::stamp` meets its contract. The loop's invariant: the slice is the definition's after the columns passed. Assumes nothing.
-use Prim.Native.Nat.{◌-◌}
 use mathlib.Core.Path.{◌≡◌, refl}
 use native.Mathlib.Omega.{arith}
 use native.Mathlib.Numerals.{add-one}

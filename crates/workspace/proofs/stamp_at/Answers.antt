@@ -27,8 +27,11 @@ slice_bounds-stamp-end c =
 pub stamp-requires : goal.stamp-requires
 stamp-requires c =
     let args = c.args in
-    record { inside = λ i j hi hj. within (long args.f args.work.now c.requires.frame_laid args.which _ _ c.begin-p.ensures c.end-q.ensures)
-          (c.requires.inside i j hi hj); inside_2 = c.requires.inside_2 }
+    record {
+      inside = λ i j hi hj. within (long args.f args.work.now c.requires.frame_laid args.which _ _ c.begin-p.ensures c.end-q.ensures)
+          (c.requires.inside i j hi hj);
+      inside_2 = c.requires.inside_2;
+    }
 
 pub returns : goal.returns
 returns c =

@@ -1,5 +1,4 @@
 -- `workspace::zero` meets its contract. The loop's invariant: the numbers passed are zero. Assumes nothing.
-use Prim.Native.Nat.{◌-◌}
 use mathlib.Core.Path.{◌≡◌, refl}
 use native.Mathlib.Omega.{arith}
 use native.Mathlib.Numerals.{add-one}

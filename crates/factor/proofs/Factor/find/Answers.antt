@@ -1,5 +1,5 @@
 -- `factor::Factor::find` meets its contract: the block at the place that the lookup tells. Assumes nothing.
-use Prim.Native.Nat.{◌<◌, ℕ}
+use Prim.Native.Nat.{◌-◌, ◌<◌, ℕ, min}
 use mathlib.Core.List.{List}
 use mathlib.Core.Path.{◌≡◌, sym}
 use native.Mathlib.Omega.{arith}
@@ -27,18 +27,10 @@ module _ (sizes : List ℕ) (f : Factor) (key : ℕ) (r : Looked) (e : r ≡ loo
   within : (j : ℕ) → r.place ≡ At j → j < length f.keys
   within j at = (place-within f.keys key f.touched j (rw (sym e) at)).1
 
-abbrev entry : goal.After-lookup-looked → goal.Start
-entry c = c.before.before.before.before.before.before
-
-full : (c : goal.After-lookup-looked) → length (entry c).args.self.keys ≡ max_keys
-full c = search rules
-
 -- the places lent are those of the factor's keys
-of_keys : (c : goal.After-lookup-looked) → c.lookup-looked.result ≡ lookup (take (entry c).args.self.touched (entry c).args.self.keys) (entry c).args.key
-of_keys c =
-    let args = (entry c).args in
-    lent args.self.keys args.key args.self.touched c.least-used.result c.lookup-looked.result
-    (omega (arith, c.least-used.ensures, c.wide.ensures, full c)) c.lookup-looked.ensures
+of_keys : (f : Factor) (key wide used : ℕ) (r : Looked) → length f.keys ≡ max_keys → wide ≡ f.touched → used ≡ min wide max_keys
+    → r ≡ lookup (take (used - 0) f.keys) key → r ≡ lookup (take f.touched f.keys) key
+of_keys f key wide used r full ew eu er = lent f.keys key f.touched used r (omega arith) er
 
 pub slice_bounds-lookup-end : goal.slice_bounds-lookup-end
 slice_bounds-lookup-end c =
@@ -46,29 +38,30 @@ slice_bounds-lookup-end c =
 
 pub returns-in_default : goal.returns-in_default
 returns-in_default c =
-    let at = c.before.before in
-    absent (entry at).args.sizes (entry at).args.self (entry at).args.key at.lookup-looked.result (of_keys at) c.in_default.is
+    let full : length c.args.self.keys ≡ max_keys = search rules in
+    absent c.args.sizes c.args.self c.args.key c.lookup-looked.result (of_keys c.args.self c.args.key _ _ c.lookup-looked.result full c.wide.ensures
+    c.least-used.ensures c.lookup-looked.ensures) c.in_default.is
 
 pub first_column-first-requires : goal.first_column-first-requires
 first_column-first-requires c =
-    let at = c.before.before.before in
-    let args = (entry at).args in
+    let full : length c.args.self.keys ≡ max_keys = search rules in
     omega (
       arith,
-      full at,
-      within args.sizes args.self args.key at.lookup-looked.result (of_keys at) c.in-At.place
-          c.in-At.is,
+      full,
+      within c.args.sizes c.args.self c.args.key c.lookup-looked.result (of_keys c.args.self c.args.key _ _ c.lookup-looked.result full c.wide.ensures
+          c.least-used.ensures c.lookup-looked.ensures) c.in-At.place c.in-At.is,
     )
 
 pub bounds-keys-place : goal.bounds-keys-place
 bounds-keys-place c =
-    let at = c.before.before.before.before in
-    let args = (entry at).args in
-    rw (sym (full at)) (within args.sizes args.self args.key at.lookup-looked.result (of_keys at) _ c.in-At.is)
+    let full : length c.args.self.keys ≡ max_keys = search rules in
+    let b : c.in-At.place < length c.args.self.keys = within c.args.sizes c.args.self c.args.key c.lookup-looked.result (of_keys c.args.self c.args.key
+    _ _ c.lookup-looked.result full c.wide.ensures c.least-used.ensures c.lookup-looked.ensures) _ c.in-At.is in
+    omega arith
 
 pub returns : goal.returns
 returns c =
-    let at = c.before.before.before.before.before.before in
-    let args = (entry at).args in
-    present args.sizes args.self args.key at.lookup-looked.result (of_keys at) _ _ c.wide-2.result _
-    c.in-At.is c.first_column-first.ensures.0 c.wide-2.ensures c.size_of-size.ensures.0
+    let full : length c.args.self.keys ≡ max_keys = search rules in
+    present c.args.sizes c.args.self c.args.key c.lookup-looked.result (of_keys c.args.self c.args.key _ _ c.lookup-looked.result full c.wide.ensures
+    c.least-used.ensures c.lookup-looked.ensures) _ _ c.wide-2.result _ c.in-At.is c.first_column-first.ensures.0 c.wide-2.ensures
+    c.size_of-size.ensures.0

@@ -24,7 +24,7 @@ loop-earlier-preserved c =
     let loop = c.loop-earlier in (
       omega arith,
       omega (arith, c.size_of-sum.ensures.1, loop.invariant.1),
-      ap (λ (x : ℕ). x + c.size_of-sum.result) loop.invariant.2 ∙ sym (first_more args.sizes args.t1.keys loop.earlier c.wide.result
+      ap (λ (x : ℕ). x + c.size_of-sum.result) loop.invariant.2 ∙ sym (first_more args.sizes args.self.keys loop.earlier c.wide.result
           c.size_of-sum.result c.wide.ensures c.size_of-sum.ensures.0),
     )
 
@@ -33,4 +33,4 @@ returns c =
     let args = c.args in
     let loop = c.loop-earlier in
     let e : loop.earlier ≡ args.place = omega (arith, loop.invariant.0) in
-    (loop.invariant.2 ∙ ap (first_column args.sizes args.t1.keys) e, omega (arith, loop.invariant.1, c.requires))
+    (loop.invariant.2 ∙ ap (first_column args.sizes args.self.keys) e, omega (arith, loop.invariant.1, c.requires))

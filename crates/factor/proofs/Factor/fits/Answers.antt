@@ -5,7 +5,7 @@ use mathlib.Core.List.{List}
 use mathlib.Core.Path.{◌≡◌}
 use native.Mathlib.Omega.{arith}
 use borrow.Author.Rules.{rules}
-use borrow.Author.Tests.{le-leb, lt-leb, not-false, not-true}
+use borrow.Author.Tests.{le-leb, lt-leb}
 use Rattle.factor.proofs.Counting.{all_fail, all_more, all_none, tells}
 use Rattle.factor.specs.Counting.{all, every}
 use Rattle.factor.specs.Factor.{fits, key_fits, rows_fit}
@@ -44,7 +44,7 @@ pub returns-then-not-rows_fit : goal.returns-then-not-rows_fit
 returns-then-not-rows_fit c =
     let args = c.args in (
       bad-rows args.sizes args.variables args.self (rw c.wide.ensures at c.if-wide-gt-KEYS.false)
-          (tells c.rows_fit.ensures (not-true _ c.if-not-rows_fit.true-raw)),
+          (tells c.rows_fit.ensures c.if-not-rows_fit.true),
       search rules,
     )
 
@@ -56,19 +56,19 @@ returns-then-not-key_fits c =
     let args = c.args in (
       bad-key args.sizes args.variables args.self (rw c.wide.ensures at
           c.if-wide-gt-KEYS.false)
-          (tells c.rows_fit.ensures (not-false _ c.if-not-rows_fit.false-raw))
-          c.loop-place.place (search rules) (tells c.key_fits.ensures (not-true _ c.if-not-key_fits.true-raw)),
+          (tells c.rows_fit.ensures c.if-not-rows_fit.false)
+          c.loop-place.place (search rules) (tells c.key_fits.ensures c.if-not-key_fits.true),
       search rules,
     )
 
 pub loop-place-preserved : goal.loop-place-preserved
-loop-place-preserved c = (search rules, all_more _ _ c.loop-place.invariant.1 (tells c.key_fits.ensures (not-false _ c.if-not-key_fits.false-raw)))
+loop-place-preserved c = (search rules, all_more _ _ c.loop-place.invariant.1 (tells c.key_fits.ensures c.if-not-key_fits.false))
 
 pub returns : goal.returns
 returns c =
     let args = c.args in (
       all_fit args.sizes args.variables args.self (rw c.wide.ensures at
           c.if-wide-gt-KEYS.false) (tells c.rows_fit.ensures
-          (not-false _ c.if-not-rows_fit.false-raw)) c.loop-place.place (omega arith) c.loop-place.invariant.1,
+          c.if-not-rows_fit.false) c.loop-place.place (omega arith) c.loop-place.invariant.1,
       search rules,
     )

@@ -3,7 +3,7 @@ use Prim.Native.Nat.{◌<◌, ◌≤◌, ℕ}
 use mathlib.Core.Bool.{and-true, false, true}
 use mathlib.Core.List.{List}
 use mathlib.Core.Path.{◌≡◌}
-use borrow.Author.Tests.{eq-eqb, le-leb, lt-leb, ne_eqb, not-false, not-true}
+use borrow.Author.Tests.{eq-eqb, le-leb, lt-leb, ne_eqb}
 use lib.Dec.{eqb, leb}
 use Rattle.factor.specs.Counting.{every}
 use Rattle.factor.specs.Factor.{key_at, rows_fit, size_of}
@@ -32,20 +32,20 @@ module _ (sizes : List ℕ) (f : Factor) (rows : ℕ) (e : rows ≡ f.rows) wher
 pub returns-then-rows-ge1 : goal.returns-then-rows-ge1
 returns-then-rows-ge1 c =
     let args = c.args in
-    some-rows args.sizes args.t1 c.wide-rows.result c.wide-rows.ensures (not-true args.t1.prior c.if-not-self.true-raw) c.if-rows-ge1.true
+    some-rows args.sizes args.self c.wide-rows.result c.wide-rows.ensures c.if-not-self.true c.if-rows-ge1.true
 
 pub returns-else-rows-ge1 : goal.returns-else-rows-ge1
 returns-else-rows-ge1 c =
     let args = c.args in
-    no_rows args.sizes args.t1 c.wide-rows.result c.wide-rows.ensures (not-true args.t1.prior c.if-not-self.true-raw) c.if-rows-ge1.false
+    no_rows args.sizes args.self c.wide-rows.result c.wide-rows.ensures c.if-not-self.true c.if-rows-ge1.false
 
 pub returns-then-self-ne1 : goal.returns-then-self-ne1
 returns-then-self-ne1 c =
     let args = c.args in
-    not-one args.sizes args.t1 c.wide-rows.result c.wide-rows.ensures (not-false args.t1.prior c.if-not-self.false-raw) c.if-self-ne1.true
+    not-one args.sizes args.self c.wide-rows.result c.wide-rows.ensures c.if-not-self.false c.if-self-ne1.true
 
 pub returns : goal.returns
 returns c =
     let args = c.args in
-    prior-rows args.sizes args.t1 c.wide-rows.result c.wide-rows.ensures (not-false args.t1.prior c.if-not-self.false-raw)
+    prior-rows args.sizes args.self c.wide-rows.result c.wide-rows.ensures c.if-not-self.false
     c.if-self-ne1.false c.size_of.result c.wide.result c.wide.ensures c.size_of.ensures.0

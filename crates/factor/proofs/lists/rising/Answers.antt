@@ -3,7 +3,6 @@ use Prim.Native.Nat.{◌-◌}
 use mathlib.Core.Path.{◌≡◌, refl, sym}
 use native.Mathlib.Omega.{arith}
 use borrow.Author.Rules.{rules}
-use borrow.Author.Tests.{not-false, not-true}
 use lib.ListN.{length}
 use Rattle.factor.proofs.Counting.{all_fail, all_more, all_none, tells}
 use Rattle.factor.specs.Factor.{above}
@@ -14,14 +13,14 @@ loop-place-init c = (refl, search rules, all_none _)
 
 pub returns-then-not-above : goal.returns-then-not-above
 returns-then-not-above c = sym (all_fail (λ j. above c.args.keys.now j) _ c.loop-place.place
-    (omega arith) (tells c.above.ensures (not-true _ c.if-not-above.true-raw)))
+    (omega arith) (tells c.above.ensures c.if-not-above.true))
 
 pub loop-place-preserved : goal.loop-place-preserved
 loop-place-preserved c =
     let loop = c.loop-place in (
       loop.invariant.0,
       omega arith,
-      all_more _ _ loop.invariant.2 (tells c.above.ensures (not-false _ c.if-not-above.false-raw)),
+      all_more _ _ loop.invariant.2 (tells c.above.ensures c.if-not-above.false),
     )
 
 pub returns : goal.returns

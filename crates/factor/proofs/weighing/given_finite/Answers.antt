@@ -2,7 +2,6 @@
 use mathlib.Core.Bool.{and-true, false, true}
 use mathlib.Core.List.{List}
 use mathlib.Core.Path.{◌∙◌, ◌≡◌}
-use borrow.Author.Tests.{not-false, not-true}
 use lib.Ieee.{Float}
 use Rattle.factor.proofs.Counting.{tells}
 use Rattle.factor.specs.Counting.{every}
@@ -27,18 +26,18 @@ module _ (a mean variance : List Float) where
 pub returns-then-not-finite : goal.returns-then-not-finite
 returns-then-not-finite c =
     let args = c.args in
-    not_a args.a.now args.mean.now args.variance.now (tells c.finite.ensures (not-true _ c.if-not-finite.true-raw))
+    not_a args.a.now args.mean.now args.variance.now (tells c.finite.ensures c.if-not-finite.true)
 
 pub returns-then-not-finite-2 : goal.returns-then-not-finite-2
 returns-then-not-finite-2 c =
     let args = c.args in
     not-mean args.a.now args.mean.now args.variance.now
-    (tells c.finite.ensures (not-false _ c.if-not-finite.false-raw))
-    (tells c.finite-2.ensures (not-true _ c.if-not-finite-2.true-raw))
+    (tells c.finite.ensures c.if-not-finite.false)
+    (tells c.finite-2.ensures c.if-not-finite-2.true)
 
 pub returns : goal.returns
 returns c =
     let args = c.args in
     c.finite-3.ensures ∙ left args.a.now args.mean.now args.variance.now
-    (tells c.finite.ensures (not-false _ c.if-not-finite.false-raw))
-    (tells c.finite-2.ensures (not-false _ c.if-not-finite-2.false-raw))
+    (tells c.finite.ensures c.if-not-finite.false)
+    (tells c.finite-2.ensures c.if-not-finite-2.false)

@@ -27,7 +27,7 @@ copy_in-requires-5 c =
     let args = c.args in
     omega (
       arith,
-      c.exchange.auto.1.1.1.0,
+      c.exchange.auto.y,
       ap length c.requires.form_lent.of_y,
       length-replicate (args.n * args.n) plus_zero,
       c.copy_in-4.auto.dst,
@@ -39,6 +39,6 @@ pub returns : goal.returns
 returns c =
     let args = c.args in
     let all = when_done args.n args.at args.a.now args.mean.now args.variance.now args.store.now _ _ _ _ _ _ c.exchange.result c.requires.factor_room
-    c.requires.form_lent.of_l c.requires.form_lent.of_x c.copy_in.ensures c.copy_in-2.ensures c.exchange.ensures c.in-Done.is _ _ _ (omega (arith, c.exchange.kept.1.1.0, c.copy_in-2.kept.0, c.requires.form_lent.of_x))
+    c.requires.form_lent.of_l c.requires.form_lent.of_x c.copy_in.ensures c.copy_in-2.ensures c.exchange.ensures c.in-Done.is _ _ _ (omega (arith, c.exchange.auto.x, c.copy_in-2.auto.dst, c.requires.form_lent.of_x))
     c.copy_in-3.ensures
     c.copy_in-4.ensures c.copy_in-5.ensures in record { value = all.0; store_after = all.1 }

@@ -33,11 +33,13 @@ unfolding of_bits
 store_by-requires c =
     let args = c.args in
     let pre = c.requires in
-    record { factor_room = pre; form_lent = lent args.n _ _ _ (front_replicate plus_zero (max_rows * max_rows) (args.n * args.n) (room args.n pre.rows))
+    record {
+      factor_room = pre;
+      form_lent = lent args.n _ _ _ (front_replicate plus_zero (max_rows * max_rows) (args.n * args.n) (room args.n pre.rows))
           (front_replicate plus_zero max_rows args.n pre.rows) (front_replicate plus_zero (max_rows * max_rows) (args.n * args.n)
-          (room args.n pre.rows)) }
+          (room args.n pre.rows));
+    }
 
 pub returns : goal.returns
 returns c =
-    let e = (c.store_by.ensures.value, c.store_by.ensures.store_after) in
-    record { value = e.0; store_after = e.1; result_value = weighed_tells _ _ e.0 }
+    record { value = c.store_by.ensures.value; store_after = c.store_by.ensures.store_after; result_value = weighed_tells _ _ c.store_by.ensures.value }

@@ -2,7 +2,6 @@
 use Prim.Native.Nat.{◌-◌}
 use mathlib.Core.Path.{◌≡◌, sym, ◌∙◌}
 use native.Mathlib.Omega.{arith}
-use borrow.Author.Tests.{not-false, not-true}
 use Rattle.factor.proofs.Counting.{all_fail, all_more, all_none, tells}
 use Rattle.factor.proofs.Symmetry.{above_decides}
 use Rattle.factor.specs.Counting.{all}
@@ -18,10 +17,10 @@ returns-then-not-column_mirrored c =
     let column = c.loop-j.j in
     sym (above_decides args.n args.s.now c.requires.0 c.requires.1
     ∙ all_fail (λ k. all (λ i. mirrored args.n args.s.now i k) k) args.n (column) (omega arith)
-    (tells c.column_mirrored.ensures (not-true _ c.if-not-column_mirrored.true-raw)))
+    (tells c.column_mirrored.ensures c.if-not-column_mirrored.true))
 
 pub loop-j-preserved : goal.loop-j-preserved
-loop-j-preserved c = (omega arith, all_more _ _ c.loop-j.invariant.1 (tells c.column_mirrored.ensures (not-false _ c.if-not-column_mirrored.false-raw)))
+loop-j-preserved c = (omega arith, all_more _ _ c.loop-j.invariant.1 (tells c.column_mirrored.ensures c.if-not-column_mirrored.false))
 
 pub returns : goal.returns
 returns c =

@@ -35,9 +35,8 @@ pub offset_bounds-work-p : goal.offset_bounds-work-p
 offset_bounds-work-p c =
     let g = c.well_formed in
     let n : length c.args.sizes ≡ 32 = omega arith in
-    let rows = c.rows-1 in
-    let h = few_rows n c.requires.asked _ c.eliminate_in.ensures.value _ rows.given.1 in
-    let s = spans c.dim_of.result rows.given.0.0 c.dim_of-size.result _ c.frame_of-f.ensures
+    let h = few_rows n c.requires.asked _ c.eliminate_in.ensures.value _ c.in-Rows.is in
+    let s = spans c.dim_of.result c.in-Rows.rows c.dim_of-size.result _ c.frame_of-f.ensures
     (omega (arith, c.requires.asked.total, c.dim_of-size.ensures, c.dim_of.ensures)) (omega (arith, h, c.dim_of-size.ensures)) in
     omega (arith, s.ends, s.within, c.requires.asked.enough, c.eliminate_in.auto.1.1.0)
 
@@ -45,9 +44,8 @@ pub slice_bounds-from-count : goal.slice_bounds-from-count
 slice_bounds-from-count c =
     let g = c.well_formed in
     let n : length c.args.sizes ≡ 32 = omega arith in
-    let rows = c.rows-1 in
-    let h = few_rows n c.requires.asked _ c.eliminate_in.ensures.value _ rows.given.1 in
-    let s = spans c.dim_of.result rows.given.0.0 c.dim_of-size.result _ c.frame_of-f.ensures
+    let h = few_rows n c.requires.asked _ c.eliminate_in.ensures.value _ c.in-Rows.is in
+    let s = spans c.dim_of.result c.in-Rows.rows c.dim_of-size.result _ c.frame_of-f.ensures
     (omega (arith, c.requires.asked.total, c.dim_of-size.ensures, c.dim_of.ensures)) (omega (arith, h, c.dim_of-size.ensures)) in
     omega (arith, s.ends, s.within, c.requires.asked.enough, c.eliminate_in.auto.1.1.0)
 
@@ -55,9 +53,8 @@ pub slice_bounds-from-start : goal.slice_bounds-from-start
 slice_bounds-from-start c =
     let g = c.well_formed in
     let n : length c.args.sizes ≡ 32 = omega arith in
-    let rows = c.rows-1 in
-    let h = few_rows n c.requires.asked _ c.eliminate_in.ensures.value _ rows.given.1 in
-    let s = spans c.dim_of.result rows.given.0.0 c.dim_of-size.result _ c.frame_of-f.ensures
+    let h = few_rows n c.requires.asked _ c.eliminate_in.ensures.value _ c.in-Rows.is in
+    let s = spans c.dim_of.result c.in-Rows.rows c.dim_of-size.result _ c.frame_of-f.ensures
     (omega (arith, c.requires.asked.total, c.dim_of-size.ensures, c.dim_of.ensures)) (omega (arith, h, c.dim_of-size.ensures)) in
     omega (arith, s.ends, s.within, c.requires.asked.enough, c.eliminate_in.auto.1.1.0)
 
@@ -65,23 +62,21 @@ pub slice_bounds-from-end : goal.slice_bounds-from-end
 slice_bounds-from-end c =
     let g = c.well_formed in
     let n : length c.args.sizes ≡ 32 = omega arith in
-    let rows = c.rows-1 in
-    let h = few_rows n c.requires.asked _ c.eliminate_in.ensures.value _ rows.given.1 in
-    let s = spans c.dim_of.result rows.given.0.0 c.dim_of-size.result _ c.frame_of-f.ensures
+    let h = few_rows n c.requires.asked _ c.eliminate_in.ensures.value _ c.in-Rows.is in
+    let s = spans c.dim_of.result c.in-Rows.rows c.dim_of-size.result _ c.frame_of-f.ensures
     (omega (arith, c.requires.asked.total, c.dim_of-size.ensures, c.dim_of.ensures)) (omega (arith, h, c.dim_of-size.ensures)) in
     omega (arith, s.ends, s.within, c.requires.asked.enough, c.eliminate_in.auto.1.1.0)
 
 pub from-requires : goal.from-requires
 from-requires c =
-    let rows = c.rows-1 in
     let g = c.well_formed in
     let n : length c.args.sizes ≡ 32 = omega arith in
-    let h = few_rows n c.requires.asked _ c.eliminate_in.ensures.value _ rows.given.1 in
-    let s = spans c.dim_of.result rows.given.0.0 c.dim_of-size.result _ c.frame_of-f.ensures
+    let h = few_rows n c.requires.asked _ c.eliminate_in.ensures.value _ c.in-Rows.is in
+    let s = spans c.dim_of.result c.in-Rows.rows c.dim_of-size.result _ c.frame_of-f.ensures
     (omega (arith, c.requires.asked.total, c.dim_of-size.ensures, c.dim_of.ensures)) (omega (arith, h, c.dim_of-size.ensures)) in (
       omega (arith, c.requires.key_bound, c.dim_of-size.ensures),
       omega (arith, h, c.requires.asked.total),
-      fits-part c.eliminate_in.new.work c.frame_of-f.result.a c.frame_of-f.result.end (factor_numbers rows.given.0.0 c.dim_of-size.result)
+      fits-part c.eliminate_in.new.work c.frame_of-f.result.a c.frame_of-f.result.end (factor_numbers c.in-Rows.rows c.dim_of-size.result)
           (omega (arith, s.ends, s.within, c.requires.asked.enough, c.eliminate_in.auto.1.1.0)) (omega (arith, s.ends)),
     )
 

@@ -4,7 +4,6 @@ use Prim.Native.Nat.{ℕ}
 use mathlib.Core.Bool.{false}
 use mathlib.Core.List.{List}
 use mathlib.Core.Path.{◌≡◌, refl}
-use borrow.Author.Tests.{not-false, not-true}
 use lib.Ieee.{Float}
 use Rattle.factor.proofs.Counting.{tells}
 use Rattle.graph.proofs.Telling.{observation-tells}
@@ -27,10 +26,10 @@ returns-then-not-valid c =
     let args = c.args in
     let all = observation-tells args.self args.keys.now args.rows args.a.now args.mean.now args.variance.now args.store.now _ _
     (turned_back_lem args.self _ args.store.now _ _ _ _ (no_graph args.self args.keys.now args.rows args.a.now args.mean.now
-    args.variance.now args.store.now (tells c.valid.ensures.0 (not-true _ c.if-not-valid.true-raw))) c.refused.ensures refl) in record { value = all.0; store_after = all.1.0; outcome_value = all.1.1 }
+    args.variance.now args.store.now (tells c.valid.ensures.0 c.if-not-valid.true)) c.refused.ensures refl) in record { value = all.0; store_after = all.1.0; outcome_value = all.1.1 }
 
 pub enter_observation-requires : goal.enter_observation-requires
-enter_observation-requires c = tells c.valid.ensures.0 (not-false _ c.if-not-valid.false-raw)
+enter_observation-requires c = tells c.valid.ensures.0 c.if-not-valid.false
 
 pub returns : goal.returns
 returns c =

@@ -3,7 +3,6 @@ use Prim.Native.Nat.{ℕ}
 use mathlib.Core.Bool.{false}
 use mathlib.Core.List.{List}
 use mathlib.Core.Path.{◌≡◌, refl}
-use borrow.Author.Tests.{not-false, not-true}
 use lib.Ieee.{Float}
 use Rattle.factor.proofs.Counting.{tells}
 use Rattle.graph.proofs.Telling.{prior-tells}
@@ -26,10 +25,10 @@ returns-then-not-valid c =
     let args = c.args in
     let all = prior-tells args.self args.key args.mean.now args.variance.now args.store.now _ _
     (turned_back_lem args.self _ args.store.now _ _ _ _ (no_graph args.self args.key args.mean.now args.variance.now
-    args.store.now (tells c.valid.ensures.0 (not-true _ c.if-not-valid.true-raw))) c.refused.ensures refl) in record { value = all.0; store_after = all.1.0; outcome_value = all.1.1 }
+    args.store.now (tells c.valid.ensures.0 c.if-not-valid.true)) c.refused.ensures refl) in record { value = all.0; store_after = all.1.0; outcome_value = all.1.1 }
 
 pub enter_prior-requires : goal.enter_prior-requires
-enter_prior-requires c = tells c.valid.ensures.0 (not-false _ c.if-not-valid.false-raw)
+enter_prior-requires c = tells c.valid.ensures.0 c.if-not-valid.false
 
 pub returns : goal.returns
 returns c =

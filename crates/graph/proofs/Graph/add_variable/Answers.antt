@@ -2,7 +2,6 @@
 use Prim.Native.Nat.{ℕ}
 use mathlib.Core.Bool.{false}
 use mathlib.Core.Path.{◌∙◌, ◌≡◌}
-use borrow.Author.Tests.{not-false, not-true}
 use Rattle.factor.proofs.Counting.{tells}
 use Rattle.graph.proofs.Telling.{variable-tells}
 use Rattle.graph.specs.Record.{valid}
@@ -22,10 +21,10 @@ pub returns-then-not-valid : goal.returns-then-not-valid
 returns-then-not-valid c =
     let args = c.args in
     let all = variable-tells _ _ _ _ (c.refused.ensures ∙ no_graph args.self args.name args.size
-    (tells c.valid.ensures.0 (not-true _ c.if-not-valid.true-raw))) in record { value = all.0; outcome_value = all.1 }
+    (tells c.valid.ensures.0 c.if-not-valid.true)) in record { value = all.0; outcome_value = all.1 }
 
 pub enter_variable-requires : goal.enter_variable-requires
-enter_variable-requires c = tells c.valid.ensures.0 (not-false _ c.if-not-valid.false-raw)
+enter_variable-requires c = tells c.valid.ensures.0 c.if-not-valid.false
 
 pub returns : goal.returns
 returns c = let all = variable-tells _ _ _ _ c.enter_variable.ensures in record { value = all.0; outcome_value = all.1 }

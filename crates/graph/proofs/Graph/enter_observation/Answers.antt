@@ -4,7 +4,7 @@ use mathlib.Core.Bool.{true}
 use mathlib.Core.List.{List}
 use mathlib.Core.Path.{◌≡◌, refl, sym}
 use native.Mathlib.Omega.{arith}
-use borrow.Author.Tests.{lt-ltb, ltb-true, not-false, not-true}
+use borrow.Author.Tests.{lt-ltb, ltb-true}
 use lib.Dec.{ltb}
 use lib.Ieee.{Float}
 use lib.ListN.{get_or, length}
@@ -47,7 +47,7 @@ unfolding add_observation observation_store
 returns-then-not-counts_fit c =
     let args = c.args in
     let all = turned_back_lem args.self _ args.store.now _ _ _ _ (outside args.self args.keys.now args.rows args.a.now args.mean.now
-    args.variance.now args.store.now c.requires (tells c.counts_fit.ensures (not-true _ c.if-not-counts_fit.true-raw)))
+    args.variance.now args.store.now c.requires (tells c.counts_fit.ensures c.if-not-counts_fit.true))
     c.refused.ensures refl in record { value = all.0; store_after = all.1 }
 
 pub returns-then-not-rising : goal.returns-then-not-rising
@@ -56,7 +56,7 @@ returns-then-not-rising c =
     let args = c.args in
     let all = turned_back_lem args.self _ args.store.now _ _ _ _ (not-rising args.self args.keys.now args.rows args.a.now args.mean.now
     args.variance.now args.store.now c.requires (tells c.counts_fit.ensures
-    (not-false _ c.if-not-counts_fit.false-raw)) (tells c.rising.ensures (not-true _ c.if-not-rising.true-raw)))
+    c.if-not-counts_fit.false) (tells c.rising.ensures c.if-not-rising.true))
     c.refused-then-not-rising.ensures refl in record { value = all.0; store_after = all.1 }
 
 pub returns-then-not-known : goal.returns-then-not-known
@@ -65,18 +65,17 @@ returns-then-not-known c =
     let args = c.args in
     let all = turned_back_lem args.self _ args.store.now _ _ _ _ (not_known args.self args.keys.now args.rows args.a.now args.mean.now
     args.variance.now args.store.now c.requires (tells c.counts_fit.ensures
-    (not-false _ c.if-not-counts_fit.false-raw))
-    (tells c.rising.ensures (not-false _ c.if-not-rising.false-raw))
-    (tells c.known.ensures (not-true _ c.if-not-known.true-raw))) c.refused-then-not-known.ensures refl in record { value = all.0; store_after = all.1 }
+    c.if-not-counts_fit.false)
+    (tells c.rising.ensures c.if-not-rising.false)
+    (tells c.known.ensures c.if-not-known.true)) c.refused-then-not-known.ensures refl in record { value = all.0; store_after = all.1 }
 
 pub observation_of-f-requires : goal.observation_of-f-requires
 observation_of-f-requires c =
     let args = c.args in
-    let pre = c.requires in
-    (
-      few-keys _ _ (tells c.counts_fit.ensures (not-false _ c.if-not-counts_fit.false-raw)),
-      omega (arith, most-rows _ _ (tells c.counts_fit.ensures (not-false _ c.if-not-counts_fit.false-raw))),
-      all_known args.self args.keys.now pre (tells c.known.ensures (not-false _ c.if-not-known.false-raw)),
+    let pre = c.requires in (
+      few-keys _ _ (tells c.counts_fit.ensures c.if-not-counts_fit.false),
+      omega (arith, most-rows _ _ (tells c.counts_fit.ensures c.if-not-counts_fit.false)),
+      all_known args.self args.keys.now pre (tells c.known.ensures c.if-not-known.false),
     )
 
 pub add_factor-requires : goal.add_factor-requires
@@ -85,9 +84,9 @@ add_factor-requires c =
     let pre = c.requires in (
       pre,
       fitting args.self args.keys.now args.rows (tells c.counts_fit.ensures
-          (not-false _ c.if-not-counts_fit.false-raw))
-          (tells c.rising.ensures (not-false _ c.if-not-rising.false-raw))
-          (tells c.known.ensures (not-false _ c.if-not-known.false-raw)) c.observation_of-f.result c.observation_of-f.ensures,
+          c.if-not-counts_fit.false)
+          (tells c.rising.ensures c.if-not-rising.false)
+          (tells c.known.ensures c.if-not-known.false) c.observation_of-f.result c.observation_of-f.ensures,
     )
 
 pub returns : goal.returns
@@ -95,8 +94,8 @@ returns c =
     let args = c.args in
     let all = taken args.self args.keys.now args.rows args.a.now args.mean.now args.variance.now args.store.now c.requires
     (tells c.counts_fit.ensures
-    (not-false _ c.if-not-counts_fit.false-raw))
+    c.if-not-counts_fit.false)
     (tells c.rising.ensures
-    (not-false _ c.if-not-rising.false-raw))
-    (tells c.known.ensures (not-false _ c.if-not-known.false-raw))
+    c.if-not-rising.false)
+    (tells c.known.ensures c.if-not-known.false)
     c.observation_of-f.result _ _ c.observation_of-f.ensures (c.add_factor.ensures.value, c.add_factor.ensures.store_after) in record { value = all.0; store_after = all.1 }

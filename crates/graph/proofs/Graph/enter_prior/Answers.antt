@@ -1,7 +1,7 @@
 -- `graph::Graph::enter_prior` meets its contract, by its ways out. Assumes nothing.
 use Prim.Native.Nat.{◌<◌, ◌≤◌, ℕ}
 use mathlib.Core.Bool.{true}
-use mathlib.Core.List.{List}
+use mathlib.Core.List.{List, []}
 use mathlib.Core.Path.{◌∙◌, ◌≡◌, ap, refl, sym}
 use native.Mathlib.Omega.{arith}
 use lib.Ieee.{Float}
@@ -46,12 +46,12 @@ prior_of-f-requires c =
 
 pub add_factor-requires : goal.add_factor-requires
 add_factor-requires c =
-    let type_size = c.size_of in
+    let size_of = c.size_of in
     let args = c.args in
     let pre = c.requires in (
       pre,
-      fits-as args.self args.key args.mean.now args.variance.now args.store.now (pre) c.prior_of-f.result type_size.result
-          c.if-self-key.false c.prior_of-f.ensures type_size.ensures.0,
+      fits-as args.self args.key args.mean.now args.variance.now args.store.now (pre) c.prior_of-f.result size_of.result
+          c.if-self-key.false c.prior_of-f.ensures size_of.ensures.0,
     )
 
 pub returns : goal.returns

@@ -3,7 +3,6 @@ use Prim.Native.Nat.{◌-◌}
 use mathlib.Core.Bool.{false≢true}
 use mathlib.Core.Path.{◌≡◌, refl, sym}
 use borrow.Author.Count.{below_more, below_none}
-use borrow.Author.Tests.{not-false, not-true}
 use Rattle.factor.proofs.Counting.{all_fail, all_more, all_none, tells}
 use Rattle.factor.specs.Limits.{max_factors}
 use Rattle.graph.specs.Record.{factor_place, factors_fit}
@@ -20,15 +19,18 @@ unfolding factors_fit
 returns-then-not-factor_place c =
     let args = c.args in
     let loop = c.loop-number in
-    record { value = sym (all_fail (λ i. factor_place args.t1 i) max_factors loop.number (search rules)
-          (tells (placed-is args.t1 loop.number _ _ _ refl refl c.factor_place.ensures.0) (not-true _ c.if-not-factor_place.true-raw))); i_len = λ x. absurd (false≢true x) }
+    record {
+      value = sym (all_fail (λ i. factor_place args.self i) max_factors loop.number (search rules)
+          (tells (placed-is args.self loop.number _ _ _ refl refl c.factor_place.ensures.0) c.if-not-factor_place.true));
+      i_len = λ x. absurd (false≢true x);
+    }
 
 pub loop-number-preserved : goal.loop-number-preserved
 loop-number-preserved c =
     let loop = c.loop-number in (
       search rules,
       all_more _ _ loop.invariant.1 (tells (placed-is c.args.self loop.number _ _ _ refl refl
-          c.factor_place.ensures.0) (not-false _ c.if-not-factor_place.false-raw)),
+          c.factor_place.ensures.0) c.if-not-factor_place.false),
       below_more _ _ loop.invariant.2 c.factor_place.ensures.1,
     )
 

@@ -15,7 +15,7 @@ pub returns-then-same : goal.returns-then-same
 unfolding free
 returns-then-same c =
     let args = c.args in
-    sym (all_fail (λ j. not (same (name_at args.t1 j) args.name)) _ c.loop-key.key (omega arith)
+    sym (all_fail (λ j. not (same (name_at args.self j) args.name)) _ c.loop-key.key (omega arith)
     (ap not (tells c.same.ensures c.if-same.true)))
 
 pub loop-key-preserved : goal.loop-key-preserved

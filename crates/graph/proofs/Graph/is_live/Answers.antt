@@ -31,8 +31,8 @@ returns-then-self-number c = no_such c.args.self c.args.number c.if-self-number.
 pub returns-then-number-ge-FACTORS : goal.returns-then-number-ge-FACTORS
 returns-then-number-ge-FACTORS c =
     let args = c.args in
-    let n : length args.t1.factors ≡ max_factors = search (rules, unmapped) in
-    no_place args.t1 args.number c.if-self-number.false n c.if-number-ge-FACTORS.true
+    let n : length args.self.factors ≡ max_factors = search (rules, unmapped) in
+    no_place args.self args.number c.if-self-number.false n c.if-number-ge-FACTORS.true
 
 pub returns : goal.returns
 returns c = sym (live-is c.args.self c.args.number c.if-self-number.false)

@@ -33,8 +33,8 @@ loop-i-preserved c =
     let loop = c.loop-i in (
       omega arith,
       omega (arith, c.numbers-sum.ensures.1, loop.invariant.1),
-      ap (λ (x : ℕ). loop.sum + x) c.numbers-sum.ensures.0 ∙ ap (λ (x : ℕ). x + numbers args.t1.sizes (factor_at args.t1 loop.i))
-          loop.invariant.2 ∙ sym (sum_more (λ k. numbers args.t1.sizes (factor_at args.t1 k)) loop.i),
+      ap (λ (x : ℕ). loop.sum + x) c.numbers-sum.ensures.0 ∙ ap (λ (x : ℕ). x + numbers args.self.sizes (factor_at args.self loop.i))
+          loop.invariant.2 ∙ sym (sum_more (λ k. numbers args.self.sizes (factor_at args.self k)) loop.i),
     )
 
 pub returns : goal.returns
@@ -42,6 +42,6 @@ unfolding offset
 returns c =
     let args = c.args in
     let e : c.loop-i.i ≡ args.number = omega arith in (
-      c.loop-i.invariant.2 ∙ ap (counting.sum (λ k. numbers args.t1.sizes (factor_at args.t1 k))) e,
-      omega (arith, c.loop-i.invariant.1, valid-count args.t1 c.requires.0),
+      c.loop-i.invariant.2 ∙ ap (counting.sum (λ k. numbers args.self.sizes (factor_at args.self k))) e,
+      omega (arith, c.loop-i.invariant.1, valid-count args.self c.requires.0),
     )

@@ -1,31 +1,17 @@
 -- `graph::Graph::supersede_prior` meets its contract: 30, then 19, then what `enter_prior` answers, with the old factor retired if that
 -- registered one. Assumes nothing.
-use mathlib.Core.Bool.{true}
-use mathlib.Core.Path.{◌≡◌}
 use native.Mathlib.Omega.{arith}
-use borrow.Author.Tests.{not-false, not-true}
 use Rattle.factor.proofs.Counting.{tells}
-use Rattle.graph.specs.Record.{live_at, valid}
 use Rattle.graph.proofs.Calls.{no_graph, not_live, in_place_lem}
 use Rattle.graph.proofs.Telling.{superseding-tells}
 use Rattle.graph.proofs.Validity.{live_below, valid-count}
 use Rattle.graph.proofs.Graph.supersede_prior.Goals as goal
 
--- both tests passed
-abbrev entry : goal.Else-not-is_live → goal.Start
-entry c = c.before.before.before.before.before.before.before
-
-sound : (c : goal.Else-not-is_live) → valid (entry c).args.self ≡ true
-sound c = tells c.valid.ensures.0 (not-false _ c.if-not-valid.false)
-
-live : (c : goal.Else-not-is_live) → live_at (entry c).args.self (entry c).args.number ≡ true
-live c = tells c.is_live.ensures (not-false _ c.if-not-is_live.false)
-
 pub returns-then-not-valid : goal.returns-then-not-valid
 returns-then-not-valid c =
     let args = c.args in
     let all = superseding-tells args.self args.number _ args.store.now _ _ _
-    (no_graph args.self args.number _ args.store.now _ _ (tells c.valid.ensures.0 (not-true _ c.if-not-valid.true-raw))
+    (no_graph args.self args.number _ args.store.now _ _ (tells c.valid.ensures.0 c.if-not-valid.true)
     c.refused.ensures) in record { value = all.0; store_after = all.1.0; outcome_value = all.1.1 }
 
 pub returns-then-not-is_live : goal.returns-then-not-is_live
@@ -33,20 +19,24 @@ returns-then-not-is_live c =
     let args = c.args in
     let all = superseding-tells args.self args.number _ args.store.now _ _ _
     (not_live args.self args.number _ args.store.now _
-    (tells c.valid.ensures.0 (not-false _ c.if-not-valid.false-raw)) _
-    (tells c.is_live.ensures (not-true _ c.if-not-is_live.true-raw)) c.refused-then-not-is_live.ensures) in record { value = all.0; store_after = all.1.0; outcome_value = all.1.1 }
+    (tells c.valid.ensures.0 c.if-not-valid.false) _
+    (tells c.is_live.ensures c.if-not-is_live.true) c.refused-then-not-is_live.ensures) in record { value = all.0; store_after = all.1.0; outcome_value = all.1.1 }
 
 pub enter_prior-added-requires : goal.enter_prior-added-requires
-enter_prior-added-requires c = sound c.before
+enter_prior-added-requires c = tells c.valid.ensures.0 c.if-not-valid.false
 
 pub replace-requires : goal.replace-requires
 replace-requires c =
-    let at = c.before.before.before.before in
-    omega (arith, valid-count _ (sound at), live_below _ _ (live at))
+    omega (
+      arith,
+      valid-count c.args.self (tells c.valid.ensures.0 c.if-not-valid.false),
+      live_below c.args.self c.args.number (tells c.is_live.ensures c.if-not-is_live.false),
+    )
 
 pub returns : goal.returns
 returns c =
-    let at = c.before.before.before.before.before in
-    let args = (entry at).args in
+    let args = c.args in
     let all = superseding-tells args.self args.number _ args.store.now _ _ _
-    (in_place_lem args.self args.number _ args.store.now _ (sound at) _ (live at) c.enter_prior-added.result _ (c.enter_prior-added.ensures.value, c.enter_prior-added.ensures.store_after) c.replace.ensures) in record { value = all.0; store_after = all.1.0; outcome_value = all.1.1 }
+    (in_place_lem args.self args.number _ args.store.now _ (tells c.valid.ensures.0 c.if-not-valid.false) _
+    (tells c.is_live.ensures c.if-not-is_live.false) c.enter_prior-added.result _ (c.enter_prior-added.ensures.value, c.enter_prior-added.ensures.store_after) c.replace.ensures) in
+    record { value = all.0; store_after = all.1.0; outcome_value = all.1.1 }

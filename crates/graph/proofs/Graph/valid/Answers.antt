@@ -5,7 +5,7 @@ use mathlib.Core.Logic.{◌↔◌}
 use mathlib.Core.Path.{◌∙◌, ◌≡◌, sym}
 use native.Mathlib.Omega.{arith}
 use borrow.Author.Rules.{rules}
-use borrow.Author.Tests.{eq-eqb, le-leb, lt-leb, ne_eqb, not-false, not-true}
+use borrow.Author.Tests.{eq-eqb, le-leb, lt-leb, ne_eqb}
 use lib.ListN.{length}
 use Rattle.factor.proofs.Counting.{tells}
 use Rattle.factor.specs.Counting.{every}
@@ -68,28 +68,13 @@ decided : (g : Graph) (r : Bool) → r ≡ last_live g → last_live g ≡ valid
 decided g r e d sh = (e ∙ d, (λ t. (exact g sh).0 (sym (e ∙ d) ∙ t), λ h. e ∙ d ∙ (good_of g h).1))
 
 -- the ways out after the factors' places were looked at
-abbrev whole : goal.After-factors_fit → Graph
-whole f = f.args.self
+bad-place : (g : Graph) → g.variables ≤ max_variables → g.count ≤ max_factors → variables_fit g ≡ true → (t : ℕ) → t ≡ total g → t ≤ max_total
+    → factors_fit g ≡ false → (false ≡ valid g) × ((false ≡ true) ↔ Reached g)
+bad-place g v n p t e l b = not-reached g (bad-factor g v n p t e l b)
 
-bad-place : (f : goal.After-factors_fit) → f.factors_fit.result ≡ false → (false ≡ valid (whole f)) × ((false ≡ true) ↔ Reached (whole f))
-bad-place f e =
-    not-reached _ (bad-factor (whole f) f.if-self-gt-VARIABLES.false
-    f.if-self-gt-FACTORS.false (tells f.variables_fit.ensures
-    (not-false _ f.if-not-variables_fit.false-raw)) f.total.result f.total.ensures f.if-total-gt-TOTAL.false
-    (tells f.factors_fit.ensures.value e))
-
-at_last : (f : goal.After-factors_fit) → f.factors_fit.result ≡ true → (r : Bool) → r ≡ last_live (whole f)
-    → (r ≡ valid (whole f)) × ((r ≡ true) ↔ Reached (whole f))
-at_last f e r h =
-    let sy : length (whole f).symbols ≡ max_variables = search (rules, unmapped) in
-    let si : length (whole f).sizes ≡ max_variables = search rules in
-    let fa : length (whole f).factors ≡ max_factors = search (rules, unmapped) in
-    decided (whole f) r h
-    (by_last (whole f) f.if-self-gt-VARIABLES.false
-    f.if-self-gt-FACTORS.false (tells f.variables_fit.ensures
-    (not-false _ f.if-not-variables_fit.false-raw)) f.total.result f.total.ensures f.if-total-gt-TOTAL.false
-    (tells f.factors_fit.ensures.value e))
-    (record { symbols = sy; sizes = si; factors = fa; keys = f.factors_fit.ensures.i_len e })
+at_last : (g : Graph) → g.variables ≤ max_variables → g.count ≤ max_factors → variables_fit g ≡ true → (t : ℕ) → t ≡ total g → t ≤ max_total
+    → factors_fit g ≡ true → Shaped g → (r : Bool) → r ≡ last_live g → (r ≡ valid g) × ((r ≡ true) ↔ Reached g)
+at_last g v n p t e l b sh r h = decided g r h (by_last g v n p t e l b) sh
 
 pub returns-then-self-gt-VARIABLES : goal.returns-then-self-gt-VARIABLES
 returns-then-self-gt-VARIABLES c = not-reached _ (too_many c.args.self c.if-self-gt-VARIABLES.true)
@@ -99,21 +84,35 @@ returns-then-self-gt-FACTORS c = not-reached _ (too-many-factors c.args.self c.i
 
 pub returns-then-not-variables_fit : goal.returns-then-not-variables_fit
 returns-then-not-variables_fit c = not-reached _ (bad-variable c.args.self
-    c.if-self-gt-VARIABLES.false c.if-self-gt-FACTORS.false (tells c.variables_fit.ensures (not-true _ c.if-not-variables_fit.true-raw)))
+    c.if-self-gt-VARIABLES.false c.if-self-gt-FACTORS.false (tells c.variables_fit.ensures c.if-not-variables_fit.true))
 
 pub returns-then-total-gt-TOTAL : goal.returns-then-total-gt-TOTAL
 returns-then-total-gt-TOTAL c = not-reached _ (too_large c.args.self
     c.if-self-gt-VARIABLES.false c.if-self-gt-FACTORS.false
-    (tells c.variables_fit.ensures (not-false _ c.if-not-variables_fit.false-raw)) c.total.result
+    (tells c.variables_fit.ensures c.if-not-variables_fit.false) c.total.result
     c.total.ensures c.if-total-gt-TOTAL.true)
 
 pub returns-then-not-factors_fit : goal.returns-then-not-factors_fit
-returns-then-not-factors_fit c = bad-place c.before (not-true _ c.if-not-factors_fit.true-raw)
+returns-then-not-factors_fit c =
+    bad-place c.args.self c.if-self-gt-VARIABLES.false c.if-self-gt-FACTORS.false (tells c.variables_fit.ensures c.if-not-variables_fit.false)
+    c.total.result c.total.ensures c.if-total-gt-TOTAL.false (tells c.factors_fit.ensures.value c.if-not-factors_fit.true)
 
 pub returns-then-count-eq0 : goal.returns-then-count-eq0
-returns-then-count-eq0 c = at_last c.before.before (not-false _ c.if-not-factors_fit.false-raw) _ (none_last (whole c.before.before) c.if-count-eq0.true)
+returns-then-count-eq0 c =
+    let sy : length c.args.self.symbols ≡ max_variables = search (rules, unmapped) in
+    let si : length c.args.self.sizes ≡ max_variables = search rules in
+    let fa : length c.args.self.factors ≡ max_factors = search (rules, unmapped) in
+    at_last c.args.self c.if-self-gt-VARIABLES.false c.if-self-gt-FACTORS.false (tells c.variables_fit.ensures c.if-not-variables_fit.false)
+    c.total.result c.total.ensures c.if-total-gt-TOTAL.false (tells c.factors_fit.ensures.value c.if-not-factors_fit.false)
+    (record { symbols = sy; sizes = si; factors = fa; keys = c.factors_fit.ensures.i_len c.if-not-factors_fit.false }) _
+    (none_last c.args.self c.if-count-eq0.true)
 
 pub returns : goal.returns
 returns c =
-    let f = c.before.before.before in
-    at_last f (not-false _ c.if-not-factors_fit.false-raw) _ (c.is_live.ensures ∙ some-last (whole f) c.if-count-eq0.false)
+    let sy : length c.args.self.symbols ≡ max_variables = search (rules, unmapped) in
+    let si : length c.args.self.sizes ≡ max_variables = search rules in
+    let fa : length c.args.self.factors ≡ max_factors = search (rules, unmapped) in
+    at_last c.args.self c.if-self-gt-VARIABLES.false c.if-self-gt-FACTORS.false (tells c.variables_fit.ensures c.if-not-variables_fit.false)
+    c.total.result c.total.ensures c.if-total-gt-TOTAL.false (tells c.factors_fit.ensures.value c.if-not-factors_fit.false)
+    (record { symbols = sy; sizes = si; factors = fa; keys = c.factors_fit.ensures.i_len c.if-not-factors_fit.false }) _
+    (c.is_live.ensures ∙ some-last c.args.self c.if-count-eq0.false)

@@ -4,7 +4,6 @@ use mathlib.Core.Path.{◌≡◌, refl, sym}
 use native.Mathlib.Omega.{arith}
 use borrow.Author.Count.{below_none}
 use borrow.Author.Rules.{rules}
-use borrow.Author.Tests.{not-false, not-true}
 use Rattle.factor.proofs.Counting.{all_fail, all_more, all_none, tells}
 use Rattle.factor.specs.Limits.{max_variables}
 use Rattle.graph.proofs.Places.{names_more, variable-placed}
@@ -19,20 +18,20 @@ unfolding variables_fit
 returns-then-not-variable_place c =
     let args = c.args in
     let loop = c.loop-key in
-    sym (all_fail (λ i. variable_place args.t1 i) max_variables loop.key (search rules)
-    (tells (variable-placed args.t1 loop.letters loop.indices loop.key _ _ loop.invariant.4 refl c.variable_place.ensures)
-    (not-true _ c.if-not-variable_place.true-raw)))
+    sym (all_fail (λ i. variable_place args.self i) max_variables loop.key (search rules)
+    (tells (variable-placed args.self loop.letters loop.indices loop.key _ _ loop.invariant.4 refl c.variable_place.ensures)
+    c.if-not-variable_place.true))
 
 pub loop-key-preserved : goal.loop-key-preserved
 loop-key-preserved c =
     let args = c.args in
     let loop = c.loop-key in (
       search rules,
-      all_more _ _ loop.invariant.1 (tells (variable-placed args.t1 loop.letters loop.indices loop.key _ _ loop.invariant.4 refl
-          c.variable_place.ensures) (not-false _ c.if-not-variable_place.false-raw)),
+      all_more _ _ loop.invariant.1 (tells (variable-placed args.self loop.letters loop.indices loop.key _ _ loop.invariant.4 refl
+          c.variable_place.ensures) c.if-not-variable_place.false),
       search rules,
       search rules,
-      names_more args.t1 loop.letters loop.indices loop.key (omega arith) (omega arith) loop.invariant.4,
+      names_more args.self loop.letters loop.indices loop.key (omega arith) (omega arith) loop.invariant.4,
     )
 
 pub returns : goal.returns

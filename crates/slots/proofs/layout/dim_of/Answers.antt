@@ -27,7 +27,7 @@ overflow_add-sum c =
     let loop = c.loop-i in
     omega (
       arith,
-      dim_next args.list.now loop.i (omega (arith, c.loop-i-test.true, loop.invariant.1)) args.t2,
+      dim_next args.list.now loop.i (omega (arith, c.loop-i-test.true, loop.invariant.1)) args.sizes,
       loop.invariant.2,
       c.requires.total,
       c.wide-sum.ensures,
@@ -47,7 +47,7 @@ loop-i-preserved c =
       omega arith,
       omega (
         arith,
-        dim_next args.list.now loop.i (omega (arith, c.loop-i-test.true, loop.invariant.1)) args.t2,
+        dim_next args.list.now loop.i (omega (arith, c.loop-i-test.true, loop.invariant.1)) args.sizes,
         loop.invariant.2,
         c.wide-sum.ensures,
       ),
@@ -57,4 +57,4 @@ pub returns : goal.returns
 returns c =
     let args = c.args in
     let loop = c.loop-i in
-    omega (arith, ap (λ (l : List ℕ). dim_of args.t2 l) (at-end args.list.now loop.i (omega (arith, loop.invariant.1))), loop.invariant.2)
+    omega (arith, ap (λ (l : List ℕ). dim_of args.sizes l) (at-end args.list.now loop.i (omega (arith, loop.invariant.1))), loop.invariant.2)

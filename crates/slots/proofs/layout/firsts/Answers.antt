@@ -22,8 +22,8 @@ loop-i-init c =
     let l = args.list.now in (
       omega arith,
       refl,
-      omega (arith, c.dim_of-column.ensures, ap (λ (t : List ℕ). dim_of args.t2 t) (drop-length l)),
-      firsts-none args.t2 l _,
+      omega (arith, c.dim_of-column.ensures, ap (λ (t : List ℕ). dim_of args.sizes t) (drop-length l)),
+      firsts-none args.sizes l _,
     )
 
 pub overflow_sub-i : goal.overflow_sub-i
@@ -48,8 +48,8 @@ overflow_sub-column c =
       arith,
       c.wide-column.ensures,
       loop.invariant.2,
-      dim_rest args.t2 args.list.now (loop.i - 1),
-      dim_back args.t2 args.list.now (loop.i - 1) loop.i (omega (arith, c.loop-i-test.true)) (omega (arith, c.loop-i-test.true, loop.invariant.0)),
+      dim_rest args.sizes args.list.now (loop.i - 1),
+      dim_back args.sizes args.list.now (loop.i - 1) loop.i (omega (arith, c.loop-i-test.true)) (omega (arith, c.loop-i-test.true, loop.invariant.0)),
     )
 
 pub overflow_cast-r-in-loop-i : goal.overflow_cast-r-in-loop-i
@@ -73,7 +73,7 @@ loop-i-preserved c =
     let args = c.args in
     let loop = c.loop-i in
     let l = args.list.now in
-    let sizes = args.t2 in
+    let sizes = args.sizes in
     let i = loop.i in
     let j : i ≡ (i - 1) + 1 = omega (arith, c.loop-i-test.true) in
     let h : i - 1 < length l = omega (arith, c.loop-i-test.true, loop.invariant.0) in
@@ -92,5 +92,5 @@ returns c =
     let loop = c.loop-i in
     let l = args.list.now in
     let e : loop.i ≡ 0 = omega (arith, c.loop-i-test.false) in
-    let z : loop.column ≡ 0 = omega (arith, loop.invariant.2, ap (λ (n : ℕ). dim_of args.t2 (drop n l)) e) in
-    (loop.invariant.1, λ key h. omega (arith, z, loop.invariant.3 key h, ap (λ (n : ℕ). column_in args.t2 (drop n l) key) e))
+    let z : loop.column ≡ 0 = omega (arith, loop.invariant.2, ap (λ (n : ℕ). dim_of args.sizes (drop n l)) e) in
+    (loop.invariant.1, λ key h. omega (arith, z, loop.invariant.3 key h, ap (λ (n : ℕ). column_in args.sizes (drop n l) key) e))

@@ -36,18 +36,21 @@ block_at-b-requires c =
 pub add_key-requires : goal.add_key-requires
 add_key-requires c =
     let loop = c.loop-i in
-    let all = let b = column_fits loop.i c.requires.wide (omega (arith, c.loop-i-test.true, loop.invariant.1)) loop.invariant.3
+    let b = column_fits loop.i c.requires.wide (omega (arith, c.loop-i-test.true, loop.invariant.1)) loop.invariant.3
     (ap (λ (s : Spot). s.size) c.find-k.ensures) in
-    let k = c.requires.known loop.i (omega (arith, c.loop-i-test.true, loop.invariant.1)) in (
-      relaid _ loop.invariant.2 c.requires.frame_laid,
-      (
-        (c.requires.branch_fits.0, rw c.find-k.ensures k.sits, rw c.find-k.ensures (scratch _ _ _ _ k.small c.requires.branch_fits.1 loop.invariant.5)),
-        (
-          (fits-block c.args.a.now _ _ loop.column _ c.block_at-b.ensures b.2, c.requires.y_in_bounds.0, c.requires.y_in_bounds.1),
-          (c.requires.known, c.requires.wide),
-        ),
-      ),
-    ) in record { frame_laid = all.0; branch_fits = all.1.0; size_in_bounds = all.1.1.0; known = all.1.1.1.0; wide = all.1.1.1.1 }
+    let k = c.requires.known loop.i (omega (arith, c.loop-i-test.true, loop.invariant.1)) in
+    record {
+      frame_laid = relaid _ loop.invariant.2 c.requires.frame_laid;
+      branch_fits = (
+        c.requires.branch_fits.0,
+        rw c.find-k.ensures k.sits,
+        rw c.find-k.ensures (scratch _ _ _ _ k.small c.requires.branch_fits.1 loop.invariant.5),
+      );
+      size_in_bounds =
+          (fits-block c.args.a.now _ _ loop.column _ c.block_at-b.ensures b.2, c.requires.y_in_bounds.0, c.requires.y_in_bounds.1);
+      known = c.requires.known;
+      wide = c.requires.wide;
+    }
 
 pub overflow_add-column : goal.overflow_add-column
 overflow_add-column c =
@@ -71,8 +74,7 @@ loop-i-smaller c = omega arith
 pub loop-i-preserved : goal.loop-i-preserved
 loop-i-preserved c =
     let args = c.args in
-    let loop = c.loop-i in
-    (
+    let loop = c.loop-i in (
       omega (arith, c.loop-i-test.true),
       omega (arith, loop.invariant.1),
       c.add_key.auto.work ∙ loop.invariant.2,

@@ -17,8 +17,12 @@ pub times_at-requires : goal.times_at-requires
 times_at-requires c =
     let args = c.args in
     let l = c.requires.frame_laid in
-    record { frame_laid = l; inside = corner-fits args.f H args.f.cleared 1 _ args.k.at 0 args.k.size 1 (omega arith) c.corner-v.ensures
-            (rw c.if-k.true at c.requires.branch_fits.1) (omega arith); s_in_bounds = (c.requires.size_in_bounds.0, omega (arith, c.requires.size_in_bounds.1)) }
+    record {
+      frame_laid = l;
+      inside = corner-fits args.f H args.f.cleared 1 _ args.k.at 0 args.k.size 1 (omega arith) c.corner-v.ensures
+          (rw c.if-k.true at c.requires.branch_fits.1) (omega arith);
+      s_in_bounds = (c.requires.size_in_bounds.0, omega (arith, c.requires.size_in_bounds.1));
+    }
 
 pub corner-g-requires : goal.corner-g-requires
 corner-g-requires c =
@@ -33,9 +37,13 @@ pub times_at-requires-in-Z : goal.times_at-requires-in-Z
 times_at-requires-in-Z c =
     let args = c.args in
     let l = c.requires.frame_laid in
-    record { frame_laid = relaid args.f c.times_at.auto.work l; inside = corner-fits args.f G args.f.cleared args.f.rows _ args.k.at args.row args.k.size args.y (omega arith)
-            c.corner-g.ensures (rw c.if-k.true at c.requires.branch_fits.1)
-            (c.requires.branch_fits.0.inside c.in-Z.is); s_in_bounds = (c.requires.size_in_bounds.0, c.requires.size_in_bounds.2) }
+    record {
+      frame_laid = relaid args.f c.times_at.auto.work l;
+      inside = corner-fits args.f G args.f.cleared args.f.rows _ args.k.at args.row args.k.size args.y (omega arith)
+          c.corner-g.ensures (rw c.if-k.true at c.requires.branch_fits.1)
+          (c.requires.branch_fits.0.inside c.in-Z.is);
+      s_in_bounds = (c.requires.size_in_bounds.0, c.requires.size_in_bounds.2);
+    }
 
 pub returns-in-Z : goal.returns-in-Z
 returns-in-Z c = own_cleared_z _ _ _ _ _ _ _ _ _ _ _ _ _ c.if-k.true c.in-Z.is
@@ -59,9 +67,13 @@ pub stamp_at-requires : goal.stamp_at-requires
 stamp_at-requires c =
     let args = c.args in
     let l = c.requires.frame_laid in
-    record { frame_laid = l; inside = corner-fits args.f A args.f.rows args.f.kept _ args.row args.k.at args.y args.k.size (omega arith)
-            c.corner-v-in-Z-branch.ensures (c.requires.branch_fits.0.inside c.in-Z-branch.is)
-            (rw c.if-k.false at c.requires.branch_fits.1); inside_2 = λ i j hi hj. dense args.y args.k.size _ c.requires.size_in_bounds.0 i j hi hj }
+    record {
+      frame_laid = l;
+      inside = corner-fits args.f A args.f.rows args.f.kept _ args.row args.k.at args.y args.k.size (omega arith)
+          c.corner-v-in-Z-branch.ensures (c.requires.branch_fits.0.inside c.in-Z-branch.is)
+          (rw c.if-k.false at c.requires.branch_fits.1);
+      inside_2 = λ i j hi hj. dense args.y args.k.size _ c.requires.size_in_bounds.0 i j hi hj;
+    }
 
 pub corner-v-requires-in-X-branch : goal.corner-v-requires-in-X-branch
 corner-v-requires-in-X-branch c =
@@ -73,12 +85,16 @@ pub times_at-requires-in-X-branch : goal.times_at-requires-in-X-branch
 times_at-requires-in-X-branch c =
     let args = c.args in
     let l = c.requires.frame_laid in
-    record { frame_laid = l; inside = corner-fits args.f Xi args.f.rows 1 _ args.k.at 0 args.k.size 1 (omega arith) c.corner-v-in-X-branch.ensures
-            (omega (
-              arith,
-              rw c.if-k.false at c.requires.branch_fits.1,
-              c.requires.branch_fits.0.square c.in-X-branch.is,
-            )) (omega arith); s_in_bounds = (c.requires.size_in_bounds.0, omega (arith, c.requires.size_in_bounds.1)) }
+    record {
+      frame_laid = l;
+      inside = corner-fits args.f Xi args.f.rows 1 _ args.k.at 0 args.k.size 1 (omega arith) c.corner-v-in-X-branch.ensures
+          (omega (
+            arith,
+            rw c.if-k.false at c.requires.branch_fits.1,
+            c.requires.branch_fits.0.square c.in-X-branch.is,
+          )) (omega arith);
+      s_in_bounds = (c.requires.size_in_bounds.0, omega (arith, c.requires.size_in_bounds.1));
+    }
 
 pub returns-in-Z-branch : goal.returns-in-Z-branch
 returns-in-Z-branch c = own_kept_z _ _ _ _ _ _ _ _ _ _ _ c.if-k.false

@@ -18,8 +18,12 @@ pub stamp_at-requires : goal.stamp_at-requires
 stamp_at-requires c =
     let args = c.args in
     let l = c.requires.frame_laid in
-    record { frame_laid = l; inside = corner-fits args.f H args.f.cleared 1 _ args.k.at 0 args.k.size 1 (omega arith) c.corner-u.ensures
-            (rw c.if-k.true at c.requires.branch_fits.1) (omega arith); inside_2 = λ i j hi hj. dense args.k.size 1 _ (omega (arith, c.requires.size_in_bounds.0)) i j hi hj }
+    record {
+      frame_laid = l;
+      inside = corner-fits args.f H args.f.cleared 1 _ args.k.at 0 args.k.size 1 (omega arith) c.corner-u.ensures
+          (rw c.if-k.true at c.requires.branch_fits.1) (omega arith);
+      inside_2 = λ i j hi hj. dense args.k.size 1 _ (omega (arith, c.requires.size_in_bounds.0)) i j hi hj;
+    }
 
 pub corner-v-requires : goal.corner-v-requires
 corner-v-requires c =
@@ -34,9 +38,13 @@ pub stamp_at-requires-then-k : goal.stamp_at-requires-then-k
 stamp_at-requires-then-k c =
     let args = c.args in
     let l = c.requires.frame_laid in
-    record { frame_laid = relaid args.f c.stamp_at.auto.work l; inside = corner-fits args.f S args.f.cleared args.f.cleared _ args.k.at args.k.at args.k.size args.k.size (omega arith)
-            c.corner-v.ensures (rw c.if-k.true at c.requires.branch_fits.1) (rw c.if-k.true at c.requires.branch_fits.1); inside_2 = λ i j hi hj. dense args.k.size
-            args.k.size _ (c.requires.size_in_bounds.1) i j hi hj }
+    record {
+      frame_laid = relaid args.f c.stamp_at.auto.work l;
+      inside = corner-fits args.f S args.f.cleared args.f.cleared _ args.k.at args.k.at args.k.size args.k.size (omega arith)
+          c.corner-v.ensures (rw c.if-k.true at c.requires.branch_fits.1) (rw c.if-k.true at c.requires.branch_fits.1);
+      inside_2 = λ i j hi hj. dense args.k.size
+          args.k.size _ (c.requires.size_in_bounds.1) i j hi hj;
+    }
 
 pub returns-then-k : goal.returns-then-k
 returns-then-k c = prior-cleared _ _ _ _ _ _ _ _ _ _ _ c.if-k.true
@@ -46,11 +54,14 @@ returns-then-k c = prior-cleared _ _ _ _ _ _ _ _ _ _ _ c.if-k.true
 pub copy_rows-requires : goal.copy_rows-requires
 copy_rows-requires c =
     let l = c.requires.frame_laid in
-    record { frame_laid = l; branch_fits = (
+    record {
+      frame_laid = l;
+      branch_fits = (
         record { square = c.requires.branch_fits.0.square; inside = λ x. rw c.if-k.false at (c.requires.branch_fits.0.inside x) },
         c.requires.size_in_bounds.0,
         c.requires.size_in_bounds.1,
-      ) }
+      );
+    }
 
 pub corner-v-requires-in-Z : goal.corner-v-requires-in-Z
 corner-v-requires-in-Z c =
@@ -70,9 +81,12 @@ pub fill_diagonal_at-requires : goal.fill_diagonal_at-requires
 fill_diagonal_at-requires c =
     let args = c.args in
     let l = c.requires.frame_laid in
-    record { frame_laid = relaid args.f c.copy_rows.auto.work l; inside = corner-fits args.f A args.f.rows args.f.kept _ args.row args.k.at args.k.size args.k.size (omega arith)
+    record {
+      frame_laid = relaid args.f c.copy_rows.auto.work l;
+      inside = corner-fits args.f A args.f.rows args.f.kept _ args.row args.k.at args.k.size args.k.size (omega arith)
           c.corner-v-in-Z.ensures (rw c.if-k.false at (c.requires.branch_fits.0.inside
-          c.in-Z.is)) (rw c.if-k.false at c.requires.branch_fits.1) }
+          c.in-Z.is)) (rw c.if-k.false at c.requires.branch_fits.1);
+    }
 
 pub corner-u-requires-in-X : goal.corner-u-requires-in-X
 corner-u-requires-in-X c =
@@ -84,13 +98,17 @@ pub stamp_at-requires-in-X : goal.stamp_at-requires-in-X
 stamp_at-requires-in-X c =
     let args = c.args in
     let l = c.requires.frame_laid in
-    record { frame_laid = l; inside = corner-fits args.f Xi args.f.rows 1 _ args.k.at 0 args.k.size 1 (omega arith) c.corner-u-in-X.ensures
-            (omega (
-              arith,
-              rw c.if-k.false at c.requires.branch_fits.1,
-              c.requires.branch_fits.0.square c.in-X.is,
-            )) (omega arith); inside_2 = λ i j hi hj. dense args.k.size 1 _
-            (omega (arith, c.requires.size_in_bounds.0)) i j hi hj }
+    record {
+      frame_laid = l;
+      inside = corner-fits args.f Xi args.f.rows 1 _ args.k.at 0 args.k.size 1 (omega arith) c.corner-u-in-X.ensures
+          (omega (
+            arith,
+            rw c.if-k.false at c.requires.branch_fits.1,
+            c.requires.branch_fits.0.square c.in-X.is,
+          )) (omega arith);
+      inside_2 = λ i j hi hj. dense args.k.size 1 _
+          (omega (arith, c.requires.size_in_bounds.0)) i j hi hj;
+    }
 
 pub corner-v-requires-in-X : goal.corner-v-requires-in-X
 corner-v-requires-in-X c =
@@ -104,12 +122,15 @@ corner-v-requires-in-X c =
 pub stamp_at-requires-in-X-2 : goal.stamp_at-requires-in-X-2
 stamp_at-requires-in-X-2 c =
     let args = c.args in
-    let told = c.enum_told-in-X-1 in
     let l = c.requires.frame_laid in
-    record { frame_laid = relaid args.f c.stamp_at-in-X.auto.work l; inside = corner-fits args.f W args.f.rows args.f.rows _ args.k.at args.k.at args.k.size args.k.size (omega arith)
-            c.corner-v-in-X.ensures (omega (arith, rw c.if-k.false at c.requires.branch_fits.1, c.requires.branch_fits.0.square told.given.1))
-            (omega (arith, rw c.if-k.false at c.requires.branch_fits.1, c.requires.branch_fits.0.square told.given.1)); inside_2 = λ i j hi hj. dense args.k.size args.k.size
-            _ (c.requires.size_in_bounds.1) i j hi hj }
+    record {
+      frame_laid = relaid args.f c.stamp_at-in-X.auto.work l;
+      inside = corner-fits args.f W args.f.rows args.f.rows _ args.k.at args.k.at args.k.size args.k.size (omega arith)
+          c.corner-v-in-X.ensures (omega (arith, rw c.if-k.false at c.requires.branch_fits.1, c.requires.branch_fits.0.square c.in-X.is))
+          (omega (arith, rw c.if-k.false at c.requires.branch_fits.1, c.requires.branch_fits.0.square c.in-X.is));
+      inside_2 = λ i j hi hj. dense args.k.size args.k.size
+          _ (c.requires.size_in_bounds.1) i j hi hj;
+    }
 
 pub returns-in-Z : goal.returns-in-Z
 returns-in-Z c = prior_z _ _ _ _ _ _ _ _ _ _ c.if-k.false

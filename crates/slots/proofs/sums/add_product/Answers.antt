@@ -24,8 +24,13 @@ returns-in_default c =
 pub gemm_at-requires : goal.gemm_at-requires
 gemm_at-requires c =
     let args = c.args in
-    record { frame_laid = c.requires.frame_laid; inside = goes_inside args.branch args.f (length args.work.now) args.k args.o _ _ _ c.requires.frame_laid c.requires.rows_value.0 c.requires.rows_value.1 c.requires.rows_value.2
-            c.target_of.ensures c.in-At.is; inside_2 = λ i j hi hj. dense _ _ _ c.requires.y_in_bounds.0 i j hi hj; inside_3 = λ i j hi hj. dense _ _ _ c.requires.y_in_bounds.1 i j hi hj }
+    record {
+      frame_laid = c.requires.frame_laid;
+      inside = goes_inside args.branch args.f (length args.work.now) args.k args.o _ _ _ c.requires.frame_laid c.requires.rows_value.0 c.requires.rows_value.1 c.requires.rows_value.2
+          c.target_of.ensures c.in-At.is;
+      inside_2 = λ i j hi hj. dense _ _ _ c.requires.y_in_bounds.0 i j hi hj;
+      inside_3 = λ i j hi hj. dense _ _ _ c.requires.y_in_bounds.1 i j hi hj;
+    }
 
 pub returns : goal.returns
 returns c =

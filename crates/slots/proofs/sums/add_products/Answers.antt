@@ -35,14 +35,17 @@ block_at-b-requires c =
 pub add_product-requires : goal.add_product-requires
 add_product-requires c =
     let loop = c.loop-j in
-    let all = let b = column_fits loop.j c.requires.wide (omega (arith, c.loop-j-test.true, loop.invariant.1)) loop.invariant.3
-    (ap (λ (s : Spot). s.size) c.find-o.ensures) in (
-      relaid _ loop.invariant.2 c.requires.frame_laid,
-      (
-        (c.requires.rows_value.0, c.requires.rows_value.1, rw c.find-o.ensures (c.requires.known loop.j (omega (arith, c.loop-j-test.true, loop.invariant.1))).sits),
-        (c.requires.rows_value.2, fits-block c.args.a.now _ _ loop.column _ c.block_at-b.ensures b.2),
-      ),
-    ) in record { frame_laid = all.0; rows_value = all.1.0; y_in_bounds = all.1.1 }
+    let b = column_fits loop.j c.requires.wide (omega (arith, c.loop-j-test.true, loop.invariant.1)) loop.invariant.3
+    (ap (λ (s : Spot). s.size) c.find-o.ensures) in
+    record {
+      frame_laid = relaid _ loop.invariant.2 c.requires.frame_laid;
+      rows_value = (
+        c.requires.rows_value.0,
+        c.requires.rows_value.1,
+        rw c.find-o.ensures (c.requires.known loop.j (omega (arith, c.loop-j-test.true, loop.invariant.1))).sits,
+      );
+      y_in_bounds = (c.requires.rows_value.2, fits-block c.args.a.now _ _ loop.column _ c.block_at-b.ensures b.2);
+    }
 
 pub overflow_add-column : goal.overflow_add-column
 overflow_add-column c =
@@ -65,8 +68,7 @@ loop-j-smaller c = omega arith
 pub loop-j-preserved : goal.loop-j-preserved
 loop-j-preserved c =
     let args = c.args in
-    let loop = c.loop-j in
-    (
+    let loop = c.loop-j in (
       omega (arith, c.loop-j-test.true),
       omega (arith, loop.invariant.1),
       c.add_product.auto.work ∙ loop.invariant.2,

@@ -73,11 +73,14 @@ pub copy_rows-requires : goal.copy_rows-requires
 copy_rows-requires c =
     let args = c.args in
     let l = c.requires.frame_laid in
-    record { frame_laid = l; branch_fits = (
+    record {
+      frame_laid = l;
+      branch_fits = (
         branch_other c.requires.fitted c.if-prior.false,
         (part_sizes c.requires.fitted args.nums.now refl).0,
         (part_sizes c.requires.fitted args.nums.now refl).1,
-      ) }
+      );
+    }
 
 pub offset_bounds-nums-o : goal.offset_bounds-nums-o
 offset_bounds-nums-o c = omega arith
@@ -105,10 +108,16 @@ pub add_keys-requires : goal.add_keys-requires
 add_keys-requires c =
     let args = c.args in
     let l = c.requires.frame_laid in
-    record { frame_laid = relaid args.f c.copy_rows.auto.work l; branch_fits = (branch_other c.requires.fitted c.if-prior.false, c.requires.fitted.scratch); y_in_bounds = (
-            (part_sizes c.requires.fitted args.nums.now refl).0,
-            (part_sizes c.requires.fitted args.nums.now refl).1,
-          ); known = c.requires.fitted.known; wide = wide_other c.requires.fitted _ c.if-prior.false (part_sizes c.requires.fitted args.nums.now refl).2 }
+    record {
+      frame_laid = relaid args.f c.copy_rows.auto.work l;
+      branch_fits = (branch_other c.requires.fitted c.if-prior.false, c.requires.fitted.scratch);
+      y_in_bounds = (
+        (part_sizes c.requires.fitted args.nums.now refl).0,
+        (part_sizes c.requires.fitted args.nums.now refl).1,
+      );
+      known = c.requires.fitted.known;
+      wide = wide_other c.requires.fitted _ c.if-prior.false (part_sizes c.requires.fitted args.nums.now refl).2;
+    }
 
 pub shape_of-work : goal.shape_of-work
 shape_of-work c = c.add_keys.auto.work

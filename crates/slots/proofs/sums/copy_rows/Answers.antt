@@ -19,27 +19,33 @@ pub stamp_at-requires : goal.stamp_at-requires
 stamp_at-requires c =
     let args = c.args in
     let l = c.requires.frame_laid in
-    record { frame_laid = l; inside = corner-fits args.f Xi args.f.rows 1 _ args.row 0 args.y 1 (omega arith) c.corner-u.ensures
-            (c.requires.branch_fits.0.inside c.in-Z.is) (omega arith); inside_2 = λ i j hi hj. dense args.y 1 _ (omega (arith, c.requires.branch_fits.1)) i j hi hj }
+    record {
+      frame_laid = l;
+      inside = corner-fits args.f Xi args.f.rows 1 _ args.row 0 args.y 1 (omega arith) c.corner-u.ensures
+          (c.requires.branch_fits.0.inside c.in-Z.is) (omega arith);
+      inside_2 = λ i j hi hj. dense args.y 1 _ (omega (arith, c.requires.branch_fits.1)) i j hi hj;
+    }
 
 pub corner-v-requires : goal.corner-v-requires
 corner-v-requires c =
-    let the-enum-told = c.enum_told-1 in
     let args = c.args in
     let l = c.requires.frame_laid in (
       l.few_rows,
-      omega (arith, c.requires.branch_fits.0.inside the-enum-told.given.1, l.few_rows),
-      omega (arith, c.requires.branch_fits.0.inside the-enum-told.given.1, l.few_rows),
+      omega (arith, c.requires.branch_fits.0.inside c.in-Z.is, l.few_rows),
+      omega (arith, c.requires.branch_fits.0.inside c.in-Z.is, l.few_rows),
     )
 
 pub stamp_at-requires-in-Z : goal.stamp_at-requires-in-Z
 stamp_at-requires-in-Z c =
     let args = c.args in
-    let told = c.enum_told-1 in
     let l = c.requires.frame_laid in
-    record { frame_laid = relaid args.f c.stamp_at.auto.work l; inside = corner-fits args.f W args.f.rows args.f.rows _ args.row args.row args.y args.y (omega arith)
-            c.corner-v.ensures (c.requires.branch_fits.0.inside told.given.1) (c.requires.branch_fits.0.inside told.given.1); inside_2 = λ i j hi hj. dense args.y
-            args.y _ (c.requires.branch_fits.2) i j hi hj }
+    record {
+      frame_laid = relaid args.f c.stamp_at.auto.work l;
+      inside = corner-fits args.f W args.f.rows args.f.rows _ args.row args.row args.y args.y (omega arith)
+          c.corner-v.ensures (c.requires.branch_fits.0.inside c.in-Z.is) (c.requires.branch_fits.0.inside c.in-Z.is);
+      inside_2 = λ i j hi hj. dense args.y
+          args.y _ (c.requires.branch_fits.2) i j hi hj;
+    }
 
 pub returns-in-Z : goal.returns-in-Z
 returns-in-Z c = rows_z _ _ _ _ _ _ _ _ _ _ _ c.in-Z.is
