@@ -25,7 +25,8 @@ pub messages_in-within-requires : goal.messages_in-within-requires
 messages_in-within-requires c =
     let pre = c.requires in
     let loop = c.loop-i in
-    record { codes = record {
+    record {
+      codes = record {
         long = pre.room.contents.long;
         few = omega (
           arith,
@@ -39,8 +40,10 @@ messages_in-within-requires c =
               pre.closed
                   loop.i c.loop-i-test.true,
             ));
-      }; from_le_to = pre.ordered loop.i
-          c.loop-i-test.true }
+      };
+      from_le_to = pre.ordered loop.i
+          c.loop-i-test.true;
+    }
 
 pub overflow_add-i : goal.overflow_add-i
 overflow_add-i c = record { fits = omega (arith, c.requires.few) }

@@ -34,8 +34,7 @@ loop-j-smaller c = omega arith
 pub loop-j-preserved : goal.loop-j-preserved
 loop-j-preserved c =
     let args = c.args in
-    let loop = c.loop-j in
-    (
+    let loop = c.loop-j in (
       omega arith,
       elim c.if-set-single-ne0.branch [
         | then-set-single-ne0 w ↦ subst (λ (x : ℕ). KeptTo args.messages args.set (loop.j + 1) x) (sym w.r-is)

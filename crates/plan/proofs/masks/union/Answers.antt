@@ -32,8 +32,7 @@ loop-i-smaller c = omega arith
 pub loop-i-preserved : goal.loop-i-preserved
 loop-i-preserved c =
     let args = c.args in
-    let loop = c.loop-i in
-    (
+    let loop = c.loop-i in (
       omega arith,
       omega arith,
       union_more args.sets.now args.numbers.now args.from loop.i loop.r loop.invariant.0
