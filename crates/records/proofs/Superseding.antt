@@ -12,7 +12,7 @@ use Rattle.graph.specs.declared.Graph.{Graph}
 use Rattle.graph.specs.declared.Added.{Added}
 use Rattle.graph.specs.declared.refusal.Refusal.{Refusal}
 use Rattle.graph.specs.declared.refusal.Refusal.TheVariants.{BadRecord, NotLive}
-use Rattle.graph.proofs.Calls.{in_place, entered-cases}
+use Rattle.graph.proofs.Calls.{in_place_lem, entered-cases}
 use Rattle.records.specs.Bytes.{byte_at, cut}
 use Rattle.records.specs.Records.{Request, number_bytes, within_at, ask_in_place, superseding_at, went_to, stopped}
 use Rattle.records.specs.declared.answer.Next.{Next}
@@ -32,7 +32,7 @@ module _ (g : Graph) (store : List Float) (bytes : List ℕ) (start j : ℕ) (v 
   step_in_place (back why) r s (er, es) = rw er (refl, es)
   step_in_place (plain exposure next w) r s (er, es) =
       let x : Added = entered g exposure store in
-      let e = in_place g j x store (entered_store g exposure store) v (replacing x.graph j x.outcome) live x s (refl, es) refl in
+      let e = in_place_lem g j x store (entered_store g exposure store) v (replacing x.graph j x.outcome) live x s (refl, es) refl in
       rw (er, ← e.0, ← e.1) (
         entered-cases g exposure store
             (λ x _. retiring j (went_to x next).graph (went_to x next).next ≡ went_to (replacing x.graph j x.outcome) next)

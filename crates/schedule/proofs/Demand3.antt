@@ -13,7 +13,7 @@ use lib.Dec.{T, eqb, ltb→lt, nltb→le, eqb→eq}
 use lib.ListN.{length, get_or, length-append, length-reverse}
 use Rattle.schedule.specs.Count.{hit, count, In, mem, joined, from}
 use Rattle.schedule.specs.Pass.{ClosedFactor, at, state_after, full_pass}
-use Rattle.schedule.specs.Gather.{alive_messages, leaves, Gathered, keys_last, uncovered, gathering, gather_at, gather}
+use Rattle.schedule.specs.Gather.{alive_messages, Gathered, keys_last, uncovered, gathering, gather_at, gather}
 use Rattle.schedule.specs.Plan.{place_in, plan}
 use Rattle.schedule.specs.Once.{behind, cleared_by, Once}
 use Rattle.schedule.proofs.Counts.{sure, hit_other, hit-cases, count-cons, count-append, count-reverse, count-joined, from_in, from-above}

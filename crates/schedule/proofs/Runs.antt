@@ -18,7 +18,7 @@ use Rattle.schedule.specs.Gather.{originals_in, messages_in}
 use Rattle.schedule.proofs.Counts.{count-cons, count-nil, count-append, mem_in, in_mem, sum-append, sum-member, sum_same}
 use Rattle.schedule.proofs.Sums.{sum_perm, sum-from_snoc, from-mem, joined-append}
 use Rattle.schedule.proofs.Walks.{walk-sum}
-use Rattle.schedule.specs.Messages.{inner, Older, collected}
+use Rattle.schedule.specs.Messages.{Older, collected}
 use Rattle.schedule.proofs.Trees.{all_old, all_new}
 use Rattle.schedule.proofs.Steps.{is_closed, Good, Inv, coupled_by}
 use Rattle.schedule.proofs.Steps as S

@@ -1,5 +1,5 @@
 -- `lines::put_line` meets its contract. Assumes nothing.
-use mathlib.Core.List.{◌∷◌, ◌++◌}
+use mathlib.Core.List.{◌∷◌, ◌++◌, []}
 use native.Mathlib.Omega.{arith}
 use lib.ListN.{length-append}
 use Rattle.text.specs.Decimals.{feed, decimal}

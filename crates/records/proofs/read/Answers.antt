@@ -80,36 +80,34 @@ overflow_add-place c = omega arith
 
 pub loop-at-smaller : goal.loop-at-smaller
 loop-at-smaller c =
-    let next = c.next-1 in
     let args = c.args in
     let loop = c.loop-at in
-    let w : (loop.at < next.given.0.0) × (next.given.0.0 ≤ length args.bytes.now) = (
+    let w : (loop.at < c.in-At.after) × (c.in-At.after ≤ length args.bytes.now) = (
       (on args.bytes.now loop.at loop.place loop.g loop.store (read_all args.bytes.now args.store.now) loop.invariant.4
-          c.loop-at-test.true loop.invariant.0 c.read_record-step.result _ c.read_record-step.ensures.value c.read_record-step.ensures.store_after _ next.given.1).1,
+          c.loop-at-test.true loop.invariant.0 c.read_record-step.result _ c.read_record-step.ensures.value c.read_record-step.ensures.store_after _ c.in-At.is).1,
       (on
           args.bytes.now loop.at loop.place loop.g loop.store (read_all args.bytes.now args.store.now) loop.invariant.4
-          c.loop-at-test.true loop.invariant.0 c.read_record-step.result _ c.read_record-step.ensures.value c.read_record-step.ensures.store_after _ next.given.1).2,
+          c.loop-at-test.true loop.invariant.0 c.read_record-step.result _ c.read_record-step.ensures.value c.read_record-step.ensures.store_after _ c.in-At.is).2,
     ) in
     omega arith
 
 pub loop-at-preserved : goal.loop-at-preserved
 loop-at-preserved c =
-    let next = c.next-1 in
     let args = c.args in
     let loop = c.loop-at in
-    let w : (loop.at < next.given.0.0) × (next.given.0.0 ≤ length args.bytes.now) = (
+    let w : (loop.at < c.in-At.after) × (c.in-At.after ≤ length args.bytes.now) = (
       (on args.bytes.now loop.at loop.place loop.g loop.store (read_all args.bytes.now args.store.now) loop.invariant.4
-          c.loop-at-test.true loop.invariant.0 c.read_record-step.result _ c.read_record-step.ensures.value c.read_record-step.ensures.store_after _ next.given.1).1,
+          c.loop-at-test.true loop.invariant.0 c.read_record-step.result _ c.read_record-step.ensures.value c.read_record-step.ensures.store_after _ c.in-At.is).1,
       (on
           args.bytes.now loop.at loop.place loop.g loop.store (read_all args.bytes.now args.store.now) loop.invariant.4
-          c.loop-at-test.true loop.invariant.0 c.read_record-step.result _ c.read_record-step.ensures.value c.read_record-step.ensures.store_after _ next.given.1).2,
+          c.loop-at-test.true loop.invariant.0 c.read_record-step.result _ c.read_record-step.ensures.value c.read_record-step.ensures.store_after _ c.in-At.is).2,
     ) in (
       omega arith,
       omega arith,
       omega arith,
       reached-step loop.g (record_at loop.g loop.store args.bytes.now loop.at) c.read_record-step.result c.read_record-step.ensures.value loop.invariant.3,
       (on args.bytes.now loop.at loop.place loop.g loop.store (read_all args.bytes.now args.store.now) loop.invariant.4
-          c.loop-at-test.true loop.invariant.0 c.read_record-step.result _ c.read_record-step.ensures.value c.read_record-step.ensures.store_after _ next.given.1).0,
+          c.loop-at-test.true loop.invariant.0 c.read_record-step.result _ c.read_record-step.ensures.value c.read_record-step.ensures.store_after _ c.in-At.is).0,
     )
 
 pub shape_of-store : goal.shape_of-store

@@ -166,23 +166,26 @@ slice_bounds-read_observed-end c = omega (
   arith,
   few-keys c.byte-count.result c.byte-rows.result
       (tells c.counts_fit.ensures
-      (not-false _ c.if-not-counts_fit.false)),
+      c.if-not-counts_fit.false),
 )
 
 pub read_observed-requires : goal.read_observed-requires
 read_observed-requires c =
     let args = c.args in
     let byte = c.byte-count in
-    record { g_value = (
+    record {
+      g_value = (
         c.requires.0,
         there args.bytes.now (args.at + 3) byte.result
             (tells c.cut-2.ensures c.if-cut-2.false),
-      ); rows_value = (
+      );
+      rows_value = (
         counted args.bytes.now (args.at + 3) byte.result c.byte-rows.result _ (front (λ i. byte_at args.bytes.now (args.at + 3 + i)) byte.result _ _
-            c.keys.ensures) (tells c.counts_fit.ensures (not-false _ c.if-not-counts_fit.false)),
+            c.keys.ensures) (tells c.counts_fit.ensures c.if-not-counts_fit.false),
         (tells c.flag_known.ensures
-            (not-false _ c.if-not-flag_known.false)),
-      ) }
+            c.if-not-flag_known.false),
+      );
+    }
 
 pub returns : goal.returns
 returns c =
@@ -191,8 +194,8 @@ returns c =
     (tells c.cut.ensures c.if-cut.false) c.byte-count.result c.byte-rows.result
     c.meaning-flag.result c.byte-count.ensures.0 c.byte-rows.ensures.0 (meant args.bytes.now args.at c.byte.result c.meaning-flag.result
     c.byte.ensures.0 c.meaning-flag.ensures) (tells c.flag_known.ensures
-    (not-false _ c.if-not-flag_known.false))
-    (tells c.counts_fit.ensures (not-false _ c.if-not-counts_fit.false))
+    c.if-not-flag_known.false)
+    (tells c.counts_fit.ensures c.if-not-counts_fit.false)
     (tells c.cut-2.ensures c.if-cut-2.false) _
     (front (λ i. byte_at args.bytes.now (args.at + 3 + i)) c.byte-count.result _ _
     c.keys.ensures)) (c.read_observed.ensures.value, c.read_observed.ensures.store_after) in record { value = all.0; store_after = all.1 }

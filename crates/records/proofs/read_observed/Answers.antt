@@ -59,8 +59,7 @@ returns-then-not-known c =
 
 pub observation_of-f-requires : goal.observation_of-f-requires
 observation_of-f-requires c =
-    let args = c.args in
-    (
+    let args = c.args in (
       few-keys _ _ c.requires.rows_value.0,
       omega (arith, most-rows _ _ c.requires.rows_value.0),
       known_more args.g.variables args.keys.now (valid-variables args.g c.requires.g_value.0)
@@ -75,7 +74,9 @@ a_numbers-n-requires c =
 pub read_observed_numbers-requires : goal.read_observed_numbers-requires
 read_observed_numbers-requires c =
     let args = c.args in
-    record { at_in_bounds = (c.requires.g_value.1, c.requires.rows_value.1, c.requires.g_value.0); le_rows = (
+    record {
+      at_in_bounds = (c.requires.g_value.1, c.requires.rows_value.1, c.requires.g_value.0);
+      le_rows = (
         some-rows _ _ c.requires.rows_value.0,
         most-rows _ _ c.requires.rows_value.0,
         numbers-most args.g args.keys.now args.rows c.observation_of-f.result _
@@ -83,7 +84,8 @@ read_observed_numbers-requires c =
             (not-false _ c.if-not-rising.false-raw))
             (tells c.known.ensures (not-false _ c.if-not-known.false-raw))
             c.observation_of-f.ensures c.a_numbers-n.ensures.0,
-      ) }
+      );
+    }
 
 pub returns : goal.returns
 returns c =

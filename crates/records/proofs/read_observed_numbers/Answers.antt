@@ -52,25 +52,24 @@ module _ (g : Graph) (store : List Float) (bytes keys : List ℕ) (rows : ℕ) (
   unfolding observed_numbers
   taken h a mean variance added r t ex em ew ea er et = rw (← ev, h, ← ex, ← em, ← ew, ← ea) (er, et)
 
-small : (c : goal.Start) → c.args.rows * c.args.rows ≤ max_rows * max_rows
-small c = mul-le-mul c.requires.le_rows.1 c.requires.le_rows.1
+small : (rows : ℕ) → rows ≤ max_rows → rows * rows ≤ max_rows * max_rows
+small rows h = mul-le-mul h h
 
 -- where nothing is cut all numbers are there
-whole : (c : goal.Start) (v : ℕ) (b : Bool) → (v ≡ given_numbers c.args.flag c.args.rows) × (v ≤ max_rows * max_rows)
-    → b ≡ cut c.args.bytes.now c.args.at (8 * (c.args.n + c.args.rows + v)) → b ≡ false
-    → (c.args.rows * c.args.rows ≤ max_rows * max_rows) × (v ≡ given_numbers c.args.flag c.args.rows) × (v ≤ max_rows * max_rows)
-    × (c.args.at + 8 * (c.args.n + c.args.rows + given_numbers c.args.flag c.args.rows) ≤ length c.args.bytes.now)
-whole c v b e t h =
-    (small c, e.0, e.1, of-all c.args.bytes.now c.args.at (c.args.n + c.args.rows) v (given_numbers c.args.flag c.args.rows) b e.0 t h)
+whole : (flag : Flag) (bytes : List ℕ) (n at rows v : ℕ) (b : Bool) → rows ≤ max_rows
+    → (v ≡ given_numbers flag rows) × (v ≤ max_rows * max_rows) → b ≡ cut bytes at (8 * (n + rows + v)) → b ≡ false
+    → (rows * rows ≤ max_rows * max_rows) × (v ≡ given_numbers flag rows) × (v ≤ max_rows * max_rows)
+    × (at + 8 * (n + rows + given_numbers flag rows) ≤ length bytes)
+whole flag bytes n at rows v b l e t h = (small rows l, e.0, e.1, of-all bytes at (n + rows) v (given_numbers flag rows) b e.0 t h)
 
 pub overflow_mul-square : goal.overflow_mul-square
-overflow_mul-square c = omega (arith, small c.before.before.before)
+overflow_mul-square c = omega (arith, small c.args.rows c.requires.le_rows.1)
 
 pub overflow_add-all-2 : goal.overflow_add-all-2
-overflow_add-all-2 c = omega (arith, small c.before.before.before.before, c.given.ensures.1)
+overflow_add-all-2 c = omega (arith, small c.args.rows c.requires.le_rows.1, c.given.ensures.1)
 
 pub overflow_mul-all : goal.overflow_mul-all
-overflow_mul-all c = omega (arith, small c.before.before.before.before, c.given.ensures.1)
+overflow_mul-all c = omega (arith, small c.args.rows c.requires.le_rows.1, c.given.ensures.1)
 
 pub returns-then-cut : goal.returns-then-cut
 returns-then-cut c =
@@ -82,79 +81,75 @@ returns-then-cut c =
 pub overflow_add-end : goal.overflow_add-end
 overflow_add-end c = omega (
   arith,
-  whole c.before.before.before.before.before.before _ _ c.given.ensures c.cut.ensures
+  whole c.args.flag c.args.bytes.now c.args.n c.args.at c.args.rows _ _ c.requires.le_rows.1 c.given.ensures c.cut.ensures
       c.if-cut.false,
 )
 
 pub numbers-requires : goal.numbers-requires
 numbers-requires c = omega (
   arith,
-  whole c.before.before.before.before.before.before.before _ _
-      c.given.ensures c.cut.ensures c.if-cut.false,
+  whole c.args.flag c.args.bytes.now c.args.n c.args.at c.args.rows _ _ c.requires.le_rows.1 c.given.ensures c.cut.ensures c.if-cut.false,
 )
 
 pub overflow_mul-n : goal.overflow_mul-n
 overflow_mul-n c = omega (
   arith,
-  whole c.before.before.before.before.before.before.before.before.before _ _
-      c.given.ensures c.cut.ensures c.if-cut.false,
+  whole c.args.flag c.args.bytes.now c.args.n c.args.at c.args.rows _ _ c.requires.le_rows.1 c.given.ensures c.cut.ensures c.if-cut.false,
 )
 
 pub overflow_add-at : goal.overflow_add-at
 overflow_add-at c = omega (
   arith,
-  whole c.before.before.before.before.before.before.before.before.before _ _
-      c.given.ensures c.cut.ensures c.if-cut.false,
+  whole c.args.flag c.args.bytes.now c.args.n c.args.at c.args.rows _ _ c.requires.le_rows.1 c.given.ensures c.cut.ensures c.if-cut.false,
 )
 
 pub numbers-requires-2 : goal.numbers-requires-2
 numbers-requires-2 c = omega (
   arith,
-  whole c.before.before.before.before.before.before.before.before.before.before _ _
-      c.given.ensures c.cut.ensures
+  whole c.args.flag c.args.bytes.now c.args.n c.args.at c.args.rows _ _ c.requires.le_rows.1 c.given.ensures c.cut.ensures
       c.if-cut.false,
 )
 
 pub overflow_add-n : goal.overflow_add-n
 overflow_add-n c = omega (
   arith,
-  whole c.before.before.before.before.before.before.before.before.before.before.before.before _ _
-      c.given.ensures
+  whole c.args.flag c.args.bytes.now c.args.n c.args.at c.args.rows _ _ c.requires.le_rows.1 c.given.ensures
       c.cut.ensures c.if-cut.false,
 )
 
 pub overflow_mul-n-2 : goal.overflow_mul-n-2
 overflow_mul-n-2 c = omega (
   arith,
-  whole c.before.before.before.before.before.before.before.before.before.before.before.before _ _
-      c.given.ensures
+  whole c.args.flag c.args.bytes.now c.args.n c.args.at c.args.rows _ _ c.requires.le_rows.1 c.given.ensures
       c.cut.ensures c.if-cut.false,
 )
 
 pub overflow_add-at-2 : goal.overflow_add-at-2
 overflow_add-at-2 c = omega (
   arith,
-  whole c.before.before.before.before.before.before.before.before.before.before.before.before _ _
-      c.given.ensures
+  whole c.args.flag c.args.bytes.now c.args.n c.args.at c.args.rows _ _ c.requires.le_rows.1 c.given.ensures
       c.cut.ensures c.if-cut.false,
 )
 
 pub read_variance-requires : goal.read_variance-requires
 read_variance-requires c =
     let args = c.args in
-    record { rows_in_bounds = (
+    record {
+      rows_in_bounds = (
         omega (
           arith,
           of-all args.bytes.now args.at (args.n + args.rows) c.given.result (given_numbers args.flag args.rows)
               c.cut.result c.given.ensures.0 c.cut.ensures c.if-cut.false,
         ),
         c.requires.at_in_bounds.1,
-      ); le_rows = (c.requires.le_rows.0, c.requires.le_rows.1, mul-le-mul c.requires.le_rows.1 c.requires.le_rows.1) }
+      );
+      le_rows = (c.requires.le_rows.0, c.requires.le_rows.1, mul-le-mul c.requires.le_rows.1 c.requires.le_rows.1);
+    }
 
 pub slice_bounds-enter_observation-end-3 : goal.slice_bounds-enter_observation-end-3
 slice_bounds-enter_observation-end-3 c = omega (
   arith,
-  small c.before.before.before.before.before.before.before.before.before.before.before.before.before.before.before.before.before.before.before.before,
+  small c.args.rows c.requires.le_rows.1,
 )
 
 pub returns : goal.returns

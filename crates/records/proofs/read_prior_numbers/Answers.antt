@@ -32,22 +32,22 @@ module _ (g : Graph) (store : List Float) (bytes : List ℕ) (key s at : ℕ) wh
   unfolding prior_numbers
   taken h mean variance added r t em ev ea er et = rw (h, ← em, ← ev, ← ea) (er, et)
 
-small : (c : goal.Start) → c.args.s * c.args.s ≤ max_size * max_size
-small c = mul-le-mul c.requires.1 c.requires.1
+small : (s : ℕ) → s ≤ max_size → s * s ≤ max_size * max_size
+small s h = mul-le-mul h h
 
 -- where nothing is cut all numbers are there
-whole : (c : goal.Start) (b : Bool) → b ≡ cut c.args.bytes.now c.args.at (8 * (c.args.s + c.args.s * c.args.s)) → b ≡ false
-    → (c.args.s * c.args.s ≤ max_size * max_size) × (c.args.at + 8 * (c.args.s + c.args.s * c.args.s) ≤ length c.args.bytes.now)
-whole c b e h = (small c, there c.args.bytes.now c.args.at (8 * (c.args.s + c.args.s * c.args.s)) (tells e h))
+whole : (bytes : List ℕ) (at s : ℕ) (b : Bool) → s ≤ max_size → b ≡ cut bytes at (8 * (s + s * s)) → b ≡ false
+    → (s * s ≤ max_size * max_size) × (at + 8 * (s + s * s) ≤ length bytes)
+whole bytes at s b l e h = (small s l, there bytes at (8 * (s + s * s)) (tells e h))
 
 pub overflow_mul-square : goal.overflow_mul-square
-overflow_mul-square c = omega (arith, small c.before.before)
+overflow_mul-square c = omega (arith, small c.args.s c.requires.1)
 
 pub overflow_add-s : goal.overflow_add-s
-overflow_add-s c = omega (arith, small c.before.before)
+overflow_add-s c = omega (arith, small c.args.s c.requires.1)
 
 pub overflow_mul-s : goal.overflow_mul-s
-overflow_mul-s c = omega (arith, small c.before.before)
+overflow_mul-s c = omega (arith, small c.args.s c.requires.1)
 
 pub returns-then-cut : goal.returns-then-cut
 returns-then-cut c =
@@ -56,43 +56,42 @@ returns-then-cut c =
     (tells c.cut.ensures c.if-cut.true)) c.stop.ensures refl in record { value = all.0; store_after = all.1 }
 
 pub overflow_add-end : goal.overflow_add-end
-overflow_add-end c = omega (arith, whole c.before.before.before.before _ c.cut.ensures c.if-cut.false)
+overflow_add-end c = omega (arith, whole c.args.bytes.now c.args.at c.args.s _ c.requires.1 c.cut.ensures c.if-cut.false)
 
 pub overflow_mul-end : goal.overflow_mul-end
-overflow_mul-end c = omega (arith, whole c.before.before.before.before _ c.cut.ensures c.if-cut.false)
+overflow_mul-end c = omega (arith, whole c.args.bytes.now c.args.at c.args.s _ c.requires.1 c.cut.ensures c.if-cut.false)
 
 pub overflow_add-end-2 : goal.overflow_add-end-2
-overflow_add-end-2 c = omega (arith, whole c.before.before.before.before _ c.cut.ensures c.if-cut.false)
+overflow_add-end-2 c = omega (arith, whole c.args.bytes.now c.args.at c.args.s _ c.requires.1 c.cut.ensures c.if-cut.false)
 
 pub numbers-requires : goal.numbers-requires
-numbers-requires c = omega (arith, whole c.before.before.before.before.before _ c.cut.ensures c.if-cut.false)
+numbers-requires c = omega (arith, whole c.args.bytes.now c.args.at c.args.s _ c.requires.1 c.cut.ensures c.if-cut.false)
 
 pub overflow_mul-s-2 : goal.overflow_mul-s-2
 overflow_mul-s-2 c = omega (
   arith,
-  whole c.before.before.before.before.before.before.before _ c.cut.ensures
+  whole c.args.bytes.now c.args.at c.args.s _ c.requires.1 c.cut.ensures
       c.if-cut.false,
 )
 
 pub overflow_add-at : goal.overflow_add-at
 overflow_add-at c = omega (
   arith,
-  whole c.before.before.before.before.before.before.before _ c.cut.ensures
+  whole c.args.bytes.now c.args.at c.args.s _ c.requires.1 c.cut.ensures
       c.if-cut.false,
 )
 
 pub numbers-requires-2 : goal.numbers-requires-2
 numbers-requires-2 c = omega (
   arith,
-  whole c.before.before.before.before.before.before.before.before _
-      c.cut.ensures c.if-cut.false,
+  whole c.args.bytes.now c.args.at c.args.s _ c.requires.1 c.cut.ensures c.if-cut.false,
 )
 
 pub slice_bounds-enter_prior-end : goal.slice_bounds-enter_prior-end
-slice_bounds-enter_prior-end c = omega (arith, small c.before.before.before.before.before.before.before.before.before.before.before)
+slice_bounds-enter_prior-end c = omega (arith, small c.args.s c.requires.1)
 
 pub slice_bounds-enter_prior-end-2 : goal.slice_bounds-enter_prior-end-2
-slice_bounds-enter_prior-end-2 c = omega (arith, small c.before.before.before.before.before.before.before.before.before.before.before.before.before)
+slice_bounds-enter_prior-end-2 c = omega (arith, small c.args.s c.requires.1)
 
 pub returns : goal.returns
 returns c =

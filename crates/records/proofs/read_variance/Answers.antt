@@ -42,9 +42,8 @@ numbers-requires c =
 
 pub returns-in-Diagonal : goal.returns-in-Diagonal
 returns-in-Diagonal c =
-    let flag = c.flag-1 in
     let args = c.args in
-    of-diagonal args.flag args.bytes.now args.at args.rows args.out.now _ _ flag.given.1
+    of-diagonal args.flag args.bytes.now args.at args.rows args.out.now _ _ c.in-Diagonal.is
     c.diagonal.ensures
 
 pub returns-in-Given : goal.returns-in-Given

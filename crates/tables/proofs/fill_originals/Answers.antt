@@ -14,11 +14,11 @@ loop-number-init c = (search rules, refl, refl, search rules, no_offset _, refl,
 
 pub offset_bounds-g-number : goal.offset_bounds-g-number
 offset_bounds-g-number c =
-    omega (arith, valid-count c.args.self c.requires.g_value)
+    omega (arith, valid-count c.args.g c.requires.g_value)
 
 pub bounds-g-number : goal.bounds-g-number
 bounds-g-number c =
-    omega (arith, valid-count c.args.self c.requires.g_value)
+    omega (arith, valid-count c.args.g c.requires.g_value)
 
 pub put_original-requires : goal.put_original-requires
 put_original-requires c =
@@ -29,12 +29,12 @@ put_original-requires c =
 pub numbers-at-requires : goal.numbers-at-requires
 numbers-at-requires c =
     let loop = c.loop-number in
-    valid_touched c.args.self c.requires.g_value loop.number (omega (arith, loop.invariant.1))
+    valid_touched c.args.g c.requires.g_value loop.number (omega (arith, loop.invariant.1))
 
 pub overflow_add-at : goal.overflow_add-at
 overflow_add-at c =
     let loop = c.loop-number in
-    omega (arith, c.numbers-at.ensures.1, loop.invariant.3, loop.invariant.1, valid-count c.args.self c.requires.g_value)
+    omega (arith, c.numbers-at.ensures.1, loop.invariant.3, loop.invariant.1, valid-count c.args.g c.requires.g_value)
 
 pub loop-number-preserved : goal.loop-number-preserved
 loop-number-preserved c =

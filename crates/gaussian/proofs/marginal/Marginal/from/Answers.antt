@@ -1,10 +1,11 @@
 -- `gaussian::marginal::Marginal::from` meets its contract: the parts of the message are A, xi and W, and the moments stand at the start of their
 -- arrays. Assumes nothing.
-use Prim.Native.Nat.{◌+◌, ◌*◌, ◌≤◌}
+use Prim.Native.Nat.{ℕ, ◌+◌, ◌*◌, ◌≤◌}
 use mathlib.Core.Path.{◌∙◌}
+use mathlib.Core.List.{List}
 use native.Mathlib.Omega.{arith}
 use native.Mathlib.Nat.{mul-le-mul}
-use lib.Ieee.{of_bits}
+use lib.Ieee.{Float, of_bits}
 use lib.ListN.{length}
 use Rattle.factor.specs.Limits.{max_size, max_total}
 use Rattle.matrix.specs.Sums.{plus_zero}
@@ -16,87 +17,88 @@ use Rattle.gaussian.proofs.Telling.{from-tells}
 use Rattle.gaussian.proofs.marginal.Marginal.from.Goals as goal
 
 -- what the places of A, xi and W are made of is small
-small : (c : goal.Start) → (c.args.rows * c.args.size ≤ max_total * max_size) × (c.args.rows * c.args.rows ≤ max_total * max_total)
-    × (c.args.size * c.args.size ≤ max_size * max_size) × (factor_numbers c.args.rows c.args.size ≤ length c.args.message.now)
-small c = (mul-le-mul c.requires.1 c.requires.0, mul-le-mul c.requires.1 c.requires.1, mul-le-mul c.requires.0 c.requires.0, c.requires.2)
+small : {rows size : ℕ} {message : List Float} → (size ≤ max_size) × (rows ≤ max_total) × (factor_numbers rows size ≤ length message)
+    → (rows * size ≤ max_total * max_size) × (rows * rows ≤ max_total * max_total) × (size * size ≤ max_size * max_size)
+    × (factor_numbers rows size ≤ length message)
+small p = (mul-le-mul p.1 p.0, mul-le-mul p.1 p.1, mul-le-mul p.0 p.0, p.2)
 
 pub overflow_mul-p : goal.overflow_mul-p
-overflow_mul-p c = omega (arith, small c.before)
+overflow_mul-p c = omega (arith, small c.requires)
 
 pub overflow_add-q : goal.overflow_add-q
-overflow_add-q c = omega (arith, small c.before)
+overflow_add-q c = omega (arith, small c.requires)
 
 pub overflow_mul-e : goal.overflow_mul-e
-overflow_mul-e c = omega (arith, small c.before)
+overflow_mul-e c = omega (arith, small c.requires)
 
 pub overflow_add-e : goal.overflow_add-e
-overflow_add-e c = omega (arith, small c.before)
+overflow_add-e c = omega (arith, small c.requires)
 
 pub overflow_mul-square : goal.overflow_mul-square
-overflow_mul-square c = omega (arith, small c.before)
+overflow_mul-square c = omega (arith, small c.requires)
 
 pub offset_bounds-message-o : goal.offset_bounds-message-o
-offset_bounds-message-o c = omega (arith, small c.before)
+offset_bounds-message-o c = omega (arith, small c.requires)
 
 pub slice_bounds-moments-count : goal.slice_bounds-moments-count
-slice_bounds-moments-count c = omega (arith, small c.before)
+slice_bounds-moments-count c = omega (arith, small c.requires)
 
 pub slice_bounds-moments-start : goal.slice_bounds-moments-start
-slice_bounds-moments-start c = omega (arith, small c.before)
+slice_bounds-moments-start c = omega (arith, small c.requires)
 
 pub slice_bounds-moments-end : goal.slice_bounds-moments-end
-slice_bounds-moments-end c = omega (arith, small c.before)
+slice_bounds-moments-end c = omega (arith, small c.requires)
 
 pub offset_bounds-message-p : goal.offset_bounds-message-p
-offset_bounds-message-p c = omega (arith, small c.before.before)
+offset_bounds-message-p c = omega (arith, small c.requires)
 
 pub slice_bounds-moments-count-2 : goal.slice_bounds-moments-count-2
-slice_bounds-moments-count-2 c = omega (arith, small c.before.before)
+slice_bounds-moments-count-2 c = omega (arith, small c.requires)
 
 pub slice_bounds-moments-start-2 : goal.slice_bounds-moments-start-2
-slice_bounds-moments-start-2 c = omega (arith, small c.before.before)
+slice_bounds-moments-start-2 c = omega (arith, small c.requires)
 
 pub slice_bounds-moments-end-2 : goal.slice_bounds-moments-end-2
-slice_bounds-moments-end-2 c = omega (arith, small c.before.before)
+slice_bounds-moments-end-2 c = omega (arith, small c.requires)
 
 pub offset_bounds-message-q : goal.offset_bounds-message-q
-offset_bounds-message-q c = omega (arith, small c.before.before.before)
+offset_bounds-message-q c = omega (arith, small c.requires)
 
 pub slice_bounds-moments-count-3 : goal.slice_bounds-moments-count-3
-slice_bounds-moments-count-3 c = omega (arith, small c.before.before.before)
+slice_bounds-moments-count-3 c = omega (arith, small c.requires)
 
 pub slice_bounds-moments-start-3 : goal.slice_bounds-moments-start-3
-slice_bounds-moments-start-3 c = omega (arith, small c.before.before.before)
+slice_bounds-moments-start-3 c = omega (arith, small c.requires)
 
 pub slice_bounds-moments-end-3 : goal.slice_bounds-moments-end-3
-slice_bounds-moments-end-3 c = omega (arith, small c.before.before.before)
+slice_bounds-moments-end-3 c = omega (arith, small c.requires)
 
 pub slice_bounds-moments-count-4 : goal.slice_bounds-moments-count-4
-slice_bounds-moments-count-4 c = omega (arith, small c.before.before.before.before)
+slice_bounds-moments-count-4 c = omega (arith, small c.requires)
 
 pub slice_bounds-mean-start : goal.slice_bounds-mean-start
-slice_bounds-mean-start c = omega (arith, small c.before.before.before.before)
+slice_bounds-mean-start c = omega (arith, small c.requires)
 
 pub slice_bounds-mean-end : goal.slice_bounds-mean-end
-slice_bounds-mean-end c = omega (arith, small c.before.before.before.before)
+slice_bounds-mean-end c = omega (arith, small c.requires)
 
 pub slice_bounds-moments-count-5 : goal.slice_bounds-moments-count-5
-slice_bounds-moments-count-5 c = omega (arith, small c.before.before.before.before.before)
+slice_bounds-moments-count-5 c = omega (arith, small c.requires)
 
 pub slice_bounds-l-start : goal.slice_bounds-l-start
-slice_bounds-l-start c = omega (arith, small c.before.before.before.before.before)
+slice_bounds-l-start c = omega (arith, small c.requires)
 
 pub slice_bounds-l-end : goal.slice_bounds-l-end
-slice_bounds-l-end c = omega (arith, small c.before.before.before.before.before)
+slice_bounds-l-end c = omega (arith, small c.requires)
 
 pub slice_bounds-moments-count-6 : goal.slice_bounds-moments-count-6
-slice_bounds-moments-count-6 c = omega (arith, small c.before.before.before.before.before.before)
+slice_bounds-moments-count-6 c = omega (arith, small c.requires)
 
 pub slice_bounds-covariance-start : goal.slice_bounds-covariance-start
-slice_bounds-covariance-start c = omega (arith, small c.before.before.before.before.before.before)
+slice_bounds-covariance-start c = omega (arith, small c.requires)
 
 pub slice_bounds-covariance-end : goal.slice_bounds-covariance-end
-slice_bounds-covariance-end c = omega (arith, small c.before.before.before.before.before.before)
+slice_bounds-covariance-end c = omega (arith, small c.requires)
 
 pub moments-requires : goal.moments-requires
 unfolding of_bits
