@@ -1,7 +1,6 @@
 -- `messages::carry_pass` meets its contract. The loop's invariant, `Carrying`: the messages passed are made and stored; a refused one ends the list
 -- of values. Assumes nothing.
 use mathlib.Core.Path.{◌≡◌, refl, ◌∙◌}
-use Prim.Native.Nat.{◌-◌}
 use lib.ListN.{length}
 use Rattle.factor.specs.Limits.{max_variables}
 use Rattle.plan.specs.Pass.{messages_of}

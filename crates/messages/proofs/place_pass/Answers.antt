@@ -1,7 +1,6 @@
 -- `messages::place_pass` meets its contract. The loop's invariant, `Progress`: the messages passed have their places. Assumes nothing.
 use mathlib.Core.Path.{◌≡◌}
 use lib.ListN.{length}
-use Prim.Native.Nat.{◌-◌}
 use Rattle.factor.specs.Limits.{max_variables}
 use Rattle.plan.specs.Pass.{messages_of}
 use Rattle.plan.proofs.Sending.{messages-length}

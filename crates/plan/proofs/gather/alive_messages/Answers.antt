@@ -1,7 +1,7 @@
 -- Before each turn `upto` is the set of the messages below i of step at most t, and `within` that of the messages they contain (`Alive`).
 -- Assumes nothing.
 use mathlib.Core.Path.{sym, subst₂}
-use Prim.Native.Nat.{◌+◌, ◌-◌}
+use Prim.Native.Nat.{◌+◌}
 use native.Mathlib.Omega.{arith}
 use Rattle.plan.proofs.Alive.{AliveTo, start, more, same, done}
 use Rattle.plan.proofs.gather.alive_messages.Goals as goal

@@ -3,7 +3,7 @@
 use borrow.Author.Rules.{rules}
 use mathlib.Core.Path.{◌≡◌, sym, ap, subst, ◌∙◌}
 use mathlib.Core.List.{List}
-use Prim.Native.Nat.{ℕ, ◌+◌, ◌-◌}
+use Prim.Native.Nat.{ℕ, ◌+◌}
 use native.Mathlib.Omega.{arith}
 use Rattle.schedule.specs.Count.{mem, joined}
 use Rattle.plan.proofs.Unions.{in_set, off_set, kept_at, KeptTo, kept-none, kept_in, kept_off, keys_in-below}

@@ -1,7 +1,7 @@
 -- Before each turn the items are the leaves under the messages of the set below j (`Uncovered`).
 -- Assumes nothing.
 use mathlib.Core.Path.{sym, subst}
-use Prim.Native.Nat.{◌+◌, ◌-◌}
+use Prim.Native.Nat.{◌+◌}
 use native.Mathlib.Omega.{arith}
 use Rattle.plan.proofs.Uncovered.{Leaving, begin, openable, leave_more, leave_same, end}
 use Rattle.plan.proofs.gather.leaves_of.Goals as goal
