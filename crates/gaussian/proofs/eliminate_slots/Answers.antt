@@ -19,21 +19,19 @@ dim_of-d-requires c = c.requires.asked.kept_listed
 
 pub send-requires : goal.send-requires
 send-requires c =
-    let g = c.well_formed in
     let n : length c.args.sizes ≡ 32 = omega arith in
-    let all = rw (c.dim_of-u.ensures, c.dim_of-d.ensures) (
-      (
+    record {
+      d_bound = rw (c.dim_of-u.ensures, c.dim_of-d.ensures) (
         c.requires.asked.total,
         few_rows n c.requires.asked _ c.eliminate_in.ensures.value _ c.in-Rows.is,
-        omega (arith, c.requires.asked.enough, c.eliminate_in.auto.1.1.0),
-      ),
-      has_room n c.requires.asked _ c.eliminate_in.ensures.value _ c.in-Rows.is _ _ c.requires.roomy,
-    ) in record { d_bound = all.0; d_in_bounds = all.1 }
+        omega (arith, c.requires.asked.enough, c.eliminate_in.auto.work),
+      );
+      d_in_bounds = rw c.dim_of-d.ensures (has_room n c.requires.asked _ c.eliminate_in.ensures.value _ c.in-Rows.is _ _ c.requires.roomy);
+    }
 
 pub returns-in-Rows : goal.returns-in-Rows
 returns-in-Rows c =
     let args = c.args in
-    let g = c.well_formed in
     let n : length args.sizes ≡ 32 = omega arith in
     let all = stored-tells _ _ _ _ _ (message_sent n c.requires.asked _ c.eliminate_in.ensures.value _
     c.in-Rows.is _ c.eliminate_in.ensures.sizes_after _ _ args.to

@@ -46,8 +46,8 @@ loop-number-preserved c =
       loop.invariant.2,
       omega (arith, c.numbers-at.ensures.1, loop.invariant.3),
       next-offset args.g loop.number loop.at _ (factor_at args.g loop.number) refl loop.invariant.4 c.numbers-at.ensures.0,
-      c.put_original.auto.1.1.1.1.0 ∙ loop.invariant.5,
-      c.put_original.auto.1.1.1.1.1.0 ∙ loop.invariant.6,
+      c.put_original.auto.keys ∙ loop.invariant.5,
+      c.put_original.auto.heads ∙ loop.invariant.6,
       entered-more args.g c.requires.g_value loop.keys loop.heads (omega (arith, loop.invariant.5, c.requires.max_factors_in_bounds.0)) (omega (arith, loop.invariant.6, c.requires.max_factors_in_bounds.1))
           loop.number loop.at (factor_at args.g loop.number) _ _ (omega (arith, loop.invariant.1)) loop.invariant.4 refl
           c.put_original.ensures.keys_after c.put_original.ensures.heads_after loop.invariant.7,

@@ -1,6 +1,6 @@
 -- `gaussian::marginal::marginalize` meets its contract: the message in the work store is the one that the marginal is made of. Assumes nothing.
 use mathlib.Core.Path.{◌≡◌}
-use mathlib.Core.List.{◌∷◌}
+use mathlib.Core.List.{[], ◌∷◌}
 use native.Mathlib.Omega.{arith}
 use lib.ListN.{length, get_or}
 use Rattle.slots.proofs.Adding.{fits-part}
@@ -38,7 +38,7 @@ offset_bounds-work-p c =
     let h = few_rows n c.requires.asked _ c.eliminate_in.ensures.value _ c.in-Rows.is in
     let s = spans c.dim_of.result c.in-Rows.rows c.dim_of-size.result _ c.frame_of-f.ensures
     (omega (arith, c.requires.asked.total, c.dim_of-size.ensures, c.dim_of.ensures)) (omega (arith, h, c.dim_of-size.ensures)) in
-    omega (arith, s.ends, s.within, c.requires.asked.enough, c.eliminate_in.auto.1.1.0)
+    omega (arith, s.ends, s.within, c.requires.asked.enough, c.eliminate_in.auto.work)
 
 pub slice_bounds-from-count : goal.slice_bounds-from-count
 slice_bounds-from-count c =
@@ -47,7 +47,7 @@ slice_bounds-from-count c =
     let h = few_rows n c.requires.asked _ c.eliminate_in.ensures.value _ c.in-Rows.is in
     let s = spans c.dim_of.result c.in-Rows.rows c.dim_of-size.result _ c.frame_of-f.ensures
     (omega (arith, c.requires.asked.total, c.dim_of-size.ensures, c.dim_of.ensures)) (omega (arith, h, c.dim_of-size.ensures)) in
-    omega (arith, s.ends, s.within, c.requires.asked.enough, c.eliminate_in.auto.1.1.0)
+    omega (arith, s.ends, s.within, c.requires.asked.enough, c.eliminate_in.auto.work)
 
 pub slice_bounds-from-start : goal.slice_bounds-from-start
 slice_bounds-from-start c =
@@ -56,7 +56,7 @@ slice_bounds-from-start c =
     let h = few_rows n c.requires.asked _ c.eliminate_in.ensures.value _ c.in-Rows.is in
     let s = spans c.dim_of.result c.in-Rows.rows c.dim_of-size.result _ c.frame_of-f.ensures
     (omega (arith, c.requires.asked.total, c.dim_of-size.ensures, c.dim_of.ensures)) (omega (arith, h, c.dim_of-size.ensures)) in
-    omega (arith, s.ends, s.within, c.requires.asked.enough, c.eliminate_in.auto.1.1.0)
+    omega (arith, s.ends, s.within, c.requires.asked.enough, c.eliminate_in.auto.work)
 
 pub slice_bounds-from-end : goal.slice_bounds-from-end
 slice_bounds-from-end c =
@@ -65,7 +65,7 @@ slice_bounds-from-end c =
     let h = few_rows n c.requires.asked _ c.eliminate_in.ensures.value _ c.in-Rows.is in
     let s = spans c.dim_of.result c.in-Rows.rows c.dim_of-size.result _ c.frame_of-f.ensures
     (omega (arith, c.requires.asked.total, c.dim_of-size.ensures, c.dim_of.ensures)) (omega (arith, h, c.dim_of-size.ensures)) in
-    omega (arith, s.ends, s.within, c.requires.asked.enough, c.eliminate_in.auto.1.1.0)
+    omega (arith, s.ends, s.within, c.requires.asked.enough, c.eliminate_in.auto.work)
 
 pub from-requires : goal.from-requires
 from-requires c =
@@ -77,7 +77,7 @@ from-requires c =
       omega (arith, c.requires.key_bound, c.dim_of-size.ensures),
       omega (arith, h, c.requires.asked.total),
       fits-part c.eliminate_in.new.work c.frame_of-f.result.a c.frame_of-f.result.end (factor_numbers c.in-Rows.rows c.dim_of-size.result)
-          (omega (arith, s.ends, s.within, c.requires.asked.enough, c.eliminate_in.auto.1.1.0)) (omega (arith, s.ends)),
+          (omega (arith, s.ends, s.within, c.requires.asked.enough, c.eliminate_in.auto.work)) (omega (arith, s.ends)),
     )
 
 pub returns-in-Rows : goal.returns-in-Rows
