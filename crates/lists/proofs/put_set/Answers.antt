@@ -1,7 +1,6 @@
 -- `lists::put_set` meets its contract. The loop's invariant: the members below j stand behind the first places. Assumes nothing.
 use native.Mathlib.Omega.{arith}
 use mathlib.Core.Path.{refl}
-use mathlib.Core.Logic.{⊎_elim}
 use mathlib.Core.List.{append-nil}
 use Prim.Native.Nat.{◌+◌, ◌-◌}
 use lib.ListN.{take, set}
@@ -9,6 +8,7 @@ use Rattle.plan.specs.Mask.{has}
 use Rattle.plan.proofs.Unions.{in_set, off_set, rising-zero}
 use Rattle.lists.proofs.Writing.{put_in, put_off, put-done}
 use Rattle.lists.proofs.put_set.Goals as goal
+use Rattle.lists.proofs.put_set.Goals.{then-set-single-ne0, else-set-single-ne0}
 
 pub loop-j-init : goal.loop-j-init
 loop-j-init c =
@@ -20,10 +20,14 @@ loop-j-preserved c =
     let pre = c.requires in
     let args = c.args in
     let loop = c.loop-j in
-    ⊎_elim (λ w. put_in (λ i. args.shift + i) (λ i. has i args.set) args.list.now loop.list _ args.at loop.to loop.j
-    c.loop-j-test.true pre.0 loop.invariant _ (in_set args.set loop.j c.single.result c.single.ensures w.0.taken) w.1 w.2)
-    (λ w. put_off (λ i. args.shift + i) (λ i. has i args.set) args.list.now loop.list _ args.at loop.to loop.j
-    c.loop-j-test.true pre.0 loop.invariant _ (off_set args.set loop.j c.single.result c.single.ensures w.0.left) w.1 w.2) c.if-set-single-ne0.branch
+    elim c.if-set-single-ne0.branch [
+      | then-set-single-ne0 w ↦ put_in (λ i. args.shift + i) (λ i. has i args.set) args.list.now loop.list _ args.at loop.to loop.j
+          c.loop-j-test.true pre.0 loop.invariant _ (in_set args.set loop.j c.single.result c.single.ensures w.if-set-single-ne0.true)
+          w.list-is w.to-is
+      | else-set-single-ne0 w ↦ put_off (λ i. args.shift + i) (λ i. has i args.set) args.list.now loop.list _ args.at loop.to loop.j
+          c.loop-j-test.true pre.0 loop.invariant _ (off_set args.set loop.j c.single.result c.single.ensures w.if-set-single-ne0.false)
+          w.list-is w.to-is
+    ]
 
 pub returns : goal.returns
 returns c =

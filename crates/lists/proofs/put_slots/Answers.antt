@@ -28,5 +28,8 @@ pub returns : goal.returns
 returns c =
     let args = c.args in
     let e : c.loop-i.i ≡ args.to = omega arith in
-    record { list_after = subst (λ (i : ℕ). take (args.at + (i - args.from)) c.loop-i.list
-          ≡ take args.at args.list.now ++ map (raised args.shift) (drop args.from (take i args.slots.now))) e c.loop-i.invariant.3; value = refl }
+    record {
+      list_after = subst (λ (i : ℕ). take (args.at + (i - args.from)) c.loop-i.list
+          ≡ take args.at args.list.now ++ map (raised args.shift) (drop args.from (take i args.slots.now))) e c.loop-i.invariant.3;
+      value = refl;
+    }
