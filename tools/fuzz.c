@@ -9,8 +9,8 @@
 
 __AFL_FUZZ_INIT();
 
-int shipped_main(void);
-int checked_main(void);
+int shipped_main(int count, char **words);
+int checked_main(int count, char **words);
 
 /* The longest text has 22,944 bytes. */
 struct text {
@@ -45,13 +45,14 @@ ssize_t strips_write(int file, const void *from, size_t count)
     return count;
 }
 
-static void run(int (*program)(void), const unsigned char *job, size_t length, struct text *into)
+static void run(int (*program)(int, char **), const unsigned char *job, size_t length, struct text *into)
 {
     input = job;
     left = length;
     text = into;
     text->length = 0;
-    program();
+    char name[] = "strips", *words[] = {name, NULL};
+    program(1, words);
 }
 
 int main(void)

@@ -29,6 +29,8 @@ numbers-at : (sizes : List ℕ) (j i : ℕ) (all : List Found) (mean covariance 
     ≡ get_or (mean ++ covariance) x nan
 unfolding marginals_in
 numbers-at sizes j i [] mean covariance w e l x h = absurd (omega arith)
+numbers-at sizes j zero (refused _ ∷ rest) mean covariance w e l x h = elim w [ ]
+numbers-at sizes j (suc i) (refused _ ∷ rest) mean covariance w e l x h = elim w [ ]
 numbers-at sizes j zero (found m c ∷ rest) mean covariance (one hm hc w) e l x h =
     let k : j + 0 ≡ j = omega arith in
     let p : start_of sizes (j + 0) - start_of sizes j + x ≡ x = omega (arith, ap (start_of sizes) k) in

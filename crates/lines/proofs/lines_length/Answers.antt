@@ -1,5 +1,5 @@
 -- `lines::lines_length` meets its contract. The loop's invariant: the lengths of the lines passed are added up. Assumes nothing.
-use Prim.Native.Nat.{ℕ, ◌+◌, ◌-◌, ◌*◌}
+use Prim.Native.Nat.{ℕ, ◌+◌, ◌*◌}
 use mathlib.Core.Path.{◌≡◌, refl, sym}
 use native.Mathlib.Omega.{arith}
 use Rattle.factor.specs.Counting.{sum}

@@ -1,6 +1,5 @@
-use Prim.Native.Nat.{◌-◌, ◌*◌, ◌≤◌}
+use Prim.Native.Nat.{◌*◌, ◌≤◌}
 use mathlib.Core.Path.{◌≡◌}
-use Rattle.factor.specs.Counting.{sum}
 use Rattle.lines.specs.Lines.{lines_length}
 use Rattle.lines.proofs.lines_length.Given as goal
 

@@ -1,6 +1,6 @@
 -- `marginals::find_marginals` meets its contract. The loop's invariant: the results hold the marginals of the keys before. Assumes nothing.
 use mathlib.Core.Path.{refl}
-use Prim.Native.Nat.{◌-◌, ◌≤◌}
+use Prim.Native.Nat.{◌≤◌}
 use native.Mathlib.Omega.{arith}
 use native.Mathlib.Nat.{mul-le-mul}
 use borrow.Author.Rules.{rules}
@@ -32,9 +32,12 @@ find_marginal-c-requires c =
     let pre = c.requires in
     let args = c.args in
     let loop = c.loop-key in
-    record { held = turn_asked args.g args.at args.factors.now args.messages.now (length args.work.now) args.keys.now args.heads.now
-          args.results.now (pre) loop.results loop.to loop.key loop.invariant.1 c.loop-key-test.true (length loop.work) loop.invariant.0; key_in_bounds = turn_room args.g args.at args.factors.now args.messages.now (length args.work.now) args.keys.now args.heads.now
-          args.results.now (pre) loop.results loop.to loop.key loop.invariant.1 c.loop-key-test.true }
+    record {
+      held = turn_asked args.g args.at args.factors.now args.messages.now (length args.work.now) args.keys.now args.heads.now
+          args.results.now (pre) loop.results loop.to loop.key loop.invariant.1 c.loop-key-test.true (length loop.work) loop.invariant.0;
+      key_in_bounds = turn_room args.g args.at args.factors.now args.messages.now (length args.work.now) args.keys.now args.heads.now
+          args.results.now (pre) loop.results loop.to loop.key loop.invariant.1 c.loop-key-test.true;
+    }
 
 pub returns-in_default : goal.returns-in_default
 returns-in_default c =
@@ -96,8 +99,7 @@ overflow_add-to-in-loop-key c =
 pub loop-key-preserved : goal.loop-key-preserved
 loop-key-preserved c =
     let args = c.args in
-    let loop = c.loop-key in
-    (
+    let loop = c.loop-key in (
       search rules,
       search_on args.g args.at args.factors.now args.messages.now (length args.work.now) args.keys.now
           args.heads.now args.results.now c.requires loop.results loop.to loop.key loop.invariant.1

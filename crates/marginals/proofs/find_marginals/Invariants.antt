@@ -1,5 +1,4 @@
 use mathlib.Core.Path.{◌≡◌}
-use Prim.Native.Nat.{◌-◌}
 use lib.ListN.{length}
 use Rattle.marginals.proofs.KeyByKey.{Walked}
 use Rattle.marginals.proofs.Searching.{entries}

@@ -8,8 +8,11 @@ pub marginal_by-requires : goal.marginal_by-requires
 marginal_by-requires c =
     let args = c.args in
     let pre = c.requires in
-    record { clears_le_max_variables = (c.gathered_lists-l.ensures.few_cleared, c.gathered_lists-l.ensures.few, pre.2); asked = lists_asked args.sizes args.factors.now args.messages.now args.keys.now args.heads.now args.key (gathered_of args.q)
-          c.gathered_lists-l.result c.gathered_lists-l.ensures (length args.work.now) pre.1 }
+    record {
+      clears_le_max_variables = (c.gathered_lists-l.ensures.few_cleared, c.gathered_lists-l.ensures.few, pre.2);
+      asked = lists_asked args.sizes args.factors.now args.messages.now args.keys.now args.heads.now args.key (gathered_of args.q)
+          c.gathered_lists-l.result c.gathered_lists-l.ensures (length args.work.now) pre.1;
+    }
 
 pub returns : goal.returns
 returns c =

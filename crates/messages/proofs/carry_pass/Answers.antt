@@ -1,7 +1,6 @@
 -- `messages::carry_pass` meets its contract. The loop's invariant, `Carrying`: the messages passed are made and stored; a refused one ends the list
 -- of values. Assumes nothing.
 use mathlib.Core.Path.{◌≡◌, refl, ◌∙◌}
-use Prim.Native.Nat.{◌-◌}
 use lib.ListN.{length}
 use Rattle.factor.specs.Limits.{max_variables}
 use Rattle.plan.specs.Pass.{messages_of}
@@ -23,12 +22,11 @@ loop-j-init c =
     )
 
 pub message_lists-l-requires : goal.message_lists-l-requires
-message_lists-l-requires c =
-    (
-      c.requires.pass_ready.0,
-      c.loop-j-test.true,
-      c.requires.pass_ready.2,
-    )
+message_lists-l-requires c = (
+  c.requires.pass_ready.0,
+  c.loop-j-test.true,
+  c.requires.pass_ready.2,
+)
 
 pub head_at-h-requires : goal.head_at-h-requires
 head_at-h-requires c =
@@ -79,13 +77,17 @@ eliminate_listed-requires c =
     let sized : length c.args.g.sizes
     ≡ max_variables = search rules in
     let args = c.args in
-    let loop = c.loop-j in record { lists_within = within _ _ _ c.message_lists-l.ensures; asked = asked_lists args.g args.factors.now (messages_of args.p) c.requires.pass_ready.1 args.shift args.start args.keys.now args.heads.now
-            args.messages.now loop.messages loop.to loop.j (length loop.work) c.requires.pass_ready.2
-            (omega (arith, messages-length args.p, c.loop-j-test.true)) c.requires.tables.0 c.requires.tables.1 sized c.requires.count_in_bounds.0 c.requires.count_in_bounds.1
-            (omega (arith, c.requires.count_in_bounds.2, loop.invariant.1)) loop.invariant.0 _ c.message_lists-l.ensures; roomy = roomy_lists args.g args.factors.now
-            (messages_of args.p) c.requires.pass_ready.1 args.shift args.start args.keys.now args.heads.now args.messages.now loop.messages
-            loop.to loop.j (length loop.work) c.requires.pass_ready.2 (omega (arith, messages-length args.p, c.loop-j-test.true)) c.requires.tables.0
-            c.requires.tables.1 sized c.requires.count_in_bounds.0 c.requires.count_in_bounds.1 (omega (arith, c.requires.count_in_bounds.2, loop.invariant.1)) loop.invariant.0 _ c.message_lists-l.ensures }
+    let loop = c.loop-j in record {
+      lists_within = within _ _ _ c.message_lists-l.ensures;
+      asked = asked_lists args.g args.factors.now (messages_of args.p) c.requires.pass_ready.1 args.shift args.start args.keys.now args.heads.now
+          args.messages.now loop.messages loop.to loop.j (length loop.work) c.requires.pass_ready.2
+          (omega (arith, messages-length args.p, c.loop-j-test.true)) c.requires.tables.0 c.requires.tables.1 sized c.requires.count_in_bounds.0 c.requires.count_in_bounds.1
+          (omega (arith, c.requires.count_in_bounds.2, loop.invariant.1)) loop.invariant.0 _ c.message_lists-l.ensures;
+      roomy = roomy_lists args.g args.factors.now
+          (messages_of args.p) c.requires.pass_ready.1 args.shift args.start args.keys.now args.heads.now args.messages.now loop.messages
+          loop.to loop.j (length loop.work) c.requires.pass_ready.2 (omega (arith, messages-length args.p, c.loop-j-test.true)) c.requires.tables.0
+          c.requires.tables.1 sized c.requires.count_in_bounds.0 c.requires.count_in_bounds.1 (omega (arith, c.requires.count_in_bounds.2, loop.invariant.1)) loop.invariant.0 _ c.message_lists-l.ensures;
+    }
 
 pub returns-in-Pivot : goal.returns-in-Pivot
 returns-in-Pivot c =

@@ -1,7 +1,6 @@
 -- `messages::place_pass` meets its contract. The loop's invariant, `Progress`: the messages passed have their places. Assumes nothing.
 use mathlib.Core.Path.{◌≡◌}
 use lib.ListN.{length}
-use Prim.Native.Nat.{◌-◌}
 use Rattle.factor.specs.Limits.{max_variables}
 use Rattle.plan.specs.Pass.{messages_of}
 use Rattle.plan.proofs.Sending.{messages-length}
@@ -25,12 +24,15 @@ place_listed-next-requires c =
     let sized : length c.args.g.sizes ≡ max_variables = search rules in
     let args = c.args in
     let loop = c.loop-j in
-    record { lists_within = within _ _ _ c.message_lists-l.ensures; placeable = placeable args.g (messages_of args.p) c.requires.pass_ready.1 args.shift args.start args.keys.now args.heads.now loop.keys
+    record {
+      lists_within = within _ _ _ c.message_lists-l.ensures;
+      placeable = placeable args.g (messages_of args.p) c.requires.pass_ready.1 args.shift args.start args.keys.now args.heads.now loop.keys
           loop.heads loop.next loop.j c.requires.pass_ready.2 (omega (
             arith,
             messages-length args.p,
             c.loop-j-test.true,
-          )) sized loop.invariant _ c.message_lists-l.ensures c.requires.pass_ready.3 }
+          )) sized loop.invariant _ c.message_lists-l.ensures c.requires.pass_ready.3;
+    }
 
 pub loop-j-preserved : goal.loop-j-preserved
 loop-j-preserved c =

@@ -1,4 +1,3 @@
-use Prim.Native.Nat.{◌-◌}
 use Rattle.plan.specs.Pass.{messages_of}
 use Rattle.messages.proofs.Placing.{Progress}
 use Rattle.messages.proofs.place_pass.Given as goal

@@ -1,6 +1,5 @@
 -- `messages::put_list` meets its contract. The loop's invariant: the numbers passed are pasted. Assumes nothing.
 use mathlib.Core.Path.{refl}
-use Prim.Native.Nat.{◌-◌}
 use lib.ListN.{length-set}
 use lib.Seq.{paste-zero}
 use Rattle.factor.proofs.Laying.{copy_done, copy_more}

@@ -1,6 +1,5 @@
 -- `plan_answer::message_table` meets its contract. The loop's invariant: the messages passed stand in the first places, the others are blank. Assumes nothing.
 use mathlib.Core.Path.{refl, ◌∙◌}
-use Prim.Native.Nat.{◌-◌}
 use native.Mathlib.Omega.{arith}
 use Rattle.factor.specs.Limits.{max_variables}
 use Rattle.plan.specs.Pass.{messages_of}

@@ -1,5 +1,6 @@
 -- `solver::turned_back` meets its contract: without keys and originals there is a plan, and it is empty. Assumes nothing.
 use mathlib.Core.Path.{refl}
+use mathlib.Core.List.{[]}
 use native.Mathlib.Omega.{arith}
 use borrow.Author.Rules.{rules}
 use Rattle.schedule.specs.Count.{from}

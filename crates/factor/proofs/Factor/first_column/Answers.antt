@@ -1,5 +1,5 @@
 -- `factor::Factor::first_column` meets its contract. The loop's invariant: the sum so far is the first column of the place that is next. Assumes nothing.
-use Prim.Native.Nat.{◌+◌, ◌-◌, ℕ}
+use Prim.Native.Nat.{◌+◌, ℕ}
 use mathlib.Core.Path.{◌∙◌, ◌≡◌, ap, sym}
 use native.Mathlib.Omega.{arith}
 use borrow.Author.Rules.{rules}

@@ -1,5 +1,5 @@
 -- `factor::Factor::fits` meets its contract. The loop's invariant: the places passed fit. Assumes nothing.
-use Prim.Native.Nat.{◌-◌, ◌<◌, ◌≤◌, ℕ}
+use Prim.Native.Nat.{◌<◌, ◌≤◌, ℕ}
 use mathlib.Core.Bool.{false, true}
 use mathlib.Core.List.{List}
 use mathlib.Core.Path.{◌≡◌}

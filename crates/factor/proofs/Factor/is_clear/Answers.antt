@@ -1,5 +1,4 @@
 -- `factor::Factor::is_clear` meets its contract. The loop's invariant: the keys passed are 0. Assumes nothing.
-use Prim.Native.Nat.{◌-◌}
 use mathlib.Core.Bool.{true}
 use mathlib.Core.Path.{◌≡◌}
 use native.Mathlib.Omega.{arith}

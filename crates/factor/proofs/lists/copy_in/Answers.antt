@@ -1,5 +1,5 @@
 -- `factor::lists::copy_in` meets its contract. The loop's invariant: the numbers passed are pasted. Assumes nothing.
-use Prim.Native.Nat.{◌+◌, ◌-◌}
+use Prim.Native.Nat.{◌+◌}
 use mathlib.Core.Path.{refl}
 use native.Mathlib.Omega.{arith}
 use borrow.Author.Rules.{rules, scaled_Fits}

@@ -1,6 +1,4 @@
 -- `factor::lists::known` meets its contract. The loop's invariant: each key passed is below the number of variables. Assumes nothing.
-use Prim.Native.Nat.{◌-◌}
-use mathlib.Core.Bool.{true}
 use mathlib.Core.Path.{◌≡◌, refl, sym}
 use native.Mathlib.Omega.{arith}
 use borrow.Author.Rules.{rules}

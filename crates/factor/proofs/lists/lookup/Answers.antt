@@ -1,5 +1,4 @@
 -- `factor::lists::lookup` meets its contract. The loop's invariant: the keys passed are below the one sought. Assumes nothing.
-use Prim.Native.Nat.{◌-◌}
 use mathlib.Core.Path.{refl}
 use native.Mathlib.Omega.{arith}
 use borrow.Author.Rules.{rules}

@@ -1,5 +1,4 @@
 -- `factor::lists::rising` meets its contract. The loop's invariant: each place passed is above the one before it. Assumes nothing.
-use Prim.Native.Nat.{◌-◌}
 use mathlib.Core.Path.{◌≡◌, refl, sym}
 use native.Mathlib.Omega.{arith}
 use borrow.Author.Rules.{rules}

@@ -1,6 +1,4 @@
 -- `factor::weighing::column_mirrored` meets its contract. The loop's invariant: the pairs passed compare equal. Assumes nothing.
-use Prim.Native.Nat.{◌-◌}
-use mathlib.Core.Bool.{true}
 use mathlib.Core.Path.{◌≡◌, sym}
 use native.Mathlib.Omega.{arith}
 use lib.ListN.{length}

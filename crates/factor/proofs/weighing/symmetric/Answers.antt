@@ -1,5 +1,4 @@
 -- `factor::weighing::symmetric` meets its contract. The loop's invariant: the pairs of the columns passed compare equal. Assumes nothing.
-use Prim.Native.Nat.{◌-◌}
 use mathlib.Core.Path.{◌≡◌, sym, ◌∙◌}
 use native.Mathlib.Omega.{arith}
 use Rattle.factor.proofs.Counting.{all_fail, all_more, all_none, tells}

@@ -1,5 +1,4 @@
 -- `graph::Graph::factors_fit` meets its contract. The loop's invariant: the places passed are right, and their keys have room. Assumes nothing.
-use Prim.Native.Nat.{◌-◌}
 use mathlib.Core.Bool.{false≢true}
 use mathlib.Core.Path.{◌≡◌, refl, sym}
 use borrow.Author.Count.{below_more, below_none}

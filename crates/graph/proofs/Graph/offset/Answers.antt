@@ -1,5 +1,5 @@
 -- `graph::Graph::offset` meets its contract. The loop's invariant: the numbers of the factors passed, added up. Assumes nothing.
-use Prim.Native.Nat.{◌+◌, ◌-◌, ℕ}
+use Prim.Native.Nat.{◌+◌, ℕ}
 use mathlib.Core.Path.{◌∙◌, ◌≡◌, ap, sym}
 use native.Mathlib.Omega.{arith}
 use borrow.Author.Rules.{rules}

@@ -1,5 +1,5 @@
 -- `graph::Graph::total` meets its contract. The loop's invariant: the sum of the sizes passed. Assumes nothing.
-use Prim.Native.Nat.{◌+◌, ◌-◌, ℕ}
+use Prim.Native.Nat.{◌+◌, ℕ}
 use mathlib.Core.Path.{◌∙◌, ◌≡◌, ap, sym}
 use native.Mathlib.Omega.{arith}
 use borrow.Author.Rules.{rules}

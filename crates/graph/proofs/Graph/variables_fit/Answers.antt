@@ -1,5 +1,4 @@
 -- `graph::Graph::variables_fit` meets its contract. The loop's invariant: the places passed are right, and the arrays have their names. Assumes nothing.
-use Prim.Native.Nat.{◌-◌}
 use mathlib.Core.Path.{◌≡◌, refl, sym}
 use native.Mathlib.Omega.{arith}
 use borrow.Author.Count.{below_none}

@@ -1,5 +1,5 @@
 -- Before each turn the first places hold the numbers of the live factors among the first i (`Rising`). Assumes nothing.
-use Prim.Native.Nat.{◌<◌, ◌-◌}
+use Prim.Native.Nat.{◌<◌}
 use mathlib.Core.Path.{refl}
 use native.Mathlib.Omega.{arith}
 use Rattle.factor.specs.Limits.{max_factors}

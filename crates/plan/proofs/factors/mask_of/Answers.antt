@@ -2,7 +2,7 @@
 -- Assumes nothing.
 use borrow.Author.Rules.{rules}
 use mathlib.Core.Path.{◌≡◌, ap, subst, ◌∙◌}
-use Prim.Native.Nat.{ℕ, ◌-◌, ◌^◌}
+use Prim.Native.Nat.{ℕ, ◌^◌}
 use lib.ListN.{length, take}
 use native.Mathlib.Omega.{arith}
 use Rattle.factor.specs.Limits.{max_keys}
@@ -35,8 +35,7 @@ loop-i-preserved c =
     let long : length c.args.f.keys ≡ max_keys = search rules in
     let args = c.args in
     let loop = c.loop-i in
-    let pre = c.requires in
-    (
+    let pre = c.requires in (
       omega arith,
       set-take args.f.keys loop.i loop.r c.single-r.result (omega (arith, pre.few, long, c.wide-n.ensures)) loop.invariant.1
           (c.single-r.ensures ∙ ap (λ (x : ℕ). 2 ^ x) c.wide-k.ensures),

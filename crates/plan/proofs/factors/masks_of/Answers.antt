@@ -1,6 +1,5 @@
 -- Before each turn the first i sets are those of the factors, and the rest are empty (`FactorMasks`).
 -- Assumes nothing.
-use Prim.Native.Nat.{◌-◌}
 use native.Mathlib.Omega.{arith}
 use Rattle.plan.proofs.FactorMasks.{masked_none, masked_more, masked_done}
 use Rattle.plan.proofs.factors.masks_of.Goals as goal

@@ -1,7 +1,7 @@
 -- Before each turn `upto` is the set of the messages below i of step at most t, and `within` that of the messages they contain (`Alive`).
 -- Assumes nothing.
 use mathlib.Core.Path.{sym, subst₂}
-use Prim.Native.Nat.{◌+◌, ◌-◌}
+use Prim.Native.Nat.{◌+◌}
 use native.Mathlib.Omega.{arith}
 use Rattle.plan.proofs.Alive.{AliveTo, start, more, same, done}
 use Rattle.plan.proofs.gather.alive_messages.Goals as goal
@@ -25,7 +25,8 @@ pub messages_in-within-requires : goal.messages_in-within-requires
 messages_in-within-requires c =
     let pre = c.requires in
     let loop = c.loop-i in
-    record { codes = record {
+    record {
+      codes = record {
         long = pre.room.contents.long;
         few = omega (
           arith,
@@ -39,8 +40,10 @@ messages_in-within-requires c =
               pre.closed
                   loop.i c.loop-i-test.true,
             ));
-      }; from_le_to = pre.ordered loop.i
-          c.loop-i-test.true }
+      };
+      from_le_to = pre.ordered loop.i
+          c.loop-i-test.true;
+    }
 
 pub overflow_add-i : goal.overflow_add-i
 overflow_add-i c = record { fits = omega (arith, c.requires.few) }

@@ -30,21 +30,33 @@ alive_messages-backward-requires c = c.requires.gatherable.backward
 pub leaves_of-one-requires : goal.leaves_of-one-requires
 leaves_of-one-requires c =
     let args = c.args in
-    record { pass_ready = c.requires.gatherable.forward; space = none-space; listable = listable args.fw args.bw args.live args.count args.r args.s c.requires.gatherable c.alive_messages-forward.result
-            c.alive_messages-backward.result c.alive_messages-forward.ensures c.alive_messages-backward.ensures none_yet refl none-space }
+    record {
+      pass_ready = c.requires.gatherable.forward;
+      space = none-space;
+      listable = listable args.fw args.bw args.live args.count args.r args.s c.requires.gatherable c.alive_messages-forward.result
+          c.alive_messages-backward.result c.alive_messages-forward.ensures c.alive_messages-backward.ensures none_yet refl none-space;
+    }
 
 pub leaves_of-two-requires : goal.leaves_of-two-requires
 leaves_of-two-requires c =
     let args = c.args in
-    record { pass_ready = c.requires.gatherable.backward; space = c.leaves_of-one.ensures.space; listable = listable' args.fw args.bw args.live args.count args.r args.s c.requires.gatherable c.alive_messages-forward.result
-            c.alive_messages-backward.result c.alive_messages-forward.ensures c.alive_messages-backward.ensures none_yet refl none-space c.leaves_of-one.result c.leaves_of-one.ensures }
+    record {
+      pass_ready = c.requires.gatherable.backward;
+      space = c.leaves_of-one.ensures.space;
+      listable = listable' args.fw args.bw args.live args.count args.r args.s c.requires.gatherable c.alive_messages-forward.result
+          c.alive_messages-backward.result c.alive_messages-forward.ensures c.alive_messages-backward.ensures none_yet refl none-space c.leaves_of-one.result c.leaves_of-one.ensures;
+    }
 
 pub uncovered-all-requires : goal.uncovered-all-requires
 uncovered-all-requires c =
     let args = c.args in
-    record { live = c.requires.gatherable.originals; space = c.leaves_of-two.ensures.space; coverable = coverable args.fw args.bw args.live args.count args.r args.s c.requires.gatherable c.alive_messages-forward.result
-            c.alive_messages-backward.result c.alive_messages-forward.ensures c.alive_messages-backward.ensures none_yet refl none-space c.leaves_of-one.result c.leaves_of-one.ensures
-            c.leaves_of-two.result c.leaves_of-two.ensures }
+    record {
+      live = c.requires.gatherable.originals;
+      space = c.leaves_of-two.ensures.space;
+      coverable = coverable args.fw args.bw args.live args.count args.r args.s c.requires.gatherable c.alive_messages-forward.result
+          c.alive_messages-backward.result c.alive_messages-forward.ensures c.alive_messages-backward.ensures none_yet refl none-space c.leaves_of-one.result c.leaves_of-one.ensures
+          c.leaves_of-two.result c.leaves_of-two.ensures;
+    }
 
 pub kept_keys-fk-requires : goal.kept_keys-fk-requires
 kept_keys-fk-requires c = c.requires.gatherable.forward
@@ -58,10 +70,13 @@ slice_bounds-union-end-2 c = sym c.uncovered-all.ensures.space.items.long
 pub union-uk-requires : goal.union-uk-requires
 union-uk-requires c =
     let long : length c.args.keys ≡ max_factors = search rules in
-    record { numbers = record {
+    record {
+      numbers = record {
         few = omega (arith, c.uncovered-all.ensures.space.items.few, c.uncovered-all.ensures.space.items.long);
         low = λ i h. omega (arith, long, c.uncovered-all.ensures.space.items.low i h);
-      }; from_le_to = c.uncovered-all.ensures.more }
+      };
+      from_le_to = c.uncovered-all.ensures.more;
+    }
 
 pub single-own-requires : goal.single-own-requires
 single-own-requires c = c.requires.k_lt_max_variables
@@ -69,7 +84,10 @@ single-own-requires c = c.requires.k_lt_max_variables
 pub returns : goal.returns
 returns c =
     let args = c.args in
-    record { gathers = λ n K ag kd. gathers args.fw args.bw args.live args.count args.r args.s c.requires.gatherable c.alive_messages-forward.result c.alive_messages-backward.result
+    record {
+      gathers = λ n K ag kd. gathers args.fw args.bw args.live args.count args.r args.s c.requires.gatherable c.alive_messages-forward.result c.alive_messages-backward.result
           c.alive_messages-forward.ensures c.alive_messages-backward.ensures none_yet refl none-space c.leaves_of-one.result c.leaves_of-one.ensures c.leaves_of-two.result
           c.leaves_of-two.ensures c.uncovered-all.result c.uncovered-all.ensures args.keys args.k c.kept_keys-fk.result c.kept_keys-bk.result c.union-uk.result
-          c.single-own.result c.kept_keys-fk.ensures c.kept_keys-bk.ensures c.union-uk.ensures c.single-own.ensures n K ag kd; held = record { items = c.uncovered-all.ensures.space.items; covered = c.uncovered-all.ensures.more } }
+          c.single-own.result c.kept_keys-fk.ensures c.kept_keys-bk.ensures c.union-uk.ensures c.single-own.ensures n K ag kd;
+      held = record { items = c.uncovered-all.ensures.space.items; covered = c.uncovered-all.ensures.more };
+    }

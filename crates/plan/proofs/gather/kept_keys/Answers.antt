@@ -3,7 +3,7 @@
 use borrow.Author.Rules.{rules}
 use mathlib.Core.Path.{◌≡◌, sym, ap, subst, ◌∙◌}
 use mathlib.Core.List.{List}
-use Prim.Native.Nat.{ℕ, ◌+◌, ◌-◌}
+use Prim.Native.Nat.{ℕ, ◌+◌}
 use native.Mathlib.Omega.{arith}
 use Rattle.schedule.specs.Count.{mem, joined}
 use Rattle.plan.proofs.Unions.{in_set, off_set, kept_at, KeptTo, kept-none, kept_in, kept_off, keys_in-below}
@@ -34,8 +34,7 @@ loop-j-smaller c = omega arith
 pub loop-j-preserved : goal.loop-j-preserved
 loop-j-preserved c =
     let args = c.args in
-    let loop = c.loop-j in
-    (
+    let loop = c.loop-j in (
       omega arith,
       elim c.if-set-single-ne0.branch [
         | then-set-single-ne0 w ↦ subst (λ (x : ℕ). KeptTo args.messages args.set (loop.j + 1) x) (sym w.r-is)

@@ -1,7 +1,7 @@
 -- Before each turn the items are the leaves under the messages of the set below j (`Uncovered`).
 -- Assumes nothing.
 use mathlib.Core.Path.{sym, subst}
-use Prim.Native.Nat.{◌+◌, ◌-◌}
+use Prim.Native.Nat.{◌+◌}
 use native.Mathlib.Omega.{arith}
 use Rattle.plan.proofs.Uncovered.{Leaving, begin, openable, leave_more, leave_same, end}
 use Rattle.plan.proofs.gather.leaves_of.Goals as goal
@@ -17,9 +17,13 @@ pub mark_leaves-l-requires : goal.mark_leaves-l-requires
 mark_leaves-l-requires c =
     let loop = c.loop-j in
     let args = c.args in
-    record { pass_ready = c.requires.pass_ready; space = (loop.invariant c.requires.pass_ready.few c.requires.listable c.requires.space).space; openable = openable args.messages args.set args.listing c.requires.pass_ready.few c.requires.listable c.requires.space
-            loop.l loop.j c.single.result (loop.invariant c.requires.pass_ready.few c.requires.listable c.requires.space) c.loop-j-test.true
-            c.single.ensures c.if-set-single-ne0.true }
+    record {
+      pass_ready = c.requires.pass_ready;
+      space = (loop.invariant c.requires.pass_ready.few c.requires.listable c.requires.space).space;
+      openable = openable args.messages args.set args.listing c.requires.pass_ready.few c.requires.listable c.requires.space
+          loop.l loop.j c.single.result (loop.invariant c.requires.pass_ready.few c.requires.listable c.requires.space) c.loop-j-test.true
+          c.single.ensures c.if-set-single-ne0.true;
+    }
 
 pub overflow_add-j : goal.overflow_add-j
 overflow_add-j c = record { fits = omega (arith, c.requires.pass_ready.few) }

@@ -1,6 +1,5 @@
 use Rattle.factor.specs.Limits.{max_variables}
 use Rattle.plan.proofs.Stack.{Opening}
-use Prim.Native.Nat.{◌-◌}
 use Rattle.schedule.specs.Messages.{heavy}
 use Rattle.plan.specs.Pass.{messages_of, PassReady}
 use Rattle.plan.specs.Gather.{Forest, stack_of}

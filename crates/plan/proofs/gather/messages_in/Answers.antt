@@ -2,7 +2,7 @@
 -- Assumes nothing.
 use borrow.Author.Rules.{rules}
 use mathlib.Core.Path.{◌≡◌, sym, subst}
-use Prim.Native.Nat.{ℕ, ◌+◌, ◌-◌}
+use Prim.Native.Nat.{ℕ, ◌+◌}
 use native.Mathlib.Omega.{arith}
 use Rattle.schedule.specs.Gather.{messages_in}
 use Rattle.plan.specs.Mask.{Set}
@@ -34,17 +34,16 @@ loop-i-smaller c = omega arith
 pub loop-i-preserved : goal.loop-i-preserved
 loop-i-preserved c =
     let args = c.args in
-    let loop = c.loop-i in
-    (
+    let loop = c.loop-i in (
       omega arith,
       omega arith,
       elim c.if-s-ge-FACTORS.branch [
         | then-s-ge-FACTORS w ↦ subst (λ (x : ℕ). Set (messages_in (content_part args.from (loop.i + 1) args.content.now)) x) (sym w.r-is)
-          (inner_msg args.content.now args.from loop.i loop.r loop.invariant.0 (omega (arith, c.requires.codes.few, c.requires.codes.long)) loop.invariant.2
-          w.single-r.result w.if-s-ge-FACTORS.true w.single-r.ensures)
+            (inner_msg args.content.now args.from loop.i loop.r loop.invariant.0 (omega (arith, c.requires.codes.few, c.requires.codes.long)) loop.invariant.2
+            w.single-r.result w.if-s-ge-FACTORS.true w.single-r.ensures)
         | else-s-ge-FACTORS w ↦ subst (λ (x : ℕ). Set (messages_in (content_part args.from (loop.i + 1) args.content.now)) x) (sym w.r-is)
-          (inner_orig args.content.now args.from loop.i loop.r loop.invariant.0 (omega (arith, c.requires.codes.few, c.requires.codes.long)) loop.invariant.2
-          w.if-s-ge-FACTORS.false)
+            (inner_orig args.content.now args.from loop.i loop.r loop.invariant.0 (omega (arith, c.requires.codes.few, c.requires.codes.long)) loop.invariant.2
+            w.if-s-ge-FACTORS.false)
       ],
     )
 

@@ -1,7 +1,6 @@
 -- Before each turn the items listed, followed by the uncovered among the rest, are the answer (`Uncovered`).
 -- Assumes nothing.
 use borrow.Author.Rules.{rules}
-use Prim.Native.Nat.{◌-◌}
 use native.Mathlib.Omega.{arith}
 use Rattle.plan.proofs.Uncovered.{start, free-room, list-more, list_same, done}
 use Rattle.plan.proofs.gather.uncovered.Goals as goal

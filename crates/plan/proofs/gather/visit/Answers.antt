@@ -1,6 +1,5 @@
 -- Before each turn the items listed, ahead of the originals of the rest, are all of them, and so with the stack (`Listings`).
 -- Assumes nothing.
-use Prim.Native.Nat.{◌-◌}
 use native.Mathlib.Omega.{arith}
 use Rattle.plan.proofs.Listings.{start, orig_room, visit_orig, msg_room, visit_msg, done}
 use Rattle.plan.proofs.gather.visit.Goals as goal

@@ -2,7 +2,7 @@
 -- Assumes nothing.
 use borrow.Author.Rules.{rules}
 use mathlib.Core.Path.{◌≡◌, subst}
-use Prim.Native.Nat.{ℕ, ◌-◌}
+use Prim.Native.Nat.{ℕ}
 use native.Mathlib.Omega.{arith}
 use Rattle.plan.specs.Mask.{Union}
 use Rattle.plan.proofs.Unions.{union_more, union-none}
@@ -32,8 +32,7 @@ loop-i-smaller c = omega arith
 pub loop-i-preserved : goal.loop-i-preserved
 loop-i-preserved c =
     let args = c.args in
-    let loop = c.loop-i in
-    (
+    let loop = c.loop-i in (
       omega arith,
       omega arith,
       union_more args.sets.now args.numbers.now args.from loop.i loop.r loop.invariant.0

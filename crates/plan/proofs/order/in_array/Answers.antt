@@ -1,6 +1,5 @@
 -- Before each turn the first i places are those of the order (`Orders`). Assumes nothing.
 use mathlib.Core.Path.{refl}
-use Prim.Native.Nat.{◌-◌}
 use native.Mathlib.Omega.{arith}
 use borrow.Author.Rules.{rules}
 use Rattle.plan.proofs.Orders.{copied_none, copied_more, copied_done}

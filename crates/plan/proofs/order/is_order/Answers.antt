@@ -1,7 +1,7 @@
 -- Before each turn the first i places name keys below n, none twice, and `met` is their set (`Orders`).
 -- Assumes nothing.
 use mathlib.Core.Path.{ap, ◌∙◌}
-use Prim.Native.Nat.{ℕ, ◌-◌, ◌^◌}
+use Prim.Native.Nat.{ℕ, ◌^◌}
 use native.Mathlib.Omega.{arith}
 use Rattle.plan.proofs.Orders.{unlike, not_there, twice, met-none, met-more, met_all}
 use Rattle.plan.proofs.order.is_order.Goals as goal

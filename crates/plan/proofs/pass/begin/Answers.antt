@@ -8,6 +8,9 @@ pub returns : goal.returns
 returns c =
     let args = c.args in
     let pre = c.requires in
-    record { pass_ready = begin-ready args.keys args.live c.laid_masks-masks.result c.laid_slots-slots.result args.count (search rules) (search rules) (pre) c.laid_masks-masks.ensures
-          c.laid_slots-slots.ensures; begins = begins args.keys args.live c.laid_masks-masks.result c.laid_slots-slots.result args.count (search rules) (search rules) (pre)
-          c.laid_masks-masks.ensures c.laid_slots-slots.ensures }
+    record {
+      pass_ready = begin-ready args.keys args.live c.laid_masks-masks.result c.laid_slots-slots.result args.count (search rules) (search rules) (pre) c.laid_masks-masks.ensures
+          c.laid_slots-slots.ensures;
+      begins = begins args.keys args.live c.laid_masks-masks.result c.laid_slots-slots.result args.count (search rules) (search rules) (pre)
+          c.laid_masks-masks.ensures c.laid_slots-slots.ensures;
+    }

@@ -3,7 +3,7 @@
 -- Assumes nothing.
 use borrow.Author.Rules.{rules}
 use mathlib.Core.Path.{◌≡◌, subst}
-use Prim.Native.Nat.{ℕ, ◌-◌}
+use Prim.Native.Nat.{ℕ}
 use native.Mathlib.Omega.{arith}
 use Rattle.plan.specs.Pass.{PassReady}
 use Rattle.plan.proofs.Begins.{Along, along-more, along-done}
@@ -33,8 +33,7 @@ pub loop-t-preserved : goal.loop-t-preserved
 loop-t-preserved c =
     let args = c.args in
     let begin = c.begin-p in
-    let loop = c.loop-t in
-    (
+    let loop = c.loop-t in (
       omega arith,
       c.step-p.ensures.pass_ready_2,
       along-more args.order args.n begin.result loop.t loop.p c.step-p.result loop.invariant.3 c.requires.order
@@ -47,5 +46,8 @@ returns c =
     let loop = c.loop-t in
     let args = c.args in
     let e : loop.t ≡ args.n = omega arith in
-    record { pass_ready = subst (λ (k : ℕ). PassReady k loop.p) e loop.invariant.1; passes = along-done args.keys args.live args.order args.count args.n c.begin-p.result
-          loop.p c.requires.order.few c.begin-p.ensures.begins (subst (λ (k : ℕ). Along args.order args.n c.begin-p.result k loop.p) e loop.invariant.2) }
+    record {
+      pass_ready = subst (λ (k : ℕ). PassReady k loop.p) e loop.invariant.1;
+      passes = along-done args.keys args.live args.order args.count args.n c.begin-p.result
+          loop.p c.requires.order.few c.begin-p.ensures.begins (subst (λ (k : ℕ). Along args.order args.n c.begin-p.result k loop.p) e loop.invariant.2);
+    }

@@ -1,7 +1,6 @@
 -- Before each turn the slots taken and those passed over, ahead of the walk over the rest, are the whole walk (`WalkTurns`). Each turn
 -- takes a slot out or passes one over, so `used - i` falls.
 -- Assumes nothing.
-use Prim.Native.Nat.{◌-◌}
 use native.Mathlib.Omega.{arith}
 use Rattle.plan.proofs.WalkTurns.{start, taken, kept, done}
 use Rattle.plan.proofs.pass.walk.Goals as goal

@@ -24,8 +24,11 @@ pub full_pass-bw-requires : goal.full_pass-bw-requires
 full_pass-bw-requires c =
     let pre = c.requires in
     let args = c.args in
-    record { live = pre.ordered.originals; order = in_back args.keys args.live args.order args.count args.n pre (search rules) (search rules)
-          c.reversed-back.result c.reversed-back.ensures }
+    record {
+      live = pre.ordered.originals;
+      order = in_back args.keys args.live args.order args.count args.n pre (search rules) (search rules)
+          c.reversed-back.result c.reversed-back.ensures;
+    }
 
 pub loop-k-init : goal.loop-k-init
 loop-k-init c =
@@ -65,8 +68,11 @@ gather-requires c =
       ready' = c.full_pass-bw.ensures.pass_ready;
       forward = c.full_pass-fw.ensures.passes;
       backward = subst (λ (o : List ℕ). Passes args.keys (take args.count args.live) o args.n c.full_pass-bw.result) c.reversed-back.ensures c.full_pass-bw.ensures.passes;
-    } in record { gatherable = may_gather args.keys args.live args.order args.count args.n c.full_pass-fw.result c.full_pass-bw.result both c.loop-k.k c.place-r.result
-          (args.n - 1 - c.place-r.result) c.loop-k-test.true c.place-r.ensures refl; k_lt_max_variables = omega (arith, pre.few) }
+    } in record {
+      gatherable = may_gather args.keys args.live args.order args.count args.n c.full_pass-fw.result c.full_pass-bw.result both c.loop-k.k c.place-r.result
+          (args.n - 1 - c.place-r.result) c.loop-k-test.true c.place-r.ensures refl;
+      k_lt_max_variables = omega (arith, pre.few);
+    }
 
 pub offset_bounds-at-k : goal.offset_bounds-at-k
 offset_bounds-at-k c = record { fits = omega (arith, c.requires.few) }
@@ -104,6 +110,9 @@ returns c =
       ready' = c.full_pass-bw.ensures.pass_ready;
       forward = c.full_pass-fw.ensures.passes;
       backward = subst (λ (o : List ℕ). Passes args.keys (take args.count args.live) o args.n c.full_pass-bw.result) c.reversed-back.ensures c.full_pass-bw.ensures.passes;
-    } in record { plans = done args.keys args.live args.order args.count args.n c.full_pass-fw.result c.full_pass-bw.result both loop.at loop.k (loop.invariant both)
-          c.loop-k-test.false; bounded = bounded args.keys args.live args.order args.count args.n c.full_pass-fw.result c.full_pass-bw.result both loop.at loop.k (loop.invariant both)
-          c.loop-k-test.false }
+    } in record {
+      plans = done args.keys args.live args.order args.count args.n c.full_pass-fw.result c.full_pass-bw.result both loop.at loop.k (loop.invariant both)
+          c.loop-k-test.false;
+      bounded = bounded args.keys args.live args.order args.count args.n c.full_pass-fw.result c.full_pass-bw.result both loop.at loop.k (loop.invariant both)
+          c.loop-k-test.false;
+    }

@@ -2,7 +2,6 @@
 -- Assumes nothing.
 use native.Mathlib.Nat.{zero-add}
 use borrow.Author.Rules.{rules}
-use Prim.Native.Nat.{◌-◌}
 use native.Mathlib.Omega.{arith}
 use Rattle.plan.proofs.KeyByKey.{sought_here, sought_on, sought_none}
 use Rattle.plan.proofs.plan.place.Goals as goal

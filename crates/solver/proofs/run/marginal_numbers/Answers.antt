@@ -1,6 +1,5 @@
 -- `solver::run::marginal_numbers` meets its contract. The loop's invariant: the numbers of the keys passed are added up. Assumes nothing.
 use mathlib.Core.Path.{◌≡◌}
-use Prim.Native.Nat.{◌-◌}
 use Rattle.factor.specs.Limits.{max_variables}
 use Rattle.solver.proofs.Stages.{square, no_place, place-next, numbers-told}
 use native.Mathlib.Omega.{arith}

@@ -1,5 +1,5 @@
 use mathlib.Core.Path.{◌≡◌}
-use Prim.Native.Nat.{◌*◌, ◌-◌, ◌≤◌}
+use Prim.Native.Nat.{◌*◌, ◌≤◌}
 use Rattle.factor.specs.Limits.{max_variables}
 use Rattle.graph.specs.Moments.{start_of}
 use Rattle.solver.proofs.run.marginal_numbers.Given as goal

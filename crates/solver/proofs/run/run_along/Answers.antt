@@ -20,8 +20,11 @@ returns-in-Refused c =
 pub place_plan-places-requires : goal.place_plan-places-requires
 place_plan-places-requires c =
     let args = c.args in
-    record { planned = as_held args.g _ _ (made-planned c.arrange_along-made.result args.g args.order.now c.arrange_along-made.ensures.result_value c.arrange_along-made.ensures.keys_le_max_variables.1
-          c.in-Done.is); keys_len = search rules }
+    record {
+      planned = as_held args.g _ _ (made-planned c.arrange_along-made.result args.g args.order.now c.arrange_along-made.ensures.result_value c.arrange_along-made.ensures.keys_le_max_variables.1
+          c.in-Done.is);
+      keys_len = search rules;
+    }
 
 pub check_stores-requires : goal.check_stores-requires
 check_stores-requires c =
@@ -44,11 +47,15 @@ carry_out-requires c =
     let args = c.args in
     let done = c.in-Done.is in
     let of = made_of args.g args.order.now c.arrange_along-made.result c.arrange_along-made.ensures.result_value done in
-    record { planned = (
+    record {
+      planned = (
         as_held args.g _ _ (made-planned c.arrange_along-made.result args.g args.order.now c.arrange_along-made.ensures.result_value c.arrange_along-made.ensures.keys_le_max_variables.1 done),
         c.place_plan-places.ensures,
-      ); enough = enough-told args.g _ _ _ _ _ (sym c.check_stores.ensures
-            ∙ c.in-Enough.is); order_len = order_long _ _ (order_each _ _ of.1) }
+      );
+      enough = enough-told args.g _ _ _ _ _ (sym c.check_stores.ensures
+          ∙ c.in-Enough.is);
+      order_len = order_long _ _ (order_each _ _ of.1);
+    }
 
 pub returns : goal.returns
 returns c =

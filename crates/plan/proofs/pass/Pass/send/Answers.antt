@@ -11,13 +11,19 @@ slice_bounds-union-end-2 c = sym c.walk-w.ensures.room.contents.long
 pub union-keys-requires : goal.union-keys-requires
 union-keys-requires c =
     let ready = c.requires.pass_ready in
-    record { numbers = record {
+    record {
+      numbers = record {
         few = omega (arith, c.walk-w.ensures.room.contents.few, c.walk-w.ensures.room.contents.long);
         low = λ i h. omega (arith, ready.masks, c.walk-w.ensures.room.contents.low i h);
-      }; from_le_to = c.walk-w.ensures.more }
+      };
+      from_le_to = c.walk-w.ensures.more;
+    }
 
 pub returns : goal.returns
 returns c =
     let args = c.args in
-    record { pass_ready_2 = readied args.self c.walk-w.result c.union-keys.result args.cleared args.t c.requires.pass_ready c.requires.t_lt_max_variables c.walk-w.ensures; sends = λ n K st hb m. sends args.self c.walk-w.result
-          c.union-keys.result args.cleared args.t c.requires.pass_ready c.requires.t_lt_max_variables c.walk-w.ensures c.union-keys.ensures n K st hb m }
+    record {
+      pass_ready_2 = readied args.self c.walk-w.result c.union-keys.result args.cleared args.t c.requires.pass_ready c.requires.t_lt_max_variables c.walk-w.ensures;
+      sends = λ n K st hb m. sends args.self c.walk-w.result
+          c.union-keys.result args.cleared args.t c.requires.pass_ready c.requires.t_lt_max_variables c.walk-w.ensures c.union-keys.ensures n K st hb m;
+    }
