@@ -17,15 +17,21 @@ returns-in-Refused c =
 pub fill_originals-requires : goal.fill_originals-requires
 fill_originals-requires c =
     let args = c.args in
-    record { g_value = (admitted args.g args.slots.now args.kept.now args.cleared.now args.factors.now
-          (tells c.in-Done.is c.check.ensures)).reached; max_factors_in_bounds = (omega arith, omega arith) }
+    record {
+      g_value = (admitted args.g args.slots.now args.kept.now args.cleared.now args.factors.now
+          (tells c.in-Done.is c.check.ensures)).reached;
+      max_factors_in_bounds = (omega arith, omega arith);
+    }
 
 pub eliminate_from-requires : goal.eliminate_from-requires
 eliminate_from-requires c =
     let args = c.args in
-    record { admitted = admitted args.g args.slots.now args.kept.now args.cleared.now args.factors.now
+    record {
+      admitted = admitted args.g args.slots.now args.kept.now args.cleared.now args.factors.now
           (tells c.in-Done.is
-          c.check.ensures); originals = c.fill_originals.ensures }
+          c.check.ensures);
+      originals = c.fill_originals.ensures;
+    }
 
 pub returns : goal.returns
 returns c = let all = verdict_tells _ _ _ _ (c.eliminate_from.ensures.value, c.eliminate_from.ensures.messages_after) in record { value = all.0; messages_after = all.1.0; result_value = all.1.1 }

@@ -7,10 +7,13 @@ use Rattle.direct.proofs.eliminate_from.Goals as goal
 pub message_numbers-requires : goal.message_numbers-requires
 message_numbers-requires c =
     let args = c.args in
-    record { listed = (
+    record {
+      listed = (
         of_kept args.g args.slots.now args.kept.now args.cleared.now args.factors.now c.requires.admitted,
         of_cleared args.g args.slots.now args.kept.now args.cleared.now args.factors.now c.requires.admitted,
-      ); counted = counted args.g args.slots.now args.kept.now args.cleared.now args.factors.now c.requires.admitted args.keys.now args.heads.now c.requires.originals }
+      );
+      counted = counted args.g args.slots.now args.kept.now args.cleared.now args.factors.now c.requires.admitted args.keys.now args.heads.now c.requires.originals;
+    }
 
 pub returns-then-messages-message_numbers : goal.returns-then-messages-message_numbers
 returns-then-messages-message_numbers c =
