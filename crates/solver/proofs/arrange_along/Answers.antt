@@ -7,7 +7,6 @@ use Prim.Native.Nat.{ℕ}
 use native.Mathlib.Omega.{arith}
 use lib.ListN.{length, take}
 use Rattle.factor.proofs.Counting.{tells}
-use Rattle.graph.specs.Record.{valid}
 use Rattle.graph.proofs.Validity.{valid-variables, valid-count}
 use Rattle.schedule.specs.Count.{each_once}
 use Rattle.schedule.proofs.Orders.{Each, order_each, order_long}
