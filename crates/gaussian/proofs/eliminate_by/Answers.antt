@@ -20,10 +20,14 @@ eliminate_to-requires c =
     let pre = c.requires in
     let rows = c.message_rows.ensures in
     let few = rows_few c.count_rows-y.result c.args.d in
-    record { frame_laid = (
+    record {
+      frame_laid = (
         rw c.frame_of-f.ensures (frame_laid _ _ _ _ pre.total (omega (arith, few, rows)) pre.enough),
         frame_square _ _ _ _ _ _ c.branch_of-branch.ensures rows c.frame_of-f.ensures,
-      ); counted = pre.counted; by_index = ready-is pre c.count_rows-y.ensures c.branch_of-branch.ensures rows c.frame_of-f.ensures }
+      );
+      counted = pre.counted;
+      by_index = ready-is pre c.count_rows-y.ensures c.branch_of-branch.ensures rows c.frame_of-f.ensures;
+    }
 
 pub returns : goal.returns
 returns c = let all = branch_is c.requires

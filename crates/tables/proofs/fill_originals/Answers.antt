@@ -39,8 +39,7 @@ overflow_add-at c =
 pub loop-number-preserved : goal.loop-number-preserved
 loop-number-preserved c =
     let args = c.args in
-    let loop = c.loop-number in
-    (
+    let loop = c.loop-number in (
       omega arith,
       loop.invariant.1,
       loop.invariant.2,

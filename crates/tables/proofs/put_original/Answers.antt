@@ -2,8 +2,11 @@
 use Rattle.tables.proofs.put_original.Goals as goal
 
 pub returns : goal.returns
-returns c = record { keys_after = c.put_keys.ensures; heads_after = rw (
+returns c = record {
+  keys_after = c.put_keys.ensures;
+  heads_after = rw (
     ← c.width_of.ensures,
     ← c.wide.ensures,
     ← c.wide-2.ensures,
-  ) c.put_head.ensures }
+  ) c.put_head.ensures;
+}

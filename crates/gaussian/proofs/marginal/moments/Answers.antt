@@ -34,8 +34,8 @@ exchange-requires c =
 pub returns : goal.returns
 unfolding moments_of
 returns c = let all = solved-tells _ _ _ _ (rw (
-      ← c.requires.mean_value.0,
-      ← c.requires.mean_value.1,
-      ← c.gemv_tr.ensures,
-      ← c.quadform.ensures,
-    ) c.exchange.ensures) in record { w_value = all.0; result_value = all.1 }
+  ← c.requires.mean_value.0,
+  ← c.requires.mean_value.1,
+  ← c.gemv_tr.ensures,
+  ← c.quadform.ensures,
+) c.exchange.ensures) in record { w_value = all.0; result_value = all.1 }

@@ -108,7 +108,8 @@ moments-requires c =
     let a = mul-le-mul pre.1 pre.0 in
     let b = mul-le-mul pre.1 pre.1 in
     let d = mul-le-mul pre.0 pre.0 in
-    record { s_in_bounds = (
+    record {
+      s_in_bounds = (
         fits-part args.message.now (0) (args.rows * args.size) (args.rows * args.size) (omega (arith, pre.2)) (omega arith),
         fits-part args.message.now (args.rows * args.size) (args.rows * args.size + args.rows) args.rows (omega (arith, pre.2))
             (omega arith),
@@ -116,11 +117,13 @@ moments-requires c =
             (args.rows * args.size + args.rows + args.rows * args.rows) (args.rows * args.rows) (omega (arith, pre.2)) (omega arith),
         omega arith,
         pre.0,
-      ); mean_value = (
+      );
+      mean_value = (
         front_replicate plus_zero 6 args.size pre.0,
         front_replicate plus_zero 36 (args.size * args.size) d,
         front_replicate plus_zero 36 (args.size * args.size) d,
-      ) }
+      );
+    }
 
 pub returns-in-Pivot : goal.returns-in-Pivot
 returns-in-Pivot c =
