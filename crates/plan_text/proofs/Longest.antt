@@ -15,7 +15,7 @@ use Rattle.graph.specs.declared.Graph.{Graph}
 use Rattle.graph.specs.declared.refusal.Refusal.{Refusal}
 use Rattle.graph.proofs.Numbers.{number-most}
 use Rattle.graph.proofs.Validity.{valid-variables}
-use Rattle.schedule.specs.Count.{count, joined, put_if, from, rising_where}
+use Rattle.schedule.specs.Count.{joined, put_if, from, rising_where}
 use Rattle.schedule.specs.Pass.{ClosedFactor, at}
 use Rattle.schedule.proofs.Sums.{length_from}
 use Rattle.plan.specs.Limits.{pass_slots}

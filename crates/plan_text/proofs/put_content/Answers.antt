@@ -1,5 +1,5 @@
 -- `plan_text::put_content` meets its contract. The loop's invariant: the slots passed are put behind the word. Assumes nothing.
-use Prim.Native.Nat.{ℕ, ◌-◌}
+use Prim.Native.Nat.{ℕ}
 use mathlib.Core.Path.{◌≡◌, ap, ◌∙◌}
 use mathlib.Core.List.{List}
 use native.Mathlib.Omega.{arith}

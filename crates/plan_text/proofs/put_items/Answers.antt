@@ -1,5 +1,5 @@
 -- `plan_text::put_items` meets its contract. The loop's invariant: the items passed are put behind the word. Assumes nothing.
-use Prim.Native.Nat.{ℕ, ◌-◌}
+use Prim.Native.Nat.{ℕ}
 use mathlib.Core.Path.{◌≡◌, ap}
 use native.Mathlib.Omega.{arith}
 use lib.ListN.{take, drop}

@@ -1,5 +1,5 @@
 -- `plan_text::put_keys` meets its contract. The loop's invariant: the lines of the keys passed are put. Assumes nothing.
-use Prim.Native.Nat.{ℕ, ◌-◌}
+use Prim.Native.Nat.{ℕ}
 use mathlib.Core.Path.{◌≡◌, ap}
 use mathlib.Core.List.{map}
 use native.Mathlib.Omega.{arith}

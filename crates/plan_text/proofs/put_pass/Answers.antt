@@ -1,5 +1,5 @@
 -- `plan_text::put_pass` meets its contract. The loop's invariant: the lines of the messages passed are put. Assumes nothing.
-use Prim.Native.Nat.{ℕ, ◌-◌}
+use Prim.Native.Nat.{ℕ}
 use mathlib.Core.Path.{◌≡◌, refl, ap}
 use mathlib.Core.List.{map}
 use native.Mathlib.Omega.{arith}

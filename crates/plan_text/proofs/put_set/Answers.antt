@@ -1,5 +1,5 @@
 -- `plan_text::put_set` meets its contract. The loop's invariant: the members below k are put behind the word. Assumes nothing.
-use Prim.Native.Nat.{ℕ, ◌-◌}
+use Prim.Native.Nat.{ℕ}
 use mathlib.Core.Path.{◌≡◌, sym, ap}
 use native.Mathlib.Omega.{arith}
 use Rattle.factor.specs.Limits.{max_variables}

@@ -1,4 +1,4 @@
-use Prim.Native.Nat.{◌-◌, ◌≤◌}
+use Prim.Native.Nat.{◌≤◌}
 use Rattle.factor.specs.Limits.{max_variables}
 use Rattle.schedule.specs.Count.{joined, rising_where}
 use Rattle.plan.specs.Mask.{has}
