@@ -20,8 +20,7 @@ loop-init c =
 pub loop-preserved : goal.loop-preserved
 loop-preserved c =
     let args = c.args in
-    let loop = c.loop in
-    (
+    let loop = c.loop in (
       omega arith,
       c.run.auto.marginals ∙ loop.invariant.1,
       one-run args.g args.factors.now (stores args.messages.now args.marginals.now) loop.counter loop.messages loop.marginals
