@@ -49,12 +49,7 @@ fn repeat(
 }
 
 // Reads a job once and runs its graph as often as is asked. Messages and marginals are the caller's, who compares them or times the runs.
-pub fn strips_repeat(
-    bytes: &[u8],
-    times: usize,
-    messages: &mut [f64],
-    marginals: &mut [f64],
-)
+pub fn strips_repeat(bytes: &[u8], times: usize, messages: &mut [f64], marginals: &mut [f64])
     ensures { spec.stores messages.new marginals.new ≡
         spec.repeated (spec.read_job bytes.now) (spec.stores messages.old marginals.old) times }
 {

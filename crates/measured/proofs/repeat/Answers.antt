@@ -20,14 +20,13 @@ loop-init c =
 pub loop-preserved : goal.loop-preserved
 loop-preserved c =
     let args = c.args in
-    let loop = c.loop in
-    (
+    let loop = c.loop in (
       omega arith,
-      c.run.auto.marginals ∙ loop.invariant.1,
+      c.run.auto.work ∙ loop.invariant.1,
       one-run args.g args.factors.now (stores args.messages.now args.marginals.now) loop.counter loop.messages loop.marginals
           (length loop.work) _ _ _ loop.invariant.1 loop.invariant.2 c.run.ensures.marginals_after,
-      c.run.auto.work ∙ loop.invariant.3,
-      c.run.auto.1.1.1.1.0 ∙ loop.invariant.4,
+      c.run.auto.messages ∙ loop.invariant.3,
+      c.run.auto.marginals ∙ loop.invariant.4,
     )
 
 pub returns : goal.returns

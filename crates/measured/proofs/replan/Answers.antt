@@ -16,11 +16,10 @@ pub loop-smaller : goal.loop-smaller
 loop-smaller c = omega (arith, c.loop-test.true)
 
 pub loop-preserved : goal.loop-preserved
-loop-preserved c =
-    (
-      omega (arith, c.loop-test.true),
-      one-plan c.args.g c.arrange-made.result c.loop.counter c.arrange-made.ensures.result_value,
-    )
+loop-preserved c = (
+  omega (arith, c.loop-test.true),
+  one-plan c.args.g c.arrange-made.result c.loop.counter c.arrange-made.ensures.result_value,
+)
 
 pub returns : goal.returns
 returns c = c.loop.invariant.1 ∙ ap (replanned c.args.g) (omega (arith, c.loop-test.false, c.loop.invariant.0))

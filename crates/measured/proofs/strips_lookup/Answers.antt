@@ -11,16 +11,8 @@ use Rattle.factor.specs.declared.lists.Place.{Place}
 use Rattle.measured.specs.Measured.{lookup_number, most_rising, place_number}
 use Rattle.measured.proofs.strips_lookup.Goals as goal
 
-abbrev entry : goal.After-lookup-looked → goal.Start
-entry c = c.before.before.before.before
-
--- the keys lent are those that can rise
-of_rising : (c : goal.After-lookup-looked) → c.lookup-looked.result ≡ lookup (take most_rising (entry c).args.keys.now) (entry c).args.key
-of_rising c =
-    lent (entry c).args.keys.now (entry c).args.key most_rising c.least.result c.lookup-looked.result c.least.ensures c.lookup-looked.ensures
-
-few : (c : goal.After-lookup-looked) → c.lookup-looked.result.read ≤ most_rising
-few c = rw (of_rising c) (few-read (entry c).args.keys.now (entry c).args.key most_rising)
+few : (keys : List ℕ) (key : ℕ) (r : Looked) → r ≡ lookup (take most_rising keys) key → r.read ≤ most_rising
+few keys key r e = rw e (few-read keys key most_rising)
 
 -- over plain values: the number told
 told : (keys : List ℕ) (key : ℕ) (r : Looked) (p : Place) → r ≡ lookup (take most_rising keys) key → r.place ≡ p
@@ -28,28 +20,24 @@ told : (keys : List ℕ) (key : ℕ) (r : Looked) (p : Place) → r ≡ lookup (
 unfolding lookup_number
 told keys key r p e h = rw (sym e, h)
 
+-- The keys lent are those that can rise.
 pub overflow_mul-read : goal.overflow_mul-read
-overflow_mul-read c = omega (arith, few c.before)
+overflow_mul-read c = omega (arith, few c.args.keys.now c.args.key c.lookup-looked.result (lent c.args.keys.now c.args.key most_rising c.least.result c.lookup-looked.result c.least.ensures c.lookup-looked.ensures))
 
 pub overflow_add-result : goal.overflow_add-result
 overflow_add-result c =
-    let at = c.before.before.before.before in
-    let stands = c.stands-1.given in
+    let e = lent c.args.keys.now c.args.key most_rising c.least.result c.lookup-looked.result c.least.ensures c.lookup-looked.ensures in
     omega (
       arith,
-      few at,
-      (place-within (entry at).args.keys.now (entry at).args.key most_rising stands.0.0 (rw (sym (of_rising at)) stands.1)).0,
+      few c.args.keys.now c.args.key c.lookup-looked.result e,
+      (place-within c.args.keys.now c.args.key most_rising c.in-At.place (rw (sym e) c.in-At.is)).0,
     )
 
 pub overflow_add-result-in-Nowhere : goal.overflow_add-result-in-Nowhere
-overflow_add-result-in-Nowhere c = omega (arith, few c.before.before.before)
+overflow_add-result-in-Nowhere c = omega (arith, few c.args.keys.now c.args.key c.lookup-looked.result (lent c.args.keys.now c.args.key most_rising c.least.result c.lookup-looked.result c.least.ensures c.lookup-looked.ensures))
 
 pub returns-in-At : goal.returns-in-At
-returns-in-At c =
-    let at = c.before.before.before.before in
-    told (entry at).args.keys.now (entry at).args.key at.lookup-looked.result _ (of_rising at) c.in-At.is
+returns-in-At c = told c.args.keys.now c.args.key c.lookup-looked.result _ (lent c.args.keys.now c.args.key most_rising c.least.result c.lookup-looked.result c.least.ensures c.lookup-looked.ensures) c.in-At.is
 
 pub returns-in-Nowhere : goal.returns-in-Nowhere
-returns-in-Nowhere c =
-    let at = c.before.before.before in
-    told (entry at).args.keys.now (entry at).args.key at.lookup-looked.result _ (of_rising at) c.in-Nowhere.is
+returns-in-Nowhere c = told c.args.keys.now c.args.key c.lookup-looked.result _ (lent c.args.keys.now c.args.key most_rising c.least.result c.lookup-looked.result c.least.ensures c.lookup-looked.ensures) c.in-Nowhere.is
