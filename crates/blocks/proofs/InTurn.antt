@@ -12,7 +12,7 @@ use lib.ListN.{length, get_or}
 use denote.Ref.{Bor}
 use Rattle.blocks.specs.Blocks.{column_of, block_column_of}
 use Rattle.blocks.specs.declared.Blocks.{Blocks}
-use Rattle.blocks.specs.declared.NextKey.TheVariants.{Key, End}
+use Rattle.std.proofs.Common.{Some, None}
 use Rattle.blocks.specs.Reader.{blocks_from, blocks_of, next_key_at, turned}
 
 -- ---- where the reader stands
@@ -52,7 +52,7 @@ as_many sizes keys y a = length_from sizes y a keys 0
 
 -- what the reader gives at one place: its key, and the block of that key's size
 pub record Gives (b : Blocks) (sizes keys : List ℕ) (y : ℕ) (entry : ℕ × List Float) : Type 0 where
-  pub key : next_key_at keys b.place ≡ Key entry.0
+  pub key : next_key_at keys b.place ≡ Some entry.0
   pub block : block_column_of b.a.now y b.column (get_or sizes entry.0 0) ≡ entry.1
 
 at_place : (a : Bor (List Float)) (sizes keys : List ℕ) (y i : ℕ) → i < length keys
@@ -65,7 +65,7 @@ pub in_turn : (a : Bor (List Float)) (sizes keys : List ℕ) (y i : ℕ) (none :
 in_turn a sizes keys y i none h = rw (stands a sizes keys i, entry-from sizes y a.now keys 0 i none h, zero-add (column_of sizes keys i))
     (at_place a sizes keys y i h)
 
-pub then_end : (a : Bor (List Float)) (sizes keys : List ℕ) → next_key_at keys (turned a sizes keys (length keys)).place ≡ End
+pub then_end : (a : Bor (List Float)) (sizes keys : List ℕ) → next_key_at keys (turned a sizes keys (length keys)).place ≡ None
 then_end a sizes keys = rw (stands a sizes keys (length keys)) (simp (le-ltb (length keys) (length keys) (omega arith)))
 
 -- ---- an example

@@ -1,9 +1,7 @@
 -- Inner: a reader that gives each key of a factor with its block column in turn.
-use Rattle.std.specs.Prelude.{ℕ, zero, suc, ◌+◌, cond, List, [], ◌∷◌, ltb, length, get_or, Float}
+use Rattle.std.specs.Prelude.{ℕ, zero, suc, ◌+◌, cond, List, [], ◌∷◌, ltb, length, get_or, Option, Some, None, Float}
 use Rattle.std.specs.Borrow.{Bor}
 use Rattle.blocks.specs.declared.Blocks.{Blocks}
-use Rattle.blocks.specs.declared.NextKey.{NextKey}
-use Rattle.blocks.specs.declared.NextKey.TheVariants.{Key, End}
 use Rattle.blocks.specs.Blocks.{block_column_of}
 
 -- each key with its block column, where the first block begins at column c
@@ -16,8 +14,8 @@ abbrev pub blocks_of : (sizes keys : List ℕ) (y : ℕ) (a : List Float) → Li
 blocks_of sizes keys y a = blocks_from sizes y a keys 0
 
 -- the key at a place, or the end
-abbrev pub next_key_at : List ℕ → ℕ → NextKey
-next_key_at keys place = cond (ltb place (length keys)) (Key (get_or keys place 0)) End
+abbrev pub next_key_at : List ℕ → ℕ → Option ℕ
+next_key_at keys place = cond (ltb place (length keys)) (Some (get_or keys place 0)) None
 
 -- the reader at the first key, and past a block of s columns
 abbrev pub started : Bor (List Float) → Blocks

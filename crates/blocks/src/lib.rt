@@ -14,24 +14,6 @@ pub struct Blocks<'a> {
     pub column: usize,
 }
 
-// The key that comes next, or none.
-#[derive(Clone, Copy)]
-pub enum NextKey {
-    Key(usize),
-    End,
-}
-
-// The key at a place of a list.
-fn key_at(keys: &[usize], place: usize) -> NextKey
-    ensures { result ≡ next_key_at keys.now place }
-{
-    if place < keys.len() {
-        NextKey::Key(keys[place])
-    } else {
-        NextKey::End
-    }
-}
-
 // The block of `size` columns from a column on, in a matrix of so many rows. It begins where the numbers of the columns before it end.
 fn columns_at<'a>(a: &'a [f64], rows: usize, column: usize, size: usize) -> &'a [f64]
     requires { (column + size) * rows ≤ length a.now }
@@ -53,11 +35,11 @@ pub fn blocks_of<'a>(a: &'a [f64]) -> Blocks<'a>
     }
 }
 
-// The key that the reader stands at.
-pub fn key<'a>(b: Blocks<'a>, keys: &[usize]) -> NextKey
+// The key that the reader stands at, or none at the end.
+pub fn key<'a>(b: Blocks<'a>, keys: &[usize]) -> Option<usize>
     ensures { result ≡ next_key_at keys.now b.entry.place }
 {
-    key_at(keys, b.place)
+    keys.get(b.place).copied()
 }
 
 // The block column of that key, whose size is given.

@@ -8,7 +8,7 @@ use lib.ListN.{get_or, length}
 use lib.Seq.{set-get_or, ext_get_or}
 use lib.Ieee.{Float, nan, binary64, sub, mul, div, lt}
 use Rattle.root.specs.Root.{root_of}
-use Rattle.root.specs.declared.Pivot.TheVariants.{Root}
+use Rattle.std.proofs.Common.{Some}
 use Rattle.matrix.specs.Views.{place, entry, flip, columns, Apart}
 use Rattle.matrix.specs.Sums.{plus_zero, one, terms, deduct, deduct_of}
 use Rattle.matrix.specs.Stores.{steps}
@@ -44,7 +44,7 @@ zero-kept = refl
 
 -- r is the root of x, from which taking 0.0 off changes nothing; and 0.0 divided by r is 0.0
 pub record Rooted (x r : Float) : Type 0 where
-  pub root : pivot_of x x ≡ Root r
+  pub root : pivot_of x x ≡ Some r
   pub kept : sub binary64 x plus_zero ≡ x
   pub zero_over : div binary64 plus_zero r ≡ plus_zero
 

@@ -17,9 +17,9 @@ use Rattle.matrix.proofs.Diagonal.{diagonal-finite}
 use Rattle.cholesky.specs.Factor.{Left, whole, stuck, factor}
 use Rattle.cholesky.specs.Solve.{solve_lower, solve_upper, solved, unit_column, inverted}
 use Rattle.cholesky.specs.Forms.{form, pivot, not_finite, finite_form, exchanged_by, exchanged}
-use Rattle.cholesky.specs.declared.Factored.{Factored}
-use Rattle.cholesky.specs.declared.Factored.TheVariants as factored
-use Rattle.cholesky.specs.declared.exchange.Exchanged.TheVariants.{Done, Pivot, NotFinite}
+use Rattle.std.proofs.Common.{Result, Ok, Err}
+use Rattle.cholesky.specs.declared.Fault.{Fault}
+use Rattle.cholesky.specs.declared.Fault.TheVariants.{Pivot, NotFinite}
 use Rattle.cholesky.proofs.Diagonal.{Rooted, diagonal-factor}
 use Rattle.cholesky.proofs.Identity.{identity_of, identity-factor, identity-solve, identity-inverse, zeros-finite}
 use Rattle.cholesky.specs.Answers.{factored_as, list_of, told}
@@ -27,39 +27,40 @@ use Rattle.cholesky.specs.Answers.{factored_as, list_of, told}
 -- ---- the ways out
 
 module _ (n : ℕ) (x : List Float) where
-  whole_by : (F : Left) → factored_as F ≡ factored.Done
+  whole_by : (F : Left) (u : Unit {0}) → factored_as F ≡ Ok u
       → exchanged_by n x F ≡ finite_form (solved (list_of F) (columns n) n (columns n) 0 x)
       (inverted (list_of F) (columns n) n (columns n) (replicate (n * n) plus_zero) n)
   unfolding exchanged_by
-  whole_by (whole l) e = refl
-  whole_by (stuck l) e = cc
+  whole_by (whole l) u e = refl
+  whole_by (stuck l) u e = cc
 
-  stuck_by : (F : Left) → factored_as F ≡ factored.Refused → exchanged_by n x F ≡ pivot
-  unfolding exchanged_by
-  stuck_by (whole l) e = cc
-  stuck_by (stuck l) e = refl
+  stuck_by : (F : Left) (f : Fault) (y z : List Float) → factored_as F ≡ Err f → exchanged_by n x F ≡ told (Err f) y z
+  unfolding exchanged_by told
+  stuck_by (whole l) f y z e = cc
+  stuck_by (stuck l) Pivot y z e = refl
+  stuck_by (stuck l) NotFinite y z e = cc
 
-  module _ (m y z : List Float) (r : Factored) (er : r ≡ factored_as (factor (columns n) n m n)) where
-    pub pivot-refused : r ≡ factored.Refused → exchanged n x m ≡ told Pivot y z
-    unfolding exchanged told
-    pivot-refused e = stuck_by (factor (columns n) n m n) (sym er ∙ e)
+  module _ (m y z : List Float) (r : Result (Unit {0}) Fault) (er : r ≡ factored_as (factor (columns n) n m n)) where
+    pub pivot-refused : (f : Fault) → r ≡ Err f → exchanged n x m ≡ told (Err f) y z
+    unfolding exchanged
+    pivot-refused f e = stuck_by (factor (columns n) n m n) f y z (sym er ∙ e)
 
-    module _ (l z₀ : List Float) (el : l ≡ list_of (factor (columns n) n m n)) (e : r ≡ factored.Done) (ez₀ : z₀ ≡ replicate (n * n) plus_zero)
+    module _ (l z₀ : List Float) (el : l ≡ list_of (factor (columns n) n m n)) (u : Unit {0}) (e : r ≡ Ok u) (ez₀ : z₀ ≡ replicate (n * n) plus_zero)
         (ey : y ≡ solved l (columns n) n (columns n) 0 x) (ez : z ≡ inverted l (columns n) n (columns n) z₀ n) (b : Bool) (eb : b ≡ all_finite y) where
       both : exchanged n x m ≡ finite_form y z
       unfolding exchanged
-      both = whole_by (factor (columns n) n m n) (sym er ∙ e) ∙ sym (rw (ey, ez, ez₀, el))
+      both = whole_by (factor (columns n) n m n) u (sym er ∙ e) ∙ sym (rw (ey, ez, ez₀, el))
 
-      pub vector_refused : b ≡ false → exchanged n x m ≡ told NotFinite y z
+      pub vector_refused : b ≡ false → exchanged n x m ≡ told (Err NotFinite) y z
       unfolding finite_form told
       vector_refused h = both ∙ simp (sym eb ∙ h)
 
       module _ (h : b ≡ true) (d : Bool) (ed : d ≡ all_finite z) where
-        pub matrix_refused : d ≡ false → exchanged n x m ≡ told NotFinite y z
+        pub matrix_refused : d ≡ false → exchanged n x m ≡ told (Err NotFinite) y z
         unfolding finite_form told
         matrix_refused g = both ∙ simp (sym eb ∙ h, sym ed ∙ g)
 
-        pub exchange-done : d ≡ true → exchanged n x m ≡ told Done y z
+        pub exchange-done : d ≡ true → exchanged n x m ≡ told (Ok tt) y z
         unfolding finite_form told
         exchange-done g = both ∙ simp (sym eb ∙ h, sym ed ∙ g)
 

@@ -7,8 +7,7 @@ use native.Mathlib.Omega.{arith}
 use lib.ListN.{set, get_or, length, length-set}
 use lib.Seq.{get_or-set_same, get_or-set_other}
 use lib.Ieee.{Float, nan, binary64, mul, div}
-use Rattle.root.specs.declared.Pivot.{Pivot}
-use Rattle.root.specs.declared.Pivot.TheVariants.{Root, Refused}
+use Rattle.std.proofs.Common.{Option, Some, None}
 use Rattle.matrix.specs.Views.{place, entry, Inside, flip}
 use Rattle.matrix.specs.Sums.{terms, deduct_of}
 use Rattle.matrix.specs.Stores.{steps}
@@ -64,10 +63,10 @@ module _ (v : View) (n : ℕ) where
     wholes : (s t : List Float) → Alike v n s t → Both (whole s) (whole t)
     stucks : (s t : List Float) → Alike v n s t → Both (stuck s) (stuck t)
 
-  both-rooted : (s t : List Float) (j d : ℕ) (q : Pivot) → j + d < n → Alike v n s t → Both (rooted v j s d q) (rooted v j t d q)
+  both-rooted : (s t : List Float) (j d : ℕ) (q : Option Float) → j + d < n → Alike v n s t → Both (rooted v j s d q) (rooted v j t d q)
   unfolding rooted
-  both-rooted s t j d (Root r) h A = wholes _ _ (alike_below _ _ j d h (alike_set s t j j r r (omega arith) (omega arith) refl A))
-  both-rooted s t j d Refused h A = stucks s t A
+  both-rooted s t j d (Some r) h A = wholes _ _ (alike_below _ _ j d h (alike_set s t j j r r (omega arith) (omega arith) refl A))
+  both-rooted s t j d None h A = stucks s t A
 
   both_column : (j d : ℕ) → j + d < n → {F G : Left} → Both F G → Both (factor_column v j d F) (factor_column v j d G)
   unfolding factor_column

@@ -19,8 +19,7 @@ use lib.Ieee.Nearest.{closest, closest_same, div_same}
 use lib.Ieee.Order.{transfer}
 use lib.Ieee.Positive.{positive, value_pos, mul_at}
 use Rattle.root.specs.Root.{root_of}
-use Rattle.root.specs.declared.Pivot.{Pivot}
-use Rattle.root.specs.declared.Pivot.TheVariants.{Root, Refused}
+use Rattle.std.proofs.Common.{Option, Some, None}
 use Rattle.root.proofs.Values.{has_value, finite, subnormal, normal, answer}
 use Rattle.matrix.specs.Views.{entry}
 use Rattle.matrix.specs.Sums.{deduct, deduct_of}
@@ -31,16 +30,16 @@ pub above_share : (left given : Float) → lt (mul binary64 tolerance given) lef
 unfolding pivot_of
 above_share left given e = rw e
 
-pub not-above : (left given : Float) → lt (mul binary64 tolerance given) left ≡ false → pivot_of left given ≡ Refused
+pub not-above : (left given : Float) → lt (mul binary64 tolerance given) left ≡ false → pivot_of left given ≡ None
 unfolding pivot_of
 not-above left given e = rw e
 
-same : (b : Bool) → cond b Refused Refused ≡ Refused
+same : (b : Bool) → cond {A = Option Float} b None None ≡ None
 same true = refl
 same false = refl
 
 -- what has no root is refused, whatever was given
-pub refused_still : (left given : Float) → root_of left ≡ Refused → pivot_of left given ≡ Refused
+pub refused_still : (left given : Float) → root_of left ≡ None → pivot_of left given ≡ None
 unfolding pivot_of
 refused_still left given e = rw e (same (lt (mul binary64 tolerance given) left))
 
@@ -57,7 +56,7 @@ pub zero_share : (left given : Float) (s : Bool) → mul binary64 tolerance give
 unfolding pivot_of root_of lt
 zero_share left given s e = rw e (go left s)
   where
-    go : (x : Float) (s : Bool) → cond (lt (fin s 0 (pos 0)) x) (root_of x) Refused ≡ root_of x
+    go : (x : Float) (s : Bool) → cond (lt (fin s 0 (pos 0)) x) (root_of x) None ≡ root_of x
     go nan s = refl
     go (inf true) s = refl
     go (inf false) s = refl
@@ -152,30 +151,30 @@ first_column_lem v s d f = ap (rooted v 0 s d) (own_entry (entry s v 0 0) f)
 
 -- ---- by computation, what is left and what was given as bit patterns
 
-at : (left given : ℕ) → Pivot
+at : (left given : ℕ) → Option Float
 unfolding pivot_of root_of of_bits mul lt
 at left given = pivot_of (of_bits binary64 left) (of_bits binary64 given)
 
-root : ℕ → Pivot
+root : ℕ → Option Float
 unfolding of_bits
-root bits = Root (of_bits binary64 bits)
+root bits = Some (of_bits binary64 bits)
 
 -- beside 1: 2 ^ -40, and the numbers next to it
-beside_one : (at 0x3d70000000000000 0x3ff0000000000000 ≡ Refused)
+beside_one : (at 0x3d70000000000000 0x3ff0000000000000 ≡ None)
     × (at 0x3d70000000000001 0x3ff0000000000000 ≡ root 0x3eb0000000000000)
-    × (at 0x3d6fffffffffffff 0x3ff0000000000000 ≡ Refused)
+    × (at 0x3d6fffffffffffff 0x3ff0000000000000 ≡ None)
 unfolding at root
 beside_one = (refl, refl, refl)
 
 -- beside 2 ^ -1034 the share is the least number above 0; beside 2 ^ -1035 it is half of that and rounds to 0, beside the next number up
-beside_least : (at 1 0x10000000000 ≡ Refused)
+beside_least : (at 1 0x10000000000 ≡ None)
     × (at 2 0x10000000000 ≡ root 0x1e66a09e667f3bcd)
     × (at 1 0x8000000000 ≡ root 0x1e60000000000000)
-    × (at 1 0x8000000001 ≡ Refused)
+    × (at 1 0x8000000001 ≡ None)
 unfolding at root
 beside_least = (refl, refl, refl, refl)
 
 -- beside a NaN and an infinity
-beside_none : (at 0x3ff0000000000000 0x7ff8000000000000 ≡ Refused) × (at 0x3ff0000000000000 0x7ff0000000000000 ≡ Refused)
+beside_none : (at 0x3ff0000000000000 0x7ff8000000000000 ≡ None) × (at 0x3ff0000000000000 0x7ff0000000000000 ≡ None)
 unfolding at
 beside_none = (refl, refl)

@@ -1,7 +1,7 @@
 -- What the calls answered is what the graph holds: the keys answered are those below the count of variables, each once, the numbers those below the
 -- count of factors, a factor has the keys that its call gave, and it is live unless a later call took its place. Assumes nothing.
 use mathlib.Core.Path.{◌≡◌, refl, sym, ap, ◌∙◌}
-use mathlib.Core.Bool.{Bool, true, false, not, ◌&&◌, ◌||◌, and-true}
+use mathlib.Core.Bool.{Bool, true, false, not, cond, ◌&&◌, ◌||◌, and-true}
 use mathlib.Core.List.Memᴰ
 use mathlib.Core.List.{List, [], ◌∷◌, ◌++◌, Memᴰ}
 use Prim.Native.Nat.{ℕ, suc, ◌+◌, ◌≤◌, ◌<◌}
@@ -12,13 +12,15 @@ use borrow.Author.Tests.{lt-ltb, le-ltb}
 use lib.Ieee.{Float}
 use lib.ListN.{length, take, length-set}
 use Rattle.factor.specs.declared.Factor.{Factor}
-use Rattle.graph.specs.Record.{factor_at, fresh, live_at, factor_keys}
-use Rattle.graph.specs.Registration.{with_variable, with_factor, retired}
-use Rattle.graph.specs.Reached.{Call, answered, lent, store_after, keys_given, numbers_named, graph_after, yields, Reached}
+use Rattle.graph.specs.Record.{factor_at, fresh, live_at, valid, factor_keys}
+use Rattle.graph.specs.Registration.{Added, refused, replacing, superseding, with_variable, with_factor, retired}
+use Rattle.graph.specs.Reached.{Call, variable, register, supersede, entered, exposed, answered, graph_after, yields, Reached}
 use Rattle.graph.specs.declared.Symbol.{Symbol}
 use Rattle.graph.specs.declared.Graph.{Graph}
-use Rattle.graph.specs.declared.Added.{Added}
-use Rattle.graph.proofs.Calls.{Comes, turned, named, taken, replaced, comes, fresh-reached, reached-more}
+use Rattle.graph.specs.declared.refusal.Refusal.{Refusal}
+use Rattle.graph.specs.declared.refusal.Refusal.TheVariants.{NotLive, NoSuchGraph}
+use Rattle.graph.proofs.Calls.{entered-cases, fresh-reached, reached-more}
+use Rattle.graph.proofs.Checking.{variable-cases}
 use Rattle.graph.proofs.Keeping.{good_of}
 use Rattle.graph.proofs.Validity.{valid-count, live_below, live-is, live_of}
 use Rattle.graph.proofs.Factors.{added_at, added_else, retired-at, retired_else}
@@ -206,13 +208,28 @@ module _ (g : Graph) (f : Factor) (alive : f.live ≡ true) (l : g.count < lengt
             others-live (with_factor g f) j below long i d (omega arith) ∙ old_live g f i m ∙ sym (and-true (live_at g i))
             ∙ ap (λ (x : Bool). live_at g i && not x) (sym (not_named j i d))
 
-one_more : (g h : Graph) (keys olds : List ℕ) (store s : List Float) (x : Added) (ks : List ℕ) (fs : List Accepted) (ss : List ℕ)
-    → x.graph.count ≤ length g.factors → Comes g keys olds store x s → Read x.graph h ks fs ss
-    → Read g h (key_in x.outcome ++ ks) (factor_in x.outcome keys ++ fs) (superseded_in x.outcome olds ++ ss)
-unfolding key_in factor_in superseded_in
-one_more g h keys olds store s x ks fs ss room (turned why) r = r
-one_more g h keys olds store s x ks fs ss room (named name size n) r =
-    record {
+-- a call that has answered r, with what it adds to what the later calls answered
+module _ (c : Call) (g h : Graph) (ks : List ℕ) (fs : List Accepted) (ss : List ℕ) where
+  Told : Added → Type 0
+  Told x = Read x.graph h ks fs ss → Read g h (key_in c x.outcome ++ ks) (factor_in c x.outcome ++ fs) (superseded_in c x.outcome ++ ss)
+
+-- a superseding call, by whether the factor that it names is live
+superseding-cases : (g : Graph) (j : ℕ) (plain : Added) (P : Added → Type 0) → ((why : Refusal) → P (refused g why))
+    → (live_at g j ≡ true → P (replacing plain.graph j plain.outcome)) → P (superseding g j plain)
+unfolding superseding
+superseding-cases g j plain P back kept = go (valid g) (live_at g j) refl
+  where
+    go : (a b : Bool) → live_at g j ≡ b → P (cond (not a) (refused g NoSuchGraph) (cond (not b) (refused g NotLive) (replacing plain.graph j plain.outcome)))
+    go true true l = kept l
+    go true false l = back NotLive
+    go false b l = back NoSuchGraph
+
+one_more : (c : Call) (g h : Graph) (ks : List ℕ) (fs : List Accepted) (ss : List ℕ) → (graph_after g c).count ≤ length g.factors
+    → Told c g h ks fs ss (answered g c)
+unfolding key_in factor_in superseded_in Told
+one_more (variable name size) g h ks fs ss room =
+    variable-cases g name size (Told (variable name size) g h ks fs ss) (λ why r. r)
+    (λ n r. record {
       more-keys = suc r.more-keys;
       keys = ap (λ (l : List ℕ). g.variables ∷ l) r.keys ∙ from_more g.variables r.more-keys;
       variables = omega (arith, r.variables);
@@ -223,17 +240,23 @@ one_more g h keys olds store s x ks fs ss room (named name size n) r =
       given = r.given;
       stays = λ i l. r.stays i l ∙ ap (λ (b : Bool). b && not (mem i ss)) (same_live g name size i);
       new = r.new;
-    }
-one_more g h keys olds store s x ks fs ss room (taken f a mean variance xi w t e o) r =
-    factor-more g _ h keys olds ks fs ss (rw (← e, o) (taken_adds g f t.alive (omega arith))) r
-one_more g h keys olds store s x ks fs ss room (replaced j l f a mean variance xi w t e o) r =
-    factor-more g _ h keys olds ks fs ss (rw (← e, o) (replaced_adds g f t.alive (omega arith) j (live_below g j l))) r
+    })
+one_more (register exposure own) g h ks fs ss room =
+    entered-cases g exposure own (λ x s. x.graph.count ≤ length g.factors → Told (register exposure own) g h ks fs ss x) (λ why l r. r)
+    (λ f a mean variance xi w t e l r. factor-more g _ h (exposed exposure) [] ks fs ss (rw (← e) (taken_adds g f t.alive (omega arith))) r) room
+one_more (supersede j exposure own) g h ks fs ss room =
+    superseding-cases g j (entered g exposure own) (λ x. x.graph.count ≤ length g.factors → Told (supersede j exposure own) g h ks fs ss x) (λ why l r. r)
+    (λ alive. entered-cases g exposure own
+    (λ x s. (replacing x.graph j x.outcome).graph.count ≤ length g.factors → Told (supersede j exposure own) g h ks fs ss (replacing x.graph j x.outcome))
+    (λ why l r. r)
+    (λ f a mean variance xi w t e l r. factor-more g _ h (exposed exposure) (j ∷ []) ks fs ss
+    (rw (← e) (replaced_adds g f t.alive (omega arith) j (live_below g j alive))) r)) room
 
 pub room_in : (g : Graph) (c : Call) → Reached g → (graph_after g c).count ≤ length g.factors
 room_in g c r = omega (arith, valid-count (graph_after g c) (good_of (graph_after g c) (reached-more g _ c r refl)).1, (good_of g r).0.factors)
 
 read-from : (cs : List Call) (g : Graph) → Reached g → Read g (yields g cs) (keys_answered g cs) (accepted g cs) (superseded g cs)
-unfolding yields keys_answered accepted superseded from
+unfolding yields keys_answered accepted superseded from Told
 read-from [] g r =
     record {
       more-keys = 0;
@@ -248,9 +271,8 @@ read-from [] g r =
       new = λ i l m. absurd (omega arith);
     }
 read-from (c ∷ cs) g r =
-    one_more g (yields (graph_after g c) cs) (keys_given c) (numbers_named c) (lent [] c) (store_after g [] c) (answered g c)
-    (keys_answered (graph_after g c) cs) (accepted (graph_after g c) cs) (superseded (graph_after g c) cs)
-    (room_in g c r) (comes g [] c) (read-from cs (graph_after g c) (reached-more g _ c r refl))
+    one_more c g (yields (graph_after g c) cs) (keys_answered (graph_after g c) cs) (accepted (graph_after g c) cs) (superseded (graph_after g c) cs)
+    (room_in g c r) (read-from cs (graph_after g c) (reached-more g _ c r refl))
 
 -- ---- from a fresh graph
 

@@ -1,8 +1,9 @@
 -- What a run comes to: an unrefused one has stored what the plan's eliminations give, and without keys there is no marginal. Assumes nothing.
 use mathlib.Core.Path.{◌≡◌, refl, ap}
-use mathlib.Core.Bool.{Bool, true, false, false≢true}
+use mathlib.Core.Bool.{false≢true}
 use mathlib.Core.List.{List, [], ◌++◌}
 use Prim.Native.Nat.{ℕ}
+use Rattle.std.specs.Prelude.{Ok, is_ok}
 use lib.Ieee.{Float}
 use Rattle.graph.specs.declared.Graph.{Graph}
 use Rattle.graph.specs.declared.refusal.Refusal.{Refusal}
@@ -15,17 +16,11 @@ use Rattle.solver.specs.Plan.{plan_along}
 use Rattle.marginals.specs.Marginals.{marginals_from, planned_marginals, marginals_in}
 use Rattle.solver.specs.Run.{figure_of, RunVerdict, refuse, key_at, run_along}
 use Rattle.solver.proofs.Cases.{Ends, along-cases}
-use Rattle.solver.specs.declared.run.Ended.{Ended}
-use Rattle.solver.specs.declared.run.Ended.TheVariants.{Done, Refused}
 use Rattle.claims.specs.Demand3.{Exact}
-
-is_done : Ended → Bool
-is_done Done = true
-is_done (Refused why stage key) = false
 
 -- what is claimed of the answer and the stores of a run
 pub record Carries (g : Graph) (p : schedule.Plan) (factors messages marginals : List Float) (v : RunVerdict) : Type 0 where
-  pub exact : v.answer.ended ≡ Done → Exact g p factors messages marginals v
+  pub exact : v.answer.ended ≡ Ok tt → Exact g p factors messages marginals v
   pub bare : p.at_key ≡ [] → v.marginals ≡ marginals
 
 module _ (g : Graph) (p : schedule.Plan) (factors messages marginals : List Float) where
@@ -39,8 +34,7 @@ module _ (g : Graph) (p : schedule.Plan) (factors messages marginals : List Floa
   bw = values g factors p.backward
 
   refused_run : (figure : ℕ) (why : Refusal) (stage key : ℕ) (l : List Float) → Right (refuse figure why stage key l marginals)
-  unfolding is_done
-  refused_run figure why stage key l = record { exact = λ e. absurd (false≢true (ap is_done e)); bare = λ e. refl }
+  refused_run figure why stage key l = record { exact = λ e. absurd (false≢true (ap is_ok e)); bare = λ e. refl }
 
   no_marginals : p.at_key ≡ [] → overlaid marginals (marginals_in (planned_marginals g factors p)) ≡ marginals
   unfolding marginals_from marginals_in

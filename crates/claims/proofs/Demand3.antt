@@ -5,11 +5,13 @@ use mathlib.Core.Bool.{true}
 use mathlib.Core.List.{List, [], ◌∷◌, Memᴰ}
 use Prim.Native.Nat.{ℕ, ◌+◌, ◌<◌}
 use native.Mathlib.Omega.{arith}
+use Rattle.std.specs.Prelude.{Result, is_ok}
 use lib.Ieee.{Float}
 use lib.ListN.{length, get_or}
 use Rattle.graph.specs.Record.{fresh, live_at, valid, factor_keys}
 use Rattle.graph.specs.Reached.{Call, yields}
 use Rattle.graph.specs.declared.Graph.{Graph}
+use Rattle.graph.specs.declared.refusal.Refusal.{Refusal}
 use Rattle.graph.proofs.Keeping.{good_of}
 use Rattle.schedule.specs.Count.{hit, count, In, from, each_once}
 use Rattle.schedule.specs.Gather.{Gathered}
@@ -25,11 +27,10 @@ use Rattle.solver.specs.Plan.{live_numbers, plan_along, Answer, planned_along}
 use Rattle.solver.specs.Plan as plans
 use Rattle.solver.specs.Run.{RunVerdict, run_along}
 use Rattle.solver.specs.Stages.{Runnable}
-use Rattle.solver.specs.declared.Outcome.TheVariants.{Done}
 use Rattle.solver.proofs.GraphOnce.{once}
 use Rattle.solver.proofs.Carriable.{along-runnable}
 use Rattle.solver.proofs.Rising.{rising_order, rising-plan, rising-run}
-use Rattle.claims.specs.Demand3.{Accepted, keys_answered, numbers_answered, live, cleared_behind, Rests, Exact, Order, Smooths, Whole}
+use Rattle.claims.specs.Demand3.{Accepted, keys_answered, numbers_answered, live, cleared_behind, Rests, Exact, Order, plan_of, Smooths, Whole}
 use Rattle.claims.proofs.Calls.{reached, keys-are, numbers-are, live-are, given-are}
 use Rattle.claims.proofs.Carrying.{run_carries}
 
@@ -88,7 +89,7 @@ module _ (cs : List Call) where
     p = plan_along g order
 
     -- with what the plan's call answers in place of the plan
-    by_answer : (P : Answer → Type 0) → P (plans.made g p) → P (planned_along g order)
+    by_answer : (P : Result Answer Refusal → Type 0) → P (plans.made g p) → P (planned_along g order)
     unfolding planned_along
     by_answer P h = rw (sound, o) h
 
@@ -105,16 +106,16 @@ module _ (cs : List Call) where
     smooths : Smooths cs (planned_along g order) (run_along g order)
     smooths =
         record {
-          made = by_answer (λ (a : Answer). a.outcome ≡ Done) refl;
-          for_each = by_answer (λ (a : Answer). length a.plan.at_key ≡ length (keys_answered fresh cs))
+          made = by_answer (λ a. is_ok a ≡ true) refl;
+          for_each = by_answer (λ a. length (plan_of a).at_key ≡ length (keys_answered fresh cs))
               (can_run.for_each ∙ sym (length_from 0 g.variables) ∙ ap length (sym (keys-are cs)));
           rests =
               λ k h d. let l : k < g.variables = from-lt k g.variables (subst (λ (l : List ℕ). In k l) (keys-are cs) h) in
-              by_answer (λ (a : Answer). Rests (keys_answered fresh cs) (live fresh cs) a.plan k (get_or a.plan.at_key k d))
+              by_answer (λ a. Rests (keys_answered fresh cs) (live fresh cs) (plan_of a) k (get_or (plan_of a).at_key k d))
               (rests g (keys_answered fresh cs) (live fresh cs) (keys-are cs) (live-are cs) (given-are cs) p k
               (get_or p.at_key k d) l (once g order sound o k l d));
           exact =
-              λ factors messages work marginals e. by_answer (λ (a : Answer). Exact g a.plan factors messages marginals
+              λ factors messages work marginals e. by_answer (λ a. Exact g (plan_of a) factors messages marginals
               (run_along g order factors messages work marginals))
               ((run_carries g order factors messages work marginals).exact e);
           none_without_keys = λ e factors messages work marginals. (run_carries g order factors messages work marginals).bare (empty e);
@@ -127,7 +128,7 @@ module _ (cs : List Call) where
         numbers_apart = λ i. omega (arith, ap (count i) (numbers-are cs), from_once g.count i);
         along = λ order h. smooths order (passes order h);
         rising =
-            subst₂ (λ (a : Answer) (ran : List Float → List Float → ℕ → List Float → RunVerdict). Smooths cs a ran) (rising-plan g)
+            subst₂ (λ (a : Result Answer Refusal) (ran : List Float → List Float → ℕ → List Float → RunVerdict). Smooths cs a ran) (rising-plan g)
             (fun_ext (λ factors. fun_ext (λ messages. fun_ext (λ work. fun_ext (λ marginals. rising-run g factors messages work marginals)))))
             (smooths (from 0 g.variables) (rising_order g.variables));
       }

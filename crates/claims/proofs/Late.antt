@@ -11,7 +11,7 @@ use lib.ListN.{length}
 use Rattle.graph.specs.Record.{fresh, live_at, valid, factor_keys}
 use Rattle.graph.specs.Reached.{exposed, register, yields}
 use Rattle.graph.specs.declared.Graph.{Graph}
-use Rattle.graph.specs.declared.Added.{Added}
+use Rattle.graph.specs.Registration.{Added}
 use Rattle.graph.proofs.Calls.{entered-cases, yields_more, reached-more}
 use Rattle.graph.proofs.Keeping.{good_of}
 use Rattle.schedule.specs.Count.{In, keep, from, rising_where}
@@ -22,6 +22,7 @@ use Rattle.schedule.proofs.Sums.{from_snoc}
 use Rattle.schedule.proofs.Late.{agree_itself, late}
 use Rattle.plan.proofs.Membership.{mem-nil}
 use Rattle.solver.specs.Plan.{live_numbers, graph_plan, planned}
+use Rattle.claims.specs.Demand3.{plan_of}
 use Rattle.claims.specs.Late.{Late}
 use Rattle.claims.proofs.Calls.{Adds, taken_adds, room_in, reached}
 
@@ -37,7 +38,7 @@ module _ (g h : Graph) (keys : List ℕ) (a : Adds g h keys []) where
       still_live : (i : ℕ) → i < g.count → live_at h i ≡ live_at g i
       still_live i l = a.stays i l ∙ ap (λ (b : Bool). live_at g i && not b) (mem-nil i) ∙ and-true (live_at g i)
 
-  agree : (t : ℕ) → AtLeast t keys → valid g ≡ true → valid h ≡ true → Agree t (planned g).plan.forward (planned h).plan.forward
+  agree : (t : ℕ) → AtLeast t keys → valid g ≡ true → valid h ≡ true → Agree t (plan_of (planned g)).forward (plan_of (planned h)).forward
   unfolding planned graph_plan
   agree t from-t sound sound' =
       rw (sound, sound') (subst₂ (λ (n : ℕ) (N : List ℕ). Agree t (graph_plan g).forward (schedule.plan n (factor_keys h) N (from 0 n)).forward)
@@ -47,8 +48,8 @@ module _ (g h : Graph) (keys : List ℕ) (a : Adds g h keys []) where
 
 pub late_exposures : Late
 late_exposures cs exposure store t from-t =
-    subst (λ (h : Graph). Agree t (planned g).plan.forward (planned h).plan.forward) (sym (yields_more cs fresh (register exposure store)))
-    (entered-cases g exposure store Stays (λ why room sound. agree_itself t (planned g).plan.forward)
+    subst (λ (h : Graph). Agree t (plan_of (planned g)).forward (plan_of (planned h)).forward) (sym (yields_more cs fresh (register exposure store)))
+    (entered-cases g exposure store Stays (λ why room sound. agree_itself t (plan_of (planned g)).forward)
     (λ f p mean variance xi w k e room sound. agree g _ (exposed exposure) (rw (← e) (taken_adds g f k.alive (omega arith))) t from-t
     (good_of g (reached cs)).1 sound)
     (room_in g (register exposure store) (reached cs)) (good_of _ (reached-more g _ (register exposure store) (reached cs) refl)).1)
@@ -57,4 +58,4 @@ late_exposures cs exposure store t from-t =
     g = yields fresh cs
 
     Stays : Added → List Float → Type 0
-    Stays x s = x.graph.count ≤ length g.factors → valid x.graph ≡ true → Agree t (planned g).plan.forward (planned x.graph).plan.forward
+    Stays x s = x.graph.count ≤ length g.factors → valid x.graph ≡ true → Agree t (plan_of (planned g)).forward (plan_of (planned x.graph)).forward

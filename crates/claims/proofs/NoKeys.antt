@@ -7,6 +7,7 @@ use mathlib.Core.List.{List, []}
 use native.Mathlib.Omega.{arith}
 use borrow.Author.Tests.{le-leb}
 use lib.Dec.{ltb}
+use Rattle.std.specs.Prelude.{Result, Ok, Err}
 use lib.Ieee.{Float}
 use lib.ListN.{length, length-replicate}
 use Rattle.matrix.specs.Sums.{plus_zero}
@@ -14,11 +15,9 @@ use Rattle.factor.specs.Counting.{every, sum}
 use Rattle.graph.specs.Record.{fresh, offset, valid}
 use Rattle.graph.specs.Reached.{Reached}
 use Rattle.graph.specs.declared.Graph.{Graph}
+use Rattle.graph.specs.declared.refusal.Refusal.{Refusal}
 use Rattle.graph.proofs.Keeping.{good_of}
 use Rattle.records.specs.Records.{record_at, step_of, request_store, Reading, onward, read_from, read_all}
-use Rattle.records.specs.declared.answer.Next.{Next}
-use Rattle.records.specs.declared.answer.Next.TheVariants.{At, Refused}
-use Rattle.records.specs.declared.answer.Ended.TheVariants as records
 use Rattle.records.proofs.Progress.{record_bounded}
 use Rattle.graph.proofs.Calls.{fresh-reached}
 use Rattle.records.proofs.Reading.{step-reached}
@@ -31,7 +30,6 @@ use Rattle.marginals.specs.Marginals.{marginal_numbers, marginals_from, missing_
 use Rattle.marginals.proofs.Rooms.{numbers-most}
 use Rattle.solver.specs.Plan.{graph_plan, no_plan}
 use Rattle.solver.specs.Run.{figure_of, first, second, third, carried, checked, run}
-use Rattle.solver.specs.declared.run.Ended.TheVariants.{Done}
 use Rattle.lines.specs.Lines.{lines_text}
 use Rattle.job.specs.Job.{factor_room, message_room, marginal_room, zeros, verdict_text, run_text, read_text, job_text}
 
@@ -39,17 +37,17 @@ use Rattle.job.specs.Job.{factor_room, message_room, marginal_room, zeros, verdi
 
 -- what was read whole is a graph of registering calls, and its factors fit into the store
 Held : Reading → Type 0
-Held all = all.answer.ended ≡ records.Done → Reached all.answer.graph × (offset all.answer.graph all.answer.graph.count ≤ length all.store)
+Held all = all.answer.ended ≡ Ok tt → Reached all.answer.graph × (offset all.answer.graph all.answer.graph.count ≤ length all.store)
 
 held_turn : (b : Bool) (x y : Reading) → Held x → Held y → Held (cond b x y)
 held_turn true x y h k = h
 held_turn false x y h k = k
 
-held_on : (place : ℕ) (next : Next) (g : Graph) (s : List Float) (rest : ℕ → Reading) → ((n : ℕ) → next ≡ At n → Held (rest n))
+held_on : (place : ℕ) (next : Result ℕ Refusal) (g : Graph) (s : List Float) (rest : ℕ → Reading) → ((n : ℕ) → next ≡ Ok n → Held (rest n))
     → Held (onward next g s place rest)
 unfolding Held
-held_on place (At n) g s rest h = h n refl
-held_on place (Refused why) g s rest h = λ e. let z : ◌≡◌ {A = ℕ} 0 1 = cc in absurd (omega arith)
+held_on place (Ok n) g s rest h = h n refl
+held_on place (Err why) g s rest h = λ e. let z : ◌≡◌ {A = ℕ} 0 1 = cc in absurd (omega arith)
 
 read_held : (turns : ℕ) (bytes : List ℕ) (at place : ℕ) (g : Graph) (store : List Float) → Reached g → offset g g.count ≤ length store
     → Held (read_from turns bytes at place g store)
@@ -72,7 +70,7 @@ no_plan_lem g e = rw e
 
 no_marginals : (g : Graph) (factors messages marginals : List Float) → valid g ≡ true → g.variables ≡ 0 → offset g g.count ≤ length factors
     → marginal_numbers g ≤ length marginals
-    → run g factors messages work_numbers marginals ≡ record { answer = record { figure = 0; ended = Done }; messages = messages; marginals = marginals }
+    → run g factors messages work_numbers marginals ≡ record { answer = record { figure = 0; ended = Ok tt }; messages = messages; marginals = marginals }
 unfolding run checked carried first second third figure_of need need_to values values_to refusal_from finished_numbers marginals_from missing_from marginals_in every
 no_marginals g factors messages marginals v e l m = rw (v, no_plan_lem g e, le-leb _ _ l, le-leb 0 (length messages) (omega arith), le-leb _ _ m)
 
@@ -85,7 +83,7 @@ no_text g factors v e l =
 
 -- ---- the job
 
-pub no_lines : (bytes : List ℕ) → (read_all bytes (zeros factor_room)).answer.ended ≡ records.Done
+pub no_lines : (bytes : List ℕ) → (read_all bytes (zeros factor_room)).answer.ended ≡ Ok tt
     → (read_all bytes (zeros factor_room)).answer.graph.variables ≡ 0 → job_text bytes ≡ []
 unfolding job_text read_all Held offset sum
 no_lines bytes w e =

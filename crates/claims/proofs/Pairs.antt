@@ -4,6 +4,7 @@ use mathlib.Core.Bool.{true}
 use mathlib.Core.List.{List, [], ◌∷◌, ◌++◌, map}
 use Prim.Native.Nat.{◌-◌}
 use lib.ListN.{length, get_or, replicate}
+use Rattle.std.specs.Prelude.{Ok, Err}
 use lib.Ieee.{Float, nan, of_bits}
 use Rattle.graph.specs.Moments.{start_of}
 use Rattle.root.specs.Root.{root_of}
@@ -13,7 +14,6 @@ use Rattle.factor.specs.Counting.{sum}
 use Rattle.factor.specs.Factor.{no_factor, prior_of, observation_of, first_column, a_numbers, numbers}
 use Rattle.graph.specs.Record.{no_name, fresh, offset, valid}
 use Rattle.graph.specs.Reached.{answered}
-use Rattle.graph.specs.declared.Outcome.TheVariants as outcome
 use Rattle.graph.specs.declared.refusal.Refusal.TheVariants.{KeysNotRising, MarginalPivot}
 use Rattle.graph.specs.declared.Graph.{Graph}
 use Rattle.schedule.specs.Count.{In}
@@ -33,7 +33,7 @@ use Rattle.solver.specs.Plan.{planned, graph_plan}
 use Rattle.solver.proofs.GraphOnce as once
 use Rattle.marginals.specs.Marginals.{gathered_views, found, marginals_from, missing_from, marginals_in}
 use Rattle.solver.specs.Run.{figure_of, RunVerdict, first, second, third, carried, checked, run}
-use Rattle.solver.specs.declared.run.Ended.TheVariants.{Done, Refused}
+use Rattle.claims.specs.Demand3.{plan_of}
 use Rattle.claims.specs.Pairs.{zer, plus_one, minus_one, two, three, four, three_quarters, Built, called, lent_to, built, named, observation_on}
 use Rattle.claims.specs.Pairs.{weak, between}
 use Rattle.claims.specs.Pairs.{float, bare, held, pair, keyless, plan_built, run_built, gathered_at, Pairs}
@@ -148,7 +148,7 @@ figure_is = refl
 abbrev ended : RunVerdict
 ended =
     record {
-      answer = record { figure = 6; ended = Done };
+      answer = record { figure = 6; ended = Ok tt };
       messages = plus_one ∷ three ∷ three_quarters ∷ minus_one ∷ zer ∷ zer ∷ nan ∷ [];
       marginals = zer ∷ float 0x3FD5555555555556 ∷ float 0x4010000000000001 ∷ float 0x3FF5555555555556 ∷ nan ∷ [];
     }
@@ -166,11 +166,11 @@ run_is : run graph store (replicate 7 nan) work_numbers (replicate 5 nan) ≡ en
 unfolding run
 run_is = rw (valid-is, plan-is, figure_is) (checked-is ∙ carried-is)
 
-planned-made : (g : Graph) → valid g ≡ true → (planned g).plan ≡ graph_plan g
+planned-made : (g : Graph) → valid g ≡ true → plan_of (planned g) ≡ graph_plan g
 unfolding planned
 planned-made g v = rw v
 
-planned-is : (planned graph).plan ≡ plan
+planned-is : plan_of (planned graph) ≡ plan
 planned-is = planned-made graph valid-is ∙ plan-is
 
 -- what key 0 gathers: the backward message and three priors
@@ -219,11 +219,11 @@ uncovered = refl
 
 -- ---- P1 to P3 and P8
 
-empty_run : run fresh [] [] work_numbers [] ≡ record { answer = record { figure = 0; ended = Done }; messages = []; marginals = [] }
+empty_run : run fresh [] [] work_numbers [] ≡ record { answer = record { figure = 0; ended = Ok tt }; messages = []; marginals = [] }
 unfolding computed_run
 empty_run = refl
 
-bare-run : run_built bare 0 2 ≡ record { answer = record { figure = 0; ended = Refused MarginalPivot 3 0 }; messages = []; marginals = nan ∷ nan ∷ [] }
+bare-run : run_built bare 0 2 ≡ record { answer = record { figure = 0; ended = Err (record { why = MarginalPivot; stage = 3; key = 0 }) }; messages = []; marginals = nan ∷ nan ∷ [] }
 unfolding computed_run
 bare-run = refl
 
@@ -246,14 +246,14 @@ held-is : held ≡ made_held
 unfolding computed_calls
 held-is = refl
 
-made-held-run : run_built made_held 0 2 ≡ record { answer = record { figure = 0; ended = Done }; messages = []; marginals = two ∷ four ∷ [] }
+made-held-run : run_built made_held 0 2 ≡ record { answer = record { figure = 0; ended = Ok tt }; messages = []; marginals = two ∷ four ∷ [] }
 unfolding computed_run
 made-held-run = refl
 
-held-run : run_built held 0 2 ≡ record { answer = record { figure = 0; ended = Done }; messages = []; marginals = two ∷ four ∷ [] }
+held-run : run_built held 0 2 ≡ record { answer = record { figure = 0; ended = Ok tt }; messages = []; marginals = two ∷ four ∷ [] }
 held-run = ap (λ (r : Built). run_built r 0 2) held-is ∙ made-held-run
 
-equal_keys : (answered graph (observation_on (1 ∷ 1 ∷ []) (plus_one ∷ plus_one ∷ []) plus_one (replicate 14 nan))).outcome ≡ outcome.Refused KeysNotRising
+equal_keys : (answered graph (observation_on (1 ∷ 1 ∷ []) (plus_one ∷ plus_one ∷ []) plus_one (replicate 14 nan))).outcome ≡ Err KeysNotRising
 unfolding computed_calls
 equal_keys = refl
 
@@ -290,7 +290,7 @@ pairs =
       p7_two = refl;
       p7_least = refl;
       p8 = of_pair (λ (r : Built). (answered r.graph (observation_on (1 ∷ 1 ∷ []) (plus_one ∷ plus_one ∷ []) plus_one (replicate 14 nan))).outcome
-          ≡ outcome.Refused KeysNotRising) equal_keys;
+          ≡ Err KeysNotRising) equal_keys;
       p8_number = refl;
       p9_every = λ g v i k l e h d. subst (λ (p : schedule.Plan). In i (get_or p.at_key k d).originals) (sym (planned-made g v))
           (once.keyless g v i k l e h d);

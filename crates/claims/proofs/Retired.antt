@@ -5,6 +5,7 @@ use mathlib.Core.List.{List, [], ◌∷◌, ◌++◌}
 use Prim.Native.Nat.{ℕ, suc, ◌+◌, ◌-◌, ◌≤◌, ◌<◌}
 use native.Mathlib.Omega.{arith}
 use lib.Dec.{leb}
+use Rattle.std.specs.Prelude.{Ok, Err}
 use lib.Ieee.{Float}
 use lib.ListN.{length, get_or}
 use Rattle.factor.specs.Counting.{every}
@@ -18,14 +19,15 @@ use Rattle.schedule.specs.Plan as schedule
 use Rattle.schedule.proofs.Counts.{hit_same, rising_once}
 use Rattle.workspace.specs.Frames.{work_numbers}
 use Rattle.gaussian.specs.Elimination.{Outcome}
-use Rattle.messages.specs.Values.{values, FirstRefusal, none, refused_at, refusal_from, finished_numbers, overlaid}
+use Rattle.messages.specs.Values.{values, FirstRefusal, refusal_from, finished_numbers, overlaid}
 use Rattle.marginals.specs.Marginals.{marginal_numbers, Found, found, refused, marginal, marginals_from, planned_marginals, missing_from}
-use Rattle.solver.specs.Plan.{Answer, graph_plan, plan_along, planned, planned_along}
+use Rattle.solver.specs.Plan.{graph_plan, plan_along, planned, planned_along}
 use Rattle.solver.specs.Run as solver
 use Rattle.solver.specs.Run.{RunVerdict, refuse, key_at}
 use Rattle.solver.proofs.GraphOnce.{once}
 use Rattle.solver.proofs.Carriable.{along-runnable}
 use Rattle.solver.proofs.Rising.{rising-plan}
+use Rattle.claims.specs.Demand3.{plan_of}
 use Rattle.claims.specs.Retired as looking
 use Rattle.claims.specs.Retired.{twice, met, some_met, Verdict, told, unless, Retired}
 
@@ -50,18 +52,18 @@ none-met [] h = refl
 none-met (q ∷ qs) h = rw (not-met q (h 0 (omega arith) q), none-met qs (λ k l. h (suc k) (omega arith))) refl
 
 -- in a plan
-plans_along : (g : Graph) (order : List ℕ) → some_met (planned_along g order).plan.at_key ≡ false
+plans_along : (g : Graph) (order : List ℕ) → some_met (plan_of (planned_along g order)).at_key ≡ false
 unfolding planned_along some_met
 plans_along g order = go (valid g) (each_once g.variables order) refl refl
   where
-    go : (a b : Bool) → valid g ≡ a → each_once g.variables order ≡ b → some_met (planned_along g order).plan.at_key ≡ false
+    go : (a b : Bool) → valid g ≡ a → each_once g.variables order ≡ b → some_met (plan_of (planned_along g order)).at_key ≡ false
     go true true v o = rw (v, o) (none-met (plan_along g order).at_key (λ k l d i. omega
         (arith, (once g order v o k (omega (arith, (along-runnable g order v o).for_each)) d).listed i, rising_once g.count (live_at g) i)))
     go true false v o = rw (v, o) refl
     go false b v o = rw v refl
 
-plans : (g : Graph) → some_met (planned g).plan.at_key ≡ false
-plans g = subst (λ (a : Answer). some_met a.plan.at_key ≡ false) (rising-plan g) (plans_along g (from 0 g.variables))
+plans : (g : Graph) → some_met (plan_of (planned g)).at_key ≡ false
+plans g = subst (λ a. some_met (plan_of a).at_key ≡ false) (rising-plan g) (plans_along g (from 0 g.variables))
 
 -- ---- the run
 
@@ -105,14 +107,14 @@ module _ (g : Graph) (key : ℕ → ℕ) (p : schedule.Plan) (figure : ℕ) (fac
       → unless s (λ j why. refuse figure why 2 (key (g.variables - 1 - (at p.backward j).step)) laid marginals) next'
       ≡ told (solver.second figure g.variables key p.backward laid marginals s next)
   unfolding unless solver.second
-  seconds none next next' h = h
-  seconds (refused_at j why) next next' h = refl
+  seconds (Ok done) next next' h = h
+  seconds (Err undone) next next' h = refl
 
   firsts : (s : FirstRefusal) (l : List Float) (next : RunVerdict) (next' : Verdict) → next' ≡ told next
       → unless s (λ j why. refuse figure why 1 (key (at p.forward j).step) l marginals) next' ≡ told (solver.first figure key p.forward l marginals s next)
   unfolding unless solver.first
-  firsts none l next next' h = h
-  firsts (refused_at j why) l next next' h = refl
+  firsts (Ok done) l next next' h = h
+  firsts (Err undone) l next next' h = refl
 
   checked-same : (work : ℕ) → some_met p.at_key ≡ false
       → looking.checked g key p figure factors messages marginals work ≡ told (solver.checked g key p figure factors messages work marginals)

@@ -1,23 +1,20 @@
 -- Demand 3, whole, as one claim about a list of registering calls. Keys and factors are read off what the calls answered and were given, never off the graph
 -- that they yield. Definitions only.
-use Rattle.std.specs.Prelude.{◌≡◌, ◌≢◌, not, ℕ, ◌+◌, ◌≤◌, length, get_or, Float}
+use Rattle.std.specs.Prelude.{◌≡◌, ◌≢◌, true, not, ℕ, ◌+◌, ◌≤◌, length, get_or, Float, Result, Ok, Err, is_ok}
 use mathlib.Core.List.{List, [], ◌∷◌, ◌++◌, map, Memᴰ}
 use Rattle.graph.specs.Record.{fresh}
-use Rattle.graph.specs.Reached.{Call, answered, keys_given, numbers_named, graph_after, yields}
+use Rattle.graph.specs.Reached.{Call, variable, answered, keys_given, numbers_named, graph_after, yields}
 use Rattle.graph.specs.declared.Graph.{Graph}
-use Rattle.graph.specs.declared.Outcome.{Outcome}
-use Rattle.graph.specs.declared.Outcome.TheVariants.{Key, Number, Refused}
+use Rattle.graph.specs.declared.refusal.Refusal.{Refusal}
 use Rattle.schedule.specs.Count.{count, In, mem, keep, joined}
 use Rattle.schedule.specs.Pass.{ClosedFactor, at}
 use Rattle.schedule.specs.Gather.{Gathered, leaves}
 use Rattle.schedule.specs.Once.{behind, AllUnder, cleared_by}
 use Rattle.schedule.specs.Plan as schedule
-use Rattle.messages.specs.Values.{none, values, refusal_from, finished_numbers, overlaid}
-use Rattle.solver.specs.Plan.{Answer, planned, planned_along}
+use Rattle.messages.specs.Values.{values, refusal_from, finished_numbers, overlaid}
+use Rattle.solver.specs.Plan.{Answer, no_plan, planned, planned_along}
 use Rattle.marginals.specs.Marginals.{planned_marginals, missing_from, marginals_in}
 use Rattle.solver.specs.Run.{RunVerdict, run, run_along}
-use Rattle.solver.specs.declared.Outcome.TheVariants as plans
-use Rattle.solver.specs.declared.run.Ended.TheVariants as ended
 
 -- ---- what the calls answered
 
@@ -26,41 +23,39 @@ pub record Accepted : Type 0 where
   pub number : ℕ
   pub keys : List ℕ
 
--- the key that an answer tells, if it tells one
-unfoldable pub key_in : Outcome → List ℕ
-key_in (Key k) = k ∷ []
-key_in (Number f) = []
-key_in (Refused why) = []
+-- the key that the answer to a call tells, if it tells one: a variable's does
+unfoldable pub key_in : Call → Result ℕ Refusal → List ℕ
+key_in (variable name size) (Ok k) = k ∷ []
+key_in c answer = []
 
--- the factor that an answer to a call with these keys tells, if it tells one
-unfoldable pub factor_in : Outcome → List ℕ → List Accepted
-factor_in (Key k) keys = []
-factor_in (Number f) keys = record { number = f; keys = keys } ∷ []
-factor_in (Refused why) keys = []
+-- the factor that it tells, if it tells one: every other call's does
+unfoldable pub factor_in : Call → Result ℕ Refusal → List Accepted
+factor_in (variable name size) answer = []
+factor_in c (Ok f) = record { number = f; keys = keys_given c } ∷ []
+factor_in c (Err why) = []
 
 -- the registered keys: those that the calls answered, the first call being handed g and each other one what the call before it returned
 unfoldable pub keys_answered : Graph → List Call → List ℕ
 keys_answered g [] = []
-keys_answered g (c ∷ cs) = key_in (answered g c).outcome ++ keys_answered (graph_after g c) cs
+keys_answered g (c ∷ cs) = key_in c (answered g c).outcome ++ keys_answered (graph_after g c) cs
 
 -- the accepted factors, likewise
 unfoldable pub accepted : Graph → List Call → List Accepted
 accepted g [] = []
-accepted g (c ∷ cs) = factor_in (answered g c).outcome (keys_given c) ++ accepted (graph_after g c) cs
+accepted g (c ∷ cs) = factor_in c (answered g c).outcome ++ accepted (graph_after g c) cs
 
 abbrev pub numbers_answered : List Accepted → List ℕ
 numbers_answered = map (λ (f : Accepted). f.number)
 
--- the factors that an answer to a call which names these numbers supersedes: an accepted factor takes the place of the one named
-unfoldable pub superseded_in : Outcome → List ℕ → List ℕ
-superseded_in (Key k) named = []
-superseded_in (Number f) named = named
-superseded_in (Refused why) named = []
+-- the factors that are superseded by the answer to a call: an accepted factor takes the place of the one named
+unfoldable pub superseded_in : Call → Result ℕ Refusal → List ℕ
+superseded_in c (Ok f) = numbers_named c
+superseded_in c (Err why) = []
 
 -- the superseded factors, likewise
 unfoldable pub superseded : Graph → List Call → List ℕ
 superseded g [] = []
-superseded g (c ∷ cs) = superseded_in (answered g c).outcome (numbers_named c) ++ superseded (graph_after g c) cs
+superseded g (c ∷ cs) = superseded_in c (answered g c).outcome ++ superseded (graph_after g c) cs
 
 -- the live factors: those that were accepted and not superseded
 unfoldable pub live : Graph → List Call → List Accepted
@@ -100,10 +95,10 @@ pub record Rests (keys : List ℕ) (factors : List Accepted) (p : schedule.Plan)
 -- The stores after an unrefused run: no elimination of the plan is refused, and what stands in the stores is what they come to from the factor store. Past
 -- that the stores are as they were.
 pub record Exact (g : Graph) (p : schedule.Plan) (factors messages marginals : List Float) (v : RunVerdict) : Type 0 where
-  pub forward_made : refusal_from 0 (values g factors p.forward) ≡ none
-  pub backward_made : refusal_from 0 (values g factors p.backward) ≡ none
+  pub forward_made : refusal_from 0 (values g factors p.forward) ≡ Ok tt
+  pub backward_made : refusal_from 0 (values g factors p.backward) ≡ Ok tt
   pub messages_are : v.messages ≡ overlaid messages (finished_numbers (values g factors p.forward) ++ finished_numbers (values g factors p.backward))
-  pub all_found : missing_from 0 (planned_marginals g factors p) ≡ none
+  pub all_found : missing_from 0 (planned_marginals g factors p) ≡ Ok tt
   pub marginals_are : v.marginals ≡ overlaid marginals (marginals_in (planned_marginals g factors p))
 
 -- ---- the demand
@@ -116,17 +111,22 @@ graph_of cs = yields fresh cs
 abbrev pub Order : List Call → List ℕ → Type 0
 Order cs order = (k : ℕ) → count k order ≡ count k (keys_answered fresh cs)
 
+-- the plan in an answer, and no messages and no keys in a refused one
+abbrev pub plan_of : Result Answer Refusal → schedule.Plan
+plan_of (Ok made) = made.plan
+plan_of (Err why) = no_plan
+
 -- what is claimed of a plan's answer, and of the run that is made with that plan
-pub record Smooths (cs : List Call) (answer : Answer) (ran : (factors messages : List Float) (work : ℕ) (marginals : List Float) → RunVerdict) : Type 0 where
+pub record Smooths (cs : List Call) (answer : Result Answer Refusal) (ran : (factors messages : List Float) (work : ℕ) (marginals : List Float) → RunVerdict) : Type 0 where
   -- the plan is made, and has one gathering for each registered key
-  pub made : answer.outcome ≡ plans.Done
-  pub for_each : length answer.plan.at_key ≡ length (keys_answered fresh cs)
+  pub made : is_ok answer ≡ true
+  pub for_each : length (plan_of answer).at_key ≡ length (keys_answered fresh cs)
   -- behind each registered key stands the whole graph, once
   pub rests : (k : ℕ) → In k (keys_answered fresh cs) → (d : Gathered)
-      → Rests (keys_answered fresh cs) (live fresh cs) answer.plan k (get_or answer.plan.at_key k d)
+      → Rests (keys_answered fresh cs) (live fresh cs) (plan_of answer) k (get_or (plan_of answer).at_key k d)
   -- an unrefused run's messages, means and covariances are those that the plan's eliminations give from its factor store
-  pub exact : (factors messages : List Float) (work : ℕ) (marginals : List Float) → (ran factors messages work marginals).answer.ended ≡ ended.Done
-      → Exact (graph_of cs) answer.plan factors messages marginals (ran factors messages work marginals)
+  pub exact : (factors messages : List Float) (work : ℕ) (marginals : List Float) → (ran factors messages work marginals).answer.ended ≡ Ok tt
+      → Exact (graph_of cs) (plan_of answer) factors messages marginals (ran factors messages work marginals)
   -- where no key is registered no run gives a marginal: the marginal store is as it was
   pub none_without_keys : keys_answered fresh cs ≡ [] → (factors messages : List Float) (work : ℕ) (marginals : List Float)
       → (ran factors messages work marginals).marginals ≡ marginals

@@ -1,18 +1,15 @@
 -- The pairs P1 to P10 of document 01, as one statement about the definitions that the contracts cite. Definitions only.
-use Rattle.std.specs.Prelude.{◌≡◌, true, List, [], ◌∷◌, ◌++◌, map, ℕ, ◌≤◌, ◌<◌, length, get_or, replicate, Float}
+use Rattle.std.specs.Prelude.{◌≡◌, true, List, [], ◌∷◌, ◌++◌, map, ℕ, ◌≤◌, ◌<◌, length, get_or, replicate, Float, Some, Ok, Err}
 use Rattle.std.specs.Float.{nan, binary64}
 use Rattle.std.specs.Float.Ieee.{of_bits}
 use Rattle.root.specs.Root.{root_of}
-use Rattle.root.specs.declared.Pivot.TheVariants.{Root}
 use Rattle.factor.specs.Limits.{max_size}
 use Rattle.graph.specs.Refusals.{refusal_number}
 use Rattle.graph.specs.Record.{fresh, live_at, valid, factor_keys}
 use Rattle.graph.specs.Reached.{Call, prior, observation, variable, register, answered, graph_after, store_after}
 use Rattle.graph.specs.declared.Graph.{Graph}
-use Rattle.graph.specs.declared.Outcome.TheVariants as outcome
 use Rattle.graph.specs.declared.refusal.Refusal.TheVariants.{KeysNotRising, MarginalPivot}
 use Rattle.records.specs.Records.{read_all}
-use Rattle.records.specs.declared.answer.Ended.TheVariants as records
 use Rattle.schedule.specs.Count.{In}
 use Rattle.schedule.specs.Pass.{original}
 use Rattle.schedule.specs.Gather.{Gathered}
@@ -29,7 +26,7 @@ use Rattle.marginals.specs.Marginals.{gathered_views}
 use Rattle.lines.specs.Lines.{refused_word}
 use Rattle.job.specs.Job.{factor_room, zeros, job_text}
 use Rattle.solver.specs.Run.{RunVerdict, run}
-use Rattle.solver.specs.declared.run.Ended.TheVariants.{Done, Refused}
+use Rattle.claims.specs.Demand3.{plan_of}
 
 -- ---- numbers, by their bits
 
@@ -109,7 +106,7 @@ abbrev pub keyless : Built
 keyless = built 10 (named 0 ∷ named 1 ∷ weak ∷ observation_on [] [] two ∷ between ∷ [])
 
 abbrev pub plan_built : Built → schedule.Plan
-plan_built r = (planned r.graph).plan
+plan_built r = plan_of (planned r.graph)
 
 -- a run over a store of n numbers for the messages, and of m for the marginals
 abbrev pub run_built : Built → (n m : ℕ) → RunVerdict
@@ -157,12 +154,12 @@ equal_bytes = 0x4F ∷ 0x42 ∷ 2 ∷ 1 ∷ 1 ∷ 1 ∷ 1 ∷ []
 
 pub record Pairs : Type 0 where
   -- P1: no variables, no marginals
-  pub p1 : run fresh [] [] work_numbers [] ≡ record { answer = record { figure = 0; ended = Done }; messages = []; marginals = [] }
+  pub p1 : run fresh [] [] work_numbers [] ≡ record { answer = record { figure = 0; ended = Ok tt }; messages = []; marginals = [] }
   -- P2: 16 at stage 3, key 0, and no marginal
-  pub p2 : run_built bare 0 2 ≡ record { answer = record { figure = 0; ended = Refused MarginalPivot 3 0 }; messages = []; marginals = nan ∷ nan ∷ [] }
+  pub p2 : run_built bare 0 2 ≡ record { answer = record { figure = 0; ended = Err (record { why = MarginalPivot; stage = 3; key = 0 }) }; messages = []; marginals = nan ∷ nan ∷ [] }
   pub p2_number : refusal_number MarginalPivot ≡ 16
   -- P3: the mean and the covariance are those of the prior
-  pub p3 : run_built held 0 2 ≡ record { answer = record { figure = 0; ended = Done }; messages = []; marginals = two ∷ four ∷ [] }
+  pub p3 : run_built held 0 2 ≡ record { answer = record { figure = 0; ended = Ok tt }; messages = []; marginals = two ∷ four ∷ [] }
   -- P4: the forward pass, its one message, and what it comes to
   pub p4 : (plan_built pair).forward ≡ record { step = 1; content = original 0 ∷ original 3 ∷ original 2 ∷ original 1 ∷ []; kept = 1 ∷ []; cleared = 0 ∷ [] } ∷ []
   pub p4_value : values pair.graph pair.store (plan_built pair).forward ≡ message 1 (plus_one ∷ []) (three ∷ []) (three_quarters ∷ []) ∷ []
@@ -179,20 +176,20 @@ pub record Pairs : Type 0 where
   -- the run of that graph: both messages, and mean and covariance of both keys
   pub p4_run : run_built pair 7 5
       ≡ record {
-        answer = record { figure = 6; ended = Done };
+        answer = record { figure = 6; ended = Ok tt };
         messages = plus_one ∷ three ∷ three_quarters ∷ minus_one ∷ zer ∷ zer ∷ nan ∷ [];
         marginals = zer ∷ float 0x3FD5555555555556 ∷ float 0x4010000000000001 ∷ float 0x3FF5555555555556 ∷ nan ∷ [];
       }
   -- P7: the roots of 4, 2 and the least number
-  pub p7_four : root_of four ≡ Root two
-  pub p7_two : root_of two ≡ Root (float 0x3FF6A09E667F3BCD)
-  pub p7_least : root_of (float 1) ≡ Root (float 0x1E60000000000000)
+  pub p7_four : root_of four ≡ Some two
+  pub p7_two : root_of two ≡ Some (float 0x3FF6A09E667F3BCD)
+  pub p7_least : root_of (float 1) ≡ Some (float 0x1E60000000000000)
   -- P8: keys 1, 1 are refused with 3
-  pub p8 : (answered pair.graph (observation_on (1 ∷ 1 ∷ []) (plus_one ∷ plus_one ∷ []) plus_one (replicate 14 nan))).outcome ≡ outcome.Refused KeysNotRising
+  pub p8 : (answered pair.graph (observation_on (1 ∷ 1 ∷ []) (plus_one ∷ plus_one ∷ []) plus_one (replicate 14 nan))).outcome ≡ Err KeysNotRising
   pub p8_number : refusal_number KeysNotRising ≡ 3
   -- P9: a live observation without keys is uncovered at every key; in a graph of two, the one of number 1
   pub p9_every : (g : Graph) → valid g ≡ true → (i k : ℕ) → live_at g i ≡ true → factor_keys g i ≡ [] → k < g.variables → (d : Gathered)
-      → In i (get_or (planned g).plan.at_key k d).originals
+      → In i (get_or (plan_of (planned g)).at_key k d).originals
   pub p9 : map (λ (q : Gathered). q.originals) (plan_built keyless).at_key ≡ (0 ∷ 1 ∷ []) ∷ (1 ∷ []) ∷ []
   -- P10: block (1, 0) of the cleared block has rows (3 6) and (4 8); it is 4 × 4, column by column
   pub p10 : (with_views Z (frame_of 4 1 1) (layout_of (2 ∷ []) (0 ∷ 1 ∷ []) (2 ∷ 2 ∷ 1 ∷ [])) (nth (crossed ∷ [])) (begun Z (frame_of 4 1 1)) 1).s
@@ -202,7 +199,7 @@ pub record Pairs : Type 0 where
       ∷ zer ∷ zer ∷ float 0x4028000000000000 ∷ float 0x4030000000000000
       ∷ []
   -- P1 as a job: one that is read whole and registers no variable prints nothing, and so does one of no bytes
-  pub p1_every : (bytes : List ℕ) → (read_all bytes (zeros factor_room)).answer.ended ≡ records.Done
+  pub p1_every : (bytes : List ℕ) → (read_all bytes (zeros factor_room)).answer.ended ≡ Ok tt
       → (read_all bytes (zeros factor_room)).answer.graph.variables ≡ 0 → job_text bytes ≡ []
   pub p1_job : job_text [] ≡ []
   -- P2 as a job, of every size: `refused 16 3 0`

@@ -1,6 +1,6 @@
 -- The run as it was with the look for an original met twice, number 18, and that the look changed nothing (document 02, C-24). Nothing else cites this run.
 -- Definitions only.
-use Rattle.std.specs.Prelude.{◌≡◌, ◌≢◌, Bool, false, not, cond, ◌||◌, List, [], ◌∷◌, ◌++◌, ℕ, ◌+◌, ◌-◌, leb, Float, length}
+use Rattle.std.specs.Prelude.{◌≡◌, ◌≢◌, Bool, false, not, cond, ◌||◌, List, [], ◌∷◌, ◌++◌, ℕ, ◌+◌, ◌-◌, leb, Float, length, Ok, Err}
 use Rattle.factor.specs.Counting.{every}
 use Rattle.factor.specs.Told.{Told, refusal}
 use Rattle.graph.specs.Refusals.{refusal_number}
@@ -14,13 +14,13 @@ use Rattle.schedule.specs.Gather.{Gathered}
 use Rattle.schedule.specs.Plan as schedule
 use Rattle.workspace.specs.Frames.{work_numbers}
 use Rattle.gaussian.specs.Elimination.{Outcome}
-use Rattle.messages.specs.Values.{values, FirstRefusal, none, refused_at, refusal_from, finished_numbers, overlaid}
+use Rattle.messages.specs.Values.{values, FirstRefusal, refusal_from, finished_numbers, overlaid}
 use Rattle.marginals.specs.Marginals.{marginal_numbers, marginal, planned_marginals, missing_from, marginals_in}
 use Rattle.solver.specs.Plan.{graph_plan, plan_along, planned, planned_along}
 use Rattle.solver.specs.Run as solver
 use Rattle.solver.specs.Run.{RunVerdict, refuse, figure_of, key_at}
 use Rattle.solver.specs.Told.{ran_told}
-use Rattle.solver.specs.declared.run.Ended.TheVariants.{Done}
+use Rattle.claims.specs.Demand3.{plan_of}
 
 -- ---- the look
 
@@ -51,8 +51,8 @@ told v = record { answer = ran_told v.answer; messages = v.messages; marginals =
 
 -- a refusal ends the run
 unfoldable pub unless : FirstRefusal → (stop : ℕ → Refusal → RunVerdict) (next : Verdict) → Verdict
-unless none stop next = next
-unless (refused_at i why) stop next = told (stop i why)
+unless (Ok done) stop next = next
+unless (Err undone) stop next = told (stop undone.at undone.why)
 
 module _ (g : Graph) (key : ℕ → ℕ) (p : schedule.Plan) (figure : ℕ) (factors messages marginals : List Float) where
   abbrev fw : List Outcome
@@ -68,7 +68,7 @@ module _ (g : Graph) (key : ℕ → ℕ) (p : schedule.Plan) (figure : ℕ) (fac
   unfoldable pub third : (k : ℕ) → List Gathered → Verdict
   third k [] =
       told (record {
-        answer = record { figure = figure; ended = Done };
+        answer = record { figure = figure; ended = Ok tt };
         messages = laid;
         marginals = overlaid marginals (marginals_in (planned_marginals g factors p));
       })
@@ -108,8 +108,8 @@ pub record Retired : Type 0 where
   -- no refusal has the number
   pub number_gone : (why : Refusal) → refusal_number why ≢ 18
   -- the look finds nothing in what a plan answers, for every record, refused ones too, without an order and along every one
-  pub plans : (g : Graph) → some_met (planned g).plan.at_key ≡ false
-  pub plans_along : (g : Graph) (order : List ℕ) → some_met (planned_along g order).plan.at_key ≡ false
+  pub plans : (g : Graph) → some_met (plan_of (planned g)).at_key ≡ false
+  pub plans_along : (g : Graph) (order : List ℕ) → some_met (plan_of (planned_along g order)).at_key ≡ false
   -- every run's answer and both its stores are those with the look, likewise and whatever stores it is lent
   pub runs : (g : Graph) (factors messages : List Float) (work : ℕ) (marginals : List Float)
       → run g factors messages work marginals ≡ told (solver.run g factors messages work marginals)

@@ -17,7 +17,7 @@ use Rattle.tables.specs.Originals.{original_view}
 use Rattle.direct.specs.Direct.{list_counts_fit, disjoint, lists_fit, all_known, factor_placed, all_placed, views, direct_need, DirectVerdict, send}
 use Rattle.direct.specs.Direct.{refuse, verdict_on}
 use Rattle.direct.specs.Direct.{direct_verdict, direct_answer, direct_store}
-use Rattle.direct.specs.declared.Direct.TheVariants.{Rows, Refused}
+use Rattle.std.specs.Prelude.{Ok, Err}
 
 abbrev zer : Float
 zer = fin false 0 (pos 0)
@@ -64,12 +64,12 @@ unfolding judged direct_store
 p4-stored = refl
 
 -- no slots with nothing cleared: no rows are an answer, and refusal 0 is none
-no_slots : direct_answer (judged [] [] [] store 0 2304) ≡ Rows 0
+no_slots : direct_answer (judged [] [] [] store 0 2304) ≡ Ok 0
 unfolding judged direct_answer
 no_slots = refl
 
 -- 0: key 0 of the observation is neither kept nor cleared
-not_listed : direct_answer (judged (3 ∷ []) (1 ∷ []) [] store 3 2304) ≡ Refused NeitherKeptNorCleared
+not_listed : direct_answer (judged (3 ∷ []) (1 ∷ []) [] store 3 2304) ≡ Err NeitherKeptNorCleared
 unfolding judged direct_answer
 not_listed = refl
 

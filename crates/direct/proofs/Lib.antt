@@ -1,5 +1,4 @@
 -- Laws that several proofs cite.
-pub mod Checks
 pub mod Verdicts
 pub mod Asking
 pub mod Sending

@@ -6,10 +6,12 @@ use Rattle.gaussian.specs.Elimination.{Outcome, pivot, not_finite, message}
 use Rattle.gaussian.specs.Told.{message_told}
 use Rattle.direct.specs.Direct.{DirectVerdict, send, refuse, verdict_on, direct_answer, direct_store}
 use Rattle.direct.specs.Told.{direct_told, direct_verdict_told}
-use Rattle.direct.specs.declared.Direct.{Direct}
+use Prim.Native.Nat.{ℕ}
+use Rattle.std.specs.Prelude.{Result}
+use Rattle.graph.specs.declared.refusal.Refusal.{Refusal}
 
 -- the answer with the message store, and what the answer tells
-pub verdict_tells : (r : Direct) (v : DirectVerdict) (l s : List Float) → (r ≡ direct_answer v) × (s ≡ direct_store l v)
+pub verdict_tells : (r : Result ℕ Refusal) (v : DirectVerdict) (l s : List Float) → (r ≡ direct_answer v) × (s ≡ direct_store l v)
     → (r ≡ direct_answer v) × ((s ≡ direct_store l v) × (direct_told r ≡ direct_verdict_told v))
 unfolding direct_answer direct_told direct_verdict_told
 verdict_tells r v l s (e, h) = (e, (h, ap direct_told e ∙ go v))

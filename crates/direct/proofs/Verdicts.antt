@@ -12,78 +12,40 @@ use Rattle.factor.specs.Counting.{every}
 use Rattle.graph.specs.Record.{offset, valid}
 use Rattle.graph.specs.declared.Graph.{Graph}
 use Rattle.graph.specs.declared.refusal.Refusal.{Refusal}
-use Rattle.graph.specs.declared.refusal.Refusal.TheVariants.{NeitherKeptNorCleared, CountOutside, KeptAndCleared, NoSuchKey, FactorStoreShort}
-use Rattle.graph.specs.declared.refusal.Refusal.TheVariants.{StoreShort, NoSuchGraph}
+use Rattle.graph.specs.declared.refusal.Refusal.TheVariants.{StoreShort}
 use Rattle.workspace.specs.Frames.{work_numbers}
 use Rattle.gaussian.specs.Elimination.{eliminate}
 use Rattle.direct.specs.Direct.{list_counts_fit, lists_fit, all_known, all_placed, views, direct_need, DirectVerdict, refuse, verdict_on, direct_verdict}
 use Rattle.direct.specs.Between.{early, Admitted}
-use Rattle.direct.specs.declared.Checked.{Checked}
-use Rattle.direct.specs.declared.Checked.TheVariants.{Done, Refused}
-
--- ---- the early checks, by their ways out
-
-module _ (g : Graph) (slots kept cleared : List ℕ) (factors : List Float) where
-  pub no_graph : valid g ≡ false → Refused NoSuchGraph ≡ early g slots kept cleared factors
-  unfolding early
-  no_graph h = rw h
-
-  module _ (h30 : valid g ≡ true) where
-    pub too_many : list_counts_fit slots kept cleared ≡ false → Refused CountOutside ≡ early g slots kept cleared factors
-    unfolding early
-    too_many h = rw (h30, h)
-
-    module _ (h4 : list_counts_fit slots kept cleared ≡ true) where
-      pub not-apart : lists_fit kept cleared ≡ false → Refused KeptAndCleared ≡ early g slots kept cleared factors
-      unfolding early
-      not-apart h = rw (h30, h4, h)
-
-      module _ (h9 : lists_fit kept cleared ≡ true) where
-        pub not_there : all_known g slots kept cleared ≡ false → Refused NoSuchKey ≡ early g slots kept cleared factors
-        unfolding early
-        not_there h = rw (h30, h4, h9, h)
-
-        module _ (h11 : all_known g slots kept cleared ≡ true) where
-          pub not-placed : all_placed g slots kept cleared ≡ false → Refused NeitherKeptNorCleared ≡ early g slots kept cleared factors
-          unfolding early
-          not-placed h = rw (h30, h4, h9, h11, h)
-
-          module _ (h0 : all_placed g slots kept cleared ≡ true) (n : ℕ) (en : n ≡ offset g g.count) where
-            pub store-short : length factors < n → Refused FactorStoreShort ≡ early g slots kept cleared factors
-            unfolding early
-            store-short l = let k : length factors < offset g g.count = omega arith in rw (h30, h4, h9, h11, h0, lt-leb _ _ k)
-
-            pub all-passed : n ≤ length factors → Done ≡ early g slots kept cleared factors
-            unfolding early
-            all-passed l = let k : offset g g.count ≤ length factors = omega arith in rw (h30, h4, h9, h11, h0, le-leb _ _ k)
+use Rattle.std.specs.Prelude.{Result, Ok, Err}
 
 -- ---- what they tell
 
 -- a stop of the early checks is the verdict's refusal, check by check
-abbrev Alike : Checked → DirectVerdict → Type 0
-Alike x v = (why : Refusal) → Refused why ≡ x → v ≡ refuse why
+abbrev Alike : Result (Unit {0}) Refusal → DirectVerdict → Type 0
+Alike x v = (why : Refusal) → Err why ≡ x → v ≡ refuse why
 
-alike : (b : Bool) (w : Refusal) (x : Checked) (v : DirectVerdict) → Alike x v → Alike (cond (not b) (Refused w) x) (cond (not b) (refuse w) v)
+alike : (b : Bool) (w : Refusal) (x : Result (Unit {0}) Refusal) (v : DirectVerdict) → Alike x v → Alike (cond (not b) (Err w) x) (cond (not b) (refuse w) v)
 alike true w x v h = h
 alike false w x v h = λ why e. let a : why ≡ w = cc in ap refuse (sym a)
 
-never : (v : DirectVerdict) → Alike Done v
+never : (v : DirectVerdict) → Alike (Ok tt) v
 never v why e = absurd (let z : ◌≡◌ {A = ℕ} 0 1 = cc in omega arith)
 
 -- and where they pass, each of them holds
-case : (A : Type 0) (b : Bool) (w : Refusal) (x : Checked) → (b ≡ true → Done ≡ x → A) → Done ≡ cond (not b) (Refused w) x → A
+case : (A : Type 0) (b : Bool) (w : Refusal) (x : Result (Unit {0}) Refusal) → (b ≡ true → Ok tt ≡ x → A) → Ok tt ≡ cond (not b) (Err w) x → A
 case A true w x h e = h refl e
 case A false w x h e = absurd (let z : ◌≡◌ {A = ℕ} 0 1 = cc in omega arith)
 
 module _ (g : Graph) (slots kept cleared : List ℕ) (factors : List Float) where
-  pub stopped : (room work : ℕ) (why : Refusal) → Refused why ≡ early g slots kept cleared factors
+  pub stopped : (room work : ℕ) (why : Refusal) → Err why ≡ early g slots kept cleared factors
       → direct_verdict g slots kept cleared factors room work ≡ refuse why
   unfolding early direct_verdict
   stopped room work =
       alike (valid g) _ _ _ (alike (list_counts_fit slots kept cleared) _ _ _ (alike (lists_fit kept cleared) _ _ _ (alike (all_known g slots kept cleared) _ _ _
       (alike (all_placed g slots kept cleared) _ _ _ (alike (leb (offset g g.count) (length factors)) _ _ _ (never _))))))
 
-  pub admitted : Done ≡ early g slots kept cleared factors → Admitted g slots kept cleared factors
+  pub admitted : Ok tt ≡ early g slots kept cleared factors → Admitted g slots kept cleared factors
   unfolding early
   admitted =
       case _ (valid g) _ _ (λ h30. case _ (list_counts_fit slots kept cleared) _ _

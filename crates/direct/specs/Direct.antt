@@ -1,5 +1,5 @@
 -- What a direct elimination answers, and what the message store then holds: document 01, "Elimination" and "Checks in order". Definitions only.
-use Rattle.std.specs.Prelude.{ℕ, Bool, not, cond, ◌||◌, List, [], ◌∷◌, ◌++◌, map, leb, Float, length, get_or, drop}
+use Rattle.std.specs.Prelude.{ℕ, Bool, not, cond, ◌||◌, List, [], ◌∷◌, ◌++◌, map, leb, Float, length, get_or, drop, Result, Ok, Err}
 use Rattle.factor.specs.Limits.{max_variables}
 use Rattle.factor.specs.Counting.{every, all}
 use Rattle.factor.specs.Factor.{key_at, rising, known}
@@ -15,8 +15,6 @@ use Rattle.slots.specs.Layouts.{member, dim_of, layout_of}
 use Rattle.slots.specs.Views.{FactorView, rows_of_all, factor_numbers}
 use Rattle.gaussian.specs.Elimination.{message_rows, Outcome, pivot, not_finite, message, nth, eliminate}
 use Rattle.tables.specs.Originals.{original_view}
-use Rattle.direct.specs.declared.Direct.{Direct}
-use Rattle.direct.specs.declared.Direct.TheVariants.{Rows, Refused}
 
 -- ---- the checks
 
@@ -80,9 +78,9 @@ direct_verdict g slots kept cleared factors room work =
 -- ---- the answer and the store
 
 -- no rows are an answer too
-unfoldable pub direct_answer : DirectVerdict → Direct
-direct_answer (send rows numbers) = Rows rows
-direct_answer (refuse why) = Refused why
+unfoldable pub direct_answer : DirectVerdict → Result ℕ Refusal
+direct_answer (send rows numbers) = Ok rows
+direct_answer (refuse why) = Err why
 
 -- a message stands at the start, and the rest is as it was; a refusal leaves the whole
 unfoldable pub direct_store : List Float → DirectVerdict → List Float

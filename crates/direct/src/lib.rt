@@ -11,19 +11,21 @@ ghost use Rattle.slots.specs.Tables.{rows_by_all};
 ghost use Rattle.slots.specs.Fitting.{Counted};
 ghost use Rattle.gaussian.specs.Elimination.{message_rows};
 ghost use Rattle.direct.specs.Direct as spec;
-ghost use Rattle.direct.specs.Between.{early, Admitted};
+ghost use Rattle.direct.specs.Between.{early, Admitted, refusal_of};
 ghost use Rattle.direct.specs.Told.{direct_told, direct_verdict_told};
 ghost use Rattle.slots.specs.Views.{factor_numbers};
 ghost use Rattle.tables.specs.Heads.{Originals};
 
+use cholesky::Fault;
+use factor::Factor;
 use factor::limits::{FACTORS, KEYS, VARIABLES};
-use factor::{Factor, wide};
-use gaussian::{Eliminated, eliminate_slots, message_rows};
+use factor::lists::{known, rising};
+use gaussian::{Elimination, eliminate_slots, message_rows};
 use graph::Graph;
 use graph::refusal::Refusal;
-use slots::count_rows;
 use slots::layout::{dim_of, layout_of, member};
 use slots::limits::{HEAD, SLOTS};
+use slots::{Tables, count_rows};
 use tables::fill_originals;
 use workspace::WORK;
 
@@ -32,73 +34,39 @@ const ALL_KEYS: usize = KEYS * FACTORS;
 
 const ALL_HEADS: usize = HEAD * FACTORS;
 
-// The rows of the message, or why there is none.
-#[derive(Drop)]
-pub enum Direct {
-    Rows(usize),
-    Refused(Refusal),
-}
-
-// Whether the checks that need no tables have passed.
-#[derive(Drop)]
-pub enum Checked {
-    Done,
-    Refused(Refusal),
-}
-
+#[tactic(auto, unfolding(crate::specs::Direct::list_counts_fit, factor::specs::Counting::every))]
 fn counts_fit(slots: &[usize], kept: &[usize], cleared: &[usize]) -> bool
     ensures { result ≡ spec.list_counts_fit slots.now kept.now cleared.now }
 {
-    if SLOTS < slots.len() {
-        return false;
-    }
-    kept.len() <= VARIABLES && cleared.len() <= VARIABLES
+    slots.len() <= SLOTS && kept.len() <= VARIABLES && cleared.len() <= VARIABLES
 }
 
 // No key is in both lists.
 fn disjoint(kept: &[usize], cleared: &[usize]) -> bool
     ensures { result ≡ spec.disjoint kept.now cleared.now }
 {
-    for place in 0..kept.len() {
-        if member(cleared, kept[place]) {
-            return false;
-        }
-    }
-    true
+    kept.iter().all(|&key| !member(cleared, key))
 }
 
+#[tactic(auto, unfolding(crate::specs::Direct::lists_fit, factor::specs::Counting::every))]
 fn lists_fit(kept: &[usize], cleared: &[usize]) -> bool
     ensures { result ≡ spec.lists_fit kept.now cleared.now }
 {
-    if !factor::lists::rising(kept) {
-        return false;
-    }
-    if !factor::lists::rising(cleared) {
-        return false;
-    }
-    disjoint(kept, cleared)
+    rising(kept) && rising(cleared) && disjoint(kept, cleared)
 }
 
+#[tactic(auto, unfolding(crate::specs::Direct::all_known, factor::specs::Counting::every))]
 fn all_known(g: Graph, slots: &[usize], kept: &[usize], cleared: &[usize]) -> bool
     ensures { result ≡ spec.all_known g slots.now kept.now cleared.now }
 {
-    if !factor::lists::known(g.variables, kept) {
-        return false;
-    }
-    if !factor::lists::known(g.variables, cleared) {
-        return false;
-    }
-    factor::lists::known(g.count, slots)
+    known(g.variables, kept) && known(g.variables, cleared) && known(g.count, slots)
 }
 
 // A key is cleared or kept.
 fn placed(kept: &[usize], cleared: &[usize], key: usize) -> bool
     ensures { result ≡ (of.member key cleared.now || of.member key kept.now) }
 {
-    if member(cleared, key) {
-        return true;
-    }
-    member(kept, key)
+    member(cleared, key) || member(kept, key)
 }
 
 // Each key of a factor is cleared or kept.
@@ -106,13 +74,10 @@ fn factor_placed(kept: &[usize], cleared: &[usize], f: Factor) -> bool
     requires { f.touched ≤ max_keys }
     ensures { result ≡ spec.factor_placed kept.now cleared.now f }
 {
-    for place in 0..wide(f.touched) {
-        let key = wide(f.keys[place]);
-        if !placed(kept, cleared, key) {
-            return false;
-        }
-    }
-    true
+    let touched = usize::from(f.touched);
+    f.keys[..touched]
+        .iter()
+        .all(|&key| placed(kept, cleared, usize::from(key)))
 }
 
 // Each key of each listed factor is cleared or kept.
@@ -120,10 +85,8 @@ fn all_placed(g: Graph, slots: &[usize], kept: &[usize], cleared: &[usize]) -> b
     requires { (valid g ≡ true) × (known g.count slots.now ≡ true) }
     ensures { result ≡ spec.all_placed g slots.now kept.now cleared.now }
 {
-    for place in 0..slots.len() {
-        let number = slots[place];
-        let f = g.factors[number];
-        if !factor_placed(kept, cleared, f) {
+    for &number in slots {
+        if !factor_placed(kept, cleared, g.factors[number]) {
             return false;
         }
     }
@@ -131,68 +94,78 @@ fn all_placed(g: Graph, slots: &[usize], kept: &[usize], cleared: &[usize]) -> b
 }
 
 // The checks that need no tables, in their order.
-fn check(g: Graph, slots: &[usize], kept: &[usize], cleared: &[usize], factors: &[f64]) -> Checked
-    ensures { result ≡ early g slots.now kept.now cleared.now factors.now }
-{
-    if !g.valid() {
-        return Checked::Refused(Refusal::NoSuchGraph);
-    }
-    if !counts_fit(slots, kept, cleared) {
-        return Checked::Refused(Refusal::CountOutside);
-    }
-    if !lists_fit(kept, cleared) {
-        return Checked::Refused(Refusal::KeptAndCleared);
-    }
-    if !all_known(g, slots, kept, cleared) {
-        return Checked::Refused(Refusal::NoSuchKey);
-    }
-    if !all_placed(g, slots, kept, cleared) {
-        return Checked::Refused(Refusal::NeitherKeptNorCleared);
-    }
-    let count = g.count;
-    if factors.len() < g.offset(count) {
-        return Checked::Refused(Refusal::FactorStoreShort);
-    }
-    Checked::Done
-}
-
-// How many numbers the message has.
-fn message_numbers(
-    kept: &[usize],
-    cleared: &[usize],
-    sizes: [u8; VARIABLES],
-    keys: &[usize],
-    heads: &[usize],
-    slots: &[usize],
-) -> usize
-    requires listed { Listed kept.now sizes × Listed cleared.now sizes }
-    requires counted { Counted keys.now heads.now slots.now }
-    ensures { result ≡ factor_numbers
-        (message_rows (rows_by_all (layout_of kept.now cleared.now sizes) keys.now heads.now
-        slots.now (length slots.now)) (dim_of sizes kept.now))
-        (dim_of sizes kept.now) }
-{
-    let layout = layout_of(kept, cleared, sizes);
-    let d = dim_of(kept, sizes);
-    let y = count_rows(layout, keys, heads, slots);
-    let r = message_rows(y, d);
-    r * d + r + r * r
-}
-
-// The elimination once its checks before 14 have passed and the tables are filled.
-fn eliminate_from(
+#[tactic(auto, unfolding(crate::specs::Between::early))]
+fn check(
     g: Graph,
     slots: &[usize],
     kept: &[usize],
     cleared: &[usize],
     factors: &[f64],
+) -> Result<(), Refusal>
+    ensures { result ≡ early g slots.now kept.now cleared.now factors.now }
+{
+    if !g.valid() {
+        return Err(Refusal::NoSuchGraph);
+    }
+    if !counts_fit(slots, kept, cleared) {
+        return Err(Refusal::CountOutside);
+    }
+    if !lists_fit(kept, cleared) {
+        return Err(Refusal::KeptAndCleared);
+    }
+    if !all_known(g, slots, kept, cleared) {
+        return Err(Refusal::NoSuchKey);
+    }
+    if !all_placed(g, slots, kept, cleared) {
+        return Err(Refusal::NeitherKeptNorCleared);
+    }
+    let count = g.count;
+    if factors.len() < g.offset(count) {
+        return Err(Refusal::FactorStoreShort);
+    }
+    Ok(())
+}
+
+// How many numbers the message has.
+fn message_numbers<'a>(tables: Tables<'a>, a: Elimination<'a>) -> usize
+    requires listed { Listed a.kept.now a.sizes × Listed a.cleared.now a.sizes }
+    requires counted { Counted tables.keys.now tables.heads.now a.slots.now }
+    ensures { result ≡ factor_numbers
+        (message_rows (rows_by_all (layout_of a.entry.kept.now a.entry.cleared.now a.entry.sizes)
+        tables.entry.keys.now tables.entry.heads.now a.entry.slots.now (length a.entry.slots.now))
+        (dim_of a.entry.sizes a.entry.kept.now))
+        (dim_of a.entry.sizes a.entry.kept.now) }
+{
+    let layout = layout_of(a.kept, a.cleared, a.sizes);
+    let d = dim_of(a.kept, a.sizes);
+    let y = count_rows(layout, tables, a.slots);
+    let r = message_rows(y, d);
+    r * d + r + r * r
+}
+
+// The refusal of an elimination that ended without a message: 15 or 17.
+fn refusal_of(fault: Fault) -> Refusal
+    ensures { result ≡ refusal_of fault }
+{
+    match fault {
+        Fault::Pivot => Refusal::ClearedPivot,
+        Fault::NotFinite => Refusal::ResultNotFinite,
+    }
+}
+
+// The elimination once its checks before 14 have passed and the tables are filled.
+fn eliminate_from<'a>(
+    g: Graph,
+    slots: &'a [usize],
+    kept: &'a [usize],
+    cleared: &'a [usize],
+    factors: &'a [f64],
     messages: &mut [f64],
     work: &mut [f64],
-    keys: &[usize],
-    heads: &[usize],
-) -> Direct
+    tables: Tables<'a>,
+) -> Result<usize, Refusal>
     requires admitted { Admitted g slots.now kept.now cleared.now factors.now }
-    requires originals { Originals g keys.now heads.now }
+    requires originals { Originals g tables.keys.now tables.heads.now }
     ensures value { result ≡ spec.direct_answer (spec.direct_verdict g slots.now kept.now cleared.now factors.now
         (length messages.old) (length work.old)) }
     ensures messages_after { messages.new ≡ spec.direct_store messages.old
@@ -200,19 +173,19 @@ fn eliminate_from(
         (length messages.old) (length work.old)) }
 {
     let sizes = g.sizes;
-    if messages.len() < message_numbers(kept, cleared, sizes, keys, heads, slots) {
-        return Direct::Refused(Refusal::StoreShort);
+    let a = Elimination {
+        kept,
+        cleared,
+        sizes,
+        slots,
+    };
+    if messages.len() < message_numbers(tables, a) {
+        return Err(Refusal::StoreShort);
     }
     if work.len() < WORK {
-        return Direct::Refused(Refusal::StoreShort);
+        return Err(Refusal::StoreShort);
     }
-    match eliminate_slots(
-        factors, messages, 0, work, kept, cleared, sizes, keys, heads, slots,
-    ) {
-        Eliminated::Rows(rows) => Direct::Rows(rows),
-        Eliminated::Pivot => Direct::Refused(Refusal::ClearedPivot),
-        Eliminated::NotFinite => Direct::Refused(Refusal::ResultNotFinite),
-    }
+    eliminate_slots(factors, messages, 0, work, tables, a).map_err(refusal_of)
 }
 
 // Eliminates the cleared keys from the listed factors of a graph, taken in the order of the list. The message over the kept keys is written at
@@ -226,7 +199,7 @@ pub fn eliminate(
     factors: &[f64],
     messages: &mut [f64],
     work: &mut [f64],
-) -> Direct
+) -> Result<usize, Refusal>
     ensures value { result ≡ spec.direct_answer (spec.direct_verdict g slots.now kept.now cleared.now factors.now
         (length messages.old) (length work.old)) }
     ensures messages_after { messages.new ≡ spec.direct_store messages.old
@@ -236,14 +209,13 @@ pub fn eliminate(
         (spec.direct_verdict g slots.now kept.now cleared.now factors.now
         (length messages.old) (length work.old)) }
 {
-    match check(g, slots, kept, cleared, factors) {
-        Checked::Done => {}
-        Checked::Refused(why) => return Direct::Refused(why),
-    }
+    check(g, slots, kept, cleared, factors)?;
     let mut keys = [0usize; ALL_KEYS];
     let mut heads = [0usize; ALL_HEADS];
     fill_originals(g, &mut keys, &mut heads);
-    eliminate_from(
-        g, slots, kept, cleared, factors, messages, work, &keys, &heads,
-    )
+    let tables = Tables {
+        keys: &keys,
+        heads: &heads,
+    };
+    eliminate_from(g, slots, kept, cleared, factors, messages, work, tables)
 }

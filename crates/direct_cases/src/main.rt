@@ -6,15 +6,12 @@ mod input;
 mod report;
 
 use graph::Graph;
-use input::{at_most, byte, fill, list, two, values};
+use input::{at_most, byte, list, next, two, values};
 use report::{print_direct, print_ran, print_store};
-use streams::{read_full, write_all, write_decimal};
+use streams::{COUNTED, print_numbered, read_full};
 
 // More cases aren't read.
 const CASES: usize = 4096;
-
-// More bytes than two bytes can count.
-const JOB: usize = 65536;
 
 // The longest stores that a case lends, and the longest list.
 const FACTORS: usize = 2048;
@@ -27,44 +24,34 @@ const LIST: usize = 256;
 
 fn main(rt: HostRuntime) {
     for number in 0..CASES {
-        if !replay(&rt, number as u64) {
+        if replay(&rt, number).is_none() {
             return;
         }
     }
 }
 
 // The next case, or there is none.
-fn replay(rt: &HostRuntime, number: u64) -> bool {
-    let mut head = [0u8; 1];
-    if read_full(&mut rt.stdin(), &mut head) < 1 {
-        return false;
-    }
-    write_decimal(&mut rt.stdout(), number);
-    write_all(&mut rt.stdout(), b"\n");
+fn replay(rt: &HostRuntime, number: usize) -> Option<()> {
+    let kind = next(rt)?;
+    let _ = print_numbered(&mut rt.stdout(), number, b"");
     let n = two(rt);
-    let mut job = [0u8; JOB];
-    fill(rt, &mut job, n);
+    let mut job = [0u8; COUNTED];
+    read_full(&mut rt.stdin(), &mut job[..n]);
     let mut store = [0.0; FACTORS];
-    let read = records::read(&job[0..n], &mut store);
-    let g = forged(read.graph, byte(rt));
-    let given = at_most(two(rt), FACTORS);
-    values(rt, &mut store, given);
-    let lent = at_most(two(rt), FACTORS);
-    if head[0] == b'D' {
-        direct_case(rt, g, &store[0..lent]);
+    let mut g = records::read(&job[..n], &mut store).graph;
+    if byte(rt) != 0 {
+        // a record that no calls yield
+        g.variables = 33;
+    }
+    let given = at_most(rt, FACTORS);
+    values(rt, &mut store[..given]);
+    let lent = at_most(rt, FACTORS);
+    if kind == b'D' {
+        direct_case(rt, g, &store[..lent]);
     } else {
-        run_case(rt, g, &store[0..lent]);
+        run_case(rt, g, &store[..lent]);
     }
-    true
-}
-
-// A record that no calls yield, where one is asked for.
-fn forged(g: Graph, mark: usize) -> Graph {
-    let mut bad = g;
-    if mark != 0 {
-        bad.variables = 33;
-    }
-    bad
+    Some(())
 }
 
 fn direct_case(rt: &HostRuntime, g: Graph, factors: &[f64]) {
@@ -74,38 +61,38 @@ fn direct_case(rt: &HostRuntime, g: Graph, factors: &[f64]) {
     let s = list(rt, &mut slots);
     let k = list(rt, &mut kept);
     let c = list(rt, &mut cleared);
-    let room = at_most(two(rt), ROOM);
-    let works = at_most(two(rt), WORK);
+    let room = at_most(rt, ROOM);
+    let works = at_most(rt, WORK);
     let mut messages = [9.0; ROOM];
     let mut work = [9.0; WORK];
     let answer = direct::eliminate(
         g,
-        &slots[0..s],
-        &kept[0..k],
-        &cleared[0..c],
+        &slots[..s],
+        &kept[..k],
+        &cleared[..c],
         factors,
-        &mut messages[0..room],
-        &mut work[0..works],
+        &mut messages[..room],
+        &mut work[..works],
     );
     print_direct(rt, answer);
-    print_store(rt, &messages, room);
+    print_store(rt, &messages[..room]);
 }
 
 fn run_case(rt: &HostRuntime, g: Graph, factors: &[f64]) {
-    let room = at_most(two(rt), ROOM);
-    let works = at_most(two(rt), WORK);
-    let found = at_most(two(rt), ROOM);
+    let room = at_most(rt, ROOM);
+    let works = at_most(rt, WORK);
+    let found = at_most(rt, ROOM);
     let mut messages = [9.0; ROOM];
     let mut work = [9.0; WORK];
     let mut marginals = [9.0; ROOM];
     let ran = solver::run::run(
         g,
         factors,
-        &mut messages[0..room],
-        &mut work[0..works],
-        &mut marginals[0..found],
+        &mut messages[..room],
+        &mut work[..works],
+        &mut marginals[..found],
     );
     print_ran(rt, ran);
-    print_store(rt, &messages, room);
-    print_store(rt, &marginals, found);
+    print_store(rt, &messages[..room]);
+    print_store(rt, &marginals[..found]);
 }

@@ -5,6 +5,7 @@ use mathlib.Core.Path.{◌≡◌, refl, sym, ap}
 use mathlib.Core.Bool.{true, cond}
 use mathlib.Core.List.{List}
 use native.Mathlib.Numerals.{add-one}
+use Rattle.std.specs.Prelude.{Some, None}
 use native.Mathlib.Omega.{arith}
 use native.Mathlib.Decide.{dec_lt}
 use borrow.Author.Tests.{ltb-true, eq-eqb, ne_eqb}
@@ -13,7 +14,6 @@ use lib.ListN.{get_or, length}
 use Rattle.factor.specs.Counting.{sum}
 use Rattle.factor.specs.Factor.{above, rising, key_at, size_of, fits, first_column, width, find_from, find_key}
 use Rattle.factor.specs.declared.Factor.{Factor}
-use Rattle.factor.specs.declared.Found.TheVariants.{Block, Absent}
 use Rattle.factor.proofs.Counting.{all-at, sum_more, sum-le}
 use Rattle.factor.proofs.Blocks.{first-none, first_more}
 use Rattle.factor.proofs.Fitting.{fits-above}
@@ -43,7 +43,7 @@ pub rising-below : (keys : List ℕ) → rising keys ≡ true → (i j : ℕ) �
 rising-below keys up = earlier_below keys (length keys) (λ j l. all-at (λ i. above keys i) (length keys) j up l)
 
 module _ (sizes keys : List ℕ) (key : ℕ) where
-  absent-from : (j n : ℕ) → ((i : ℕ) → j ≤ i → i < j + n → get_or keys i 0 ≡ key → ⊥) → find_from sizes keys key j n ≡ Absent
+  absent-from : (j n : ℕ) → ((i : ℕ) → j ≤ i → i < j + n → get_or keys i 0 ≡ key → ⊥) → find_from sizes keys key j n ≡ None
   unfolding find_from
   absent-from j zero other = refl
   absent-from j (suc n) other =
@@ -51,25 +51,25 @@ module _ (sizes keys : List ℕ) (key : ℕ) where
       (absent-from (j + 1) n (λ i a b. other i (omega arith) (omega arith)))
 
   -- a key that stands at no place is not found
-  pub find_absent : (n : ℕ) → ((j : ℕ) → j < n → get_or keys j 0 ≡ key → ⊥) → find_from sizes keys key 0 n ≡ Absent
+  pub find_absent : (n : ℕ) → ((j : ℕ) → j < n → get_or keys j 0 ≡ key → ⊥) → find_from sizes keys key 0 n ≡ None
   find_absent n other = absent-from 0 n (λ i a b. other i (omega arith))
 
   module _ (i : ℕ) (same : get_or keys i 0 ≡ key) where
     first-from : (j n : ℕ) → j ≤ i → i < j + n → ((k : ℕ) → j ≤ k → k < i → get_or keys k 0 ≡ key → ⊥)
-        → find_from sizes keys key j n ≡ Block (first_column sizes keys i) (size_of sizes (get_or keys i 0))
+        → find_from sizes keys key j n ≡ Some (first_column sizes keys i, size_of sizes (get_or keys i 0))
     unfolding find_from
     first-from j zero a b other = absurd (omega arith)
     first-from j (suc n) a b other = go (dec_lt j i) (λ q. first-from (j + 1) n (omega arith) (omega arith) (λ k x y. other k (omega arith) y))
       where
-        go : Dec (j < i) → (j < i → find_from sizes keys key (j + 1) n ≡ Block (first_column sizes keys i) (size_of sizes (get_or keys i 0)))
-            → cond (eqb (get_or keys j 0) key) (Block (first_column sizes keys j) (size_of sizes (get_or keys j 0))) (find_from sizes keys key (j + 1) n)
-            ≡ Block (first_column sizes keys i) (size_of sizes (get_or keys i 0))
+        go : Dec (j < i) → (j < i → find_from sizes keys key (j + 1) n ≡ Some (first_column sizes keys i, size_of sizes (get_or keys i 0)))
+            → cond (eqb (get_or keys j 0) key) (Some (first_column sizes keys j, size_of sizes (get_or keys j 0))) (find_from sizes keys key (j + 1) n)
+            ≡ Some (first_column sizes keys i, size_of sizes (get_or keys i 0))
         go (yes q) r = rw (ne_eqb (get_or keys j 0) key (other j (omega arith) q)) (r q)
         go (no q) r = let e : j ≡ i = omega arith in rw (e, eq-eqb (get_or keys i 0) key same)
 
     -- a key that stands first at place i is found there
     pub find_first : (n : ℕ) → i < n → ((j : ℕ) → j < i → get_or keys j 0 ≡ key → ⊥)
-        → find_from sizes keys key 0 n ≡ Block (first_column sizes keys i) (size_of sizes (get_or keys i 0))
+        → find_from sizes keys key 0 n ≡ Some (first_column sizes keys i, size_of sizes (get_or keys i 0))
     find_first n l other = first-from 0 n (omega arith) (omega arith) (λ k x y. other k y)
 
 module _ (sizes : List ℕ) (n : ℕ) (f : Factor) (h : fits sizes n f ≡ true) where
@@ -77,7 +77,7 @@ module _ (sizes : List ℕ) (n : ℕ) (f : Factor) (h : fits sizes n f ≡ true)
   key_below = earlier_below f.keys f.touched (fits-above sizes n f h)
 
   -- each key of the factor is found at its own block
-  pub find_at : (i : ℕ) → i < f.touched → find_key sizes f (key_at f i) ≡ Block (first_column sizes f.keys i) (size_of sizes (key_at f i))
+  pub find_at : (i : ℕ) → i < f.touched → find_key sizes f (key_at f i) ≡ Some (first_column sizes f.keys i, size_of sizes (key_at f i))
   find_at i l = find_first sizes f.keys (key_at f i) i refl f.touched l (λ j m e. let a : key_at f j < key_at f i = key_below j i m l in omega arith)
 
   -- the columns to a key are among those of all keys up to it

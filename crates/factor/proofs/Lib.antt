@@ -1,5 +1,6 @@
 -- Laws that several proofs cite.
 pub mod Counting
+pub mod Chains
 pub mod Laying
 pub mod Blocks
 pub mod Storing

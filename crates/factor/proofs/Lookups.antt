@@ -3,6 +3,7 @@ use Prim.Native.Nat.{ℕ, zero, suc, ◌+◌, ◌-◌, ◌<◌, ◌≤◌, min}
 use mathlib.Core.Path.{◌≡◌, refl, sym, ap, ◌∙◌}
 use mathlib.Core.Bool.{Bool, true, false, cond}
 use mathlib.Core.List.{List, [], ◌∷◌}
+use Rattle.std.specs.Prelude.{Option, Some, None}
 use native.Mathlib.Nat.{min-eq_left, min-eq_right}
 use native.Mathlib.Omega.{arith}
 use native.Mathlib.Decide.{dec_lt}
@@ -14,9 +15,6 @@ use Rattle.factor.specs.Limits.{max_keys}
 use Rattle.factor.specs.Counting.{sum}
 use Rattle.factor.specs.Factor.{rising, below, looked, lookup, key_at, size_of, fits, first_column, width, block_at, find, find_key}
 use Rattle.factor.specs.declared.Factor.{Factor}
-use Rattle.factor.specs.declared.Found.TheVariants.{Block}
-use Rattle.factor.specs.declared.lists.Place.{Place}
-use Rattle.factor.specs.declared.lists.Place.TheVariants.{At, Nowhere}
 use Rattle.factor.specs.declared.lists.Looked.{Looked}
 use Rattle.factor.proofs.Counting.{sum_ext, sum_ones, sum-stop}
 use Rattle.factor.proofs.Blocks.{block-ends}
@@ -82,15 +80,15 @@ module _ (keys : List ℕ) (key : ℕ) (j here : ℕ) (so_far : j ≤ below keys
       go (yes q) = let b : get_or keys j 0 < key = before-below key keys j q in absurd (omega arith)
       go (no q) = omega arith
 
-  pub larger_here : j < length keys → key < here → looked Nowhere (j + 1) ≡ lookup keys key
+  pub larger_here : j < length keys → key < here → looked None (j + 1) ≡ lookup keys key
   unfolding lookup
   larger_here l more = rw (ended (omega arith), lt-ltb j (length keys) l, ne_eqb key (get_or keys j 0) (λ x. omega arith))
 
-  pub found_here : j < length keys → key ≤ here → here ≤ key → looked (At j) (j + 1) ≡ lookup keys key
+  pub found_here : j < length keys → key ≤ here → here ≤ key → looked (Some j) (j + 1) ≡ lookup keys key
   unfolding lookup
   found_here l n m = rw (ended n, lt-ltb j (length keys) l, eq-eqb key (get_or keys j 0) (omega arith))
 
-pub past_the_last : (keys : List ℕ) (key j n : ℕ) → j ≤ below keys key → length keys ≤ j → n ≡ length keys → looked Nowhere n ≡ lookup keys key
+pub past_the_last : (keys : List ℕ) (key j n : ℕ) → j ≤ below keys key → length keys ≤ j → n ≡ length keys → looked None n ≡ lookup keys key
 unfolding lookup
 past_the_last keys key j n so_far l e =
     let s : below keys key ≡ length keys = omega (arith, below-within key keys) in
@@ -100,12 +98,12 @@ past_the_last keys key j n so_far l e =
 
 module _ (keys : List ℕ) (key : ℕ) where
   -- a place that is told has the key, and all before it are below
-  pub place-has : (j : ℕ) → (lookup keys key).place ≡ At j → (j < length keys) × (get_or keys j 0 ≡ key) × ((i : ℕ) → i < j → get_or keys i 0 < key)
+  pub place-has : (j : ℕ) → (lookup keys key).place ≡ Some j → (j < length keys) × (get_or keys j 0 ≡ key) × ((i : ℕ) → i < j → get_or keys i 0 < key)
   unfolding lookup
   place-has j h = go (ltb (below keys key) (length keys)) (eqb key (get_or keys (below keys key) 0)) refl refl h
     where
       go : (b c : Bool) → ltb (below keys key) (length keys) ≡ b → eqb key (get_or keys (below keys key) 0) ≡ c
-          → (cond b (looked (cond c (At (below keys key)) Nowhere) (below keys key + 1)) (looked Nowhere (below keys key))).place ≡ At j
+          → (cond b (looked (cond c (Some (below keys key)) None) (below keys key + 1)) (looked None (below keys key))).place ≡ Some j
           → (j < length keys) × (get_or keys j 0 ≡ key) × ((i : ℕ) → i < j → get_or keys i 0 < key)
       go true true l e s =
           let p : below keys key ≡ j = cc in
@@ -118,8 +116,8 @@ module _ (keys : List ℕ) (key : ℕ) where
   unfolding lookup
   read_is = go (ltb (below keys key) (length keys))
     where
-      go : (b : Bool) → (cond b (looked (cond (eqb key (get_or keys (below keys key) 0)) (At (below keys key)) Nowhere) (below keys key + 1))
-          (looked Nowhere (below keys key))).read ≡ below keys key + cond b 1 0
+      go : (b : Bool) → (cond b (looked (cond (eqb key (get_or keys (below keys key) 0)) (Some (below keys key)) None) (below keys key + 1))
+          (looked None (below keys key))).read ≡ below keys key + cond b 1 0
       go true = refl
       go false = omega arith
 
@@ -144,13 +142,13 @@ module _ (keys : List ℕ) (key : ℕ) where
         go (no q) = let s : i ≡ below keys key = omega arith in rw s next
 
     -- where none is told, no place has the key
-    pub place_lacks : (lookup keys key).place ≡ Nowhere → (i : ℕ) → i < length keys → get_or keys i 0 ≡ key → ⊥
+    pub place_lacks : (lookup keys key).place ≡ None → (i : ℕ) → i < length keys → get_or keys i 0 ≡ key → ⊥
     place_lacks h i l same = go (dec_lt (below keys key) i)
       where
         go : Dec (below keys key < i) → ⊥
         go (yes q) = omega (arith, rising-below keys up (below keys key) i q l, not-below (below keys key) (omega arith) (omega arith))
         go (no q) =
-            let f : looked (At i) (i + 1) ≡ lookup keys key = found_here keys key i (get_or keys i 0) (omega arith) refl l (omega arith) (omega arith) in
+            let f : looked (Some i) (i + 1) ≡ lookup keys key = found_here keys key i (get_or keys i 0) (omega arith) refl l (omega arith) (omega arith) in
             let z : ◌≡◌ {A = ℕ} 0 1 = cc in
             omega arith
 
@@ -180,7 +178,7 @@ module _ (l : List ℕ) (key n : ℕ) where
   pub lent : (used : ℕ) (r : Looked) → used ≡ min n (length l) → r ≡ lookup (take (used - 0) l) key → r ≡ lookup (take n l) key
   lent used r eu er = let d : used - 0 ≡ min n (length l) = omega arith in er ∙ ap (λ (k : List ℕ). lookup k key) (rw d (take-least n l))
 
-  pub place-within : (j : ℕ) → (lookup (take n l) key).place ≡ At j → (j < n) × (j < length l)
+  pub place-within : (j : ℕ) → (lookup (take n l) key).place ≡ Some j → (j < n) × (j < length l)
   place-within j h = let b : j < length (take n l) = (place-has (take n l) key j h).0 in (omega (arith, length-take n l), omega (arith, length-take n l))
 
   pub few-read : (lookup (take n l) key).read ≤ n
@@ -193,19 +191,20 @@ module _ (sizes : List ℕ) (f : Factor) (key : ℕ) where
   abbrev keys : List ℕ
   keys = take f.touched f.keys
 
-  told-within : (j : ℕ) → (lookup keys key).place ≡ At j → j < f.touched
+  told-within : (j : ℕ) → (lookup keys key).place ≡ Some j → j < f.touched
   told-within j h = (place-within f.keys key f.touched j h).0
 
   -- a block that is found ends within the width
-  pub found-ends : (first size : ℕ) → (find sizes f key).found ≡ Block first size → first + size ≤ width sizes f
+  pub found-ends : (first size : ℕ) → (find sizes f key).found ≡ Some (first, size) → first + size ≤ width sizes f
   found-ends first size e = go (lookup keys key).place refl e
     where
-      go : (p : Place) → (lookup keys key).place ≡ p → block_at sizes f.keys p ≡ Block first size → first + size ≤ width sizes f
-      go (At j) h b =
-          let x : first_column sizes f.keys j ≡ first = cc in
-          let y : size_of sizes (key_at f j) ≡ size = cc in
+      go : (p : Option ℕ) → (lookup keys key).place ≡ p → block_at sizes f.keys p ≡ Some (first, size) → first + size ≤ width sizes f
+      go (Some j) h b =
+          let block : ◌≡◌ {A = ℕ × ℕ} (first_column sizes f.keys j, size_of sizes (key_at f j)) (first, size) = cc in
+          let x : first_column sizes f.keys j ≡ first = ap (λ (p : ℕ × ℕ). p.0) block in
+          let y : size_of sizes (key_at f j) ≡ size = ap (λ (p : ℕ × ℕ). p.1) block in
           omega (arith, block-ends sizes f.keys j f.touched (told-within j h))
-      go Nowhere h b = absurd (let z : ◌≡◌ {A = ℕ} 0 1 = cc in omega arith)
+      go None h b = absurd (let z : ◌≡◌ {A = ℕ} 0 1 = cc in omega arith)
 
   module _ (few : f.touched ≤ length f.keys) (up : rising keys ≡ true) where
     long : length keys ≡ f.touched
@@ -218,13 +217,13 @@ module _ (sizes : List ℕ) (f : Factor) (key : ℕ) where
         at : (i : ℕ) → i < f.touched → get_or keys i 0 ≡ key_at f i
         at i l = get_or-take f.touched f.keys i 0 l
 
-        go : (p : Place) → (lookup keys key).place ≡ p → block_at sizes f.keys p ≡ find_key sizes f key
-        go (At j) h =
+        go : (p : Option ℕ) → (lookup keys key).place ≡ p → block_at sizes f.keys p ≡ find_key sizes f key
+        go (Some j) h =
             let l : j < f.touched = told-within j h in
             let has = place-has keys key j h in
             sym (find_first sizes f.keys key j (sym (at j l) ∙ has.1) f.touched l
             (λ i m e. let b : get_or keys i 0 < key = has.2 i m in omega (arith, at i (omega arith))))
-        go Nowhere h = sym (find_absent sizes f.keys key f.touched
+        go None h = sym (find_absent sizes f.keys key f.touched
             (λ i m e. place_lacks keys key up h i (omega (arith, long)) (at i m ∙ e)))
 
     -- read is each of the factor's keys below the one sought, and the next if there is one

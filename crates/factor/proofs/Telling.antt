@@ -1,7 +1,8 @@
 -- An answer that is the definition's tells the definition's number. Assumes nothing.
 use mathlib.Core.Path.{◌≡◌, refl, ap, ◌∙◌}
 use Rattle.cholesky.specs.Forms.{Form, form, pivot, not_finite}
-use Rattle.cholesky.specs.declared.exchange.Exchanged.{Exchanged}
+use Rattle.std.specs.Prelude.{Result}
+use Rattle.cholesky.specs.declared.Fault.{Fault}
 use Rattle.factor.specs.Told.{weighed_told, weight_told}
 use Rattle.cholesky.specs.Answers.{end_of}
 
@@ -11,5 +12,5 @@ answers (form xi w) = refl
 answers pivot = refl
 answers not_finite = refl
 
-pub weighed_tells : (r : Exchanged) (w : Form) → r ≡ end_of w → weighed_told r ≡ weight_told w
+pub weighed_tells : (r : Result (Unit {0}) Fault) (w : Form) → r ≡ end_of w → weighed_told r ≡ weight_told w
 weighed_tells r w e = ap weighed_told e ∙ answers w

@@ -10,11 +10,11 @@ ghost use Rattle.factor.specs.Limits.{max_keys, max_variables, most_numbers};
 ghost use Rattle.factor.specs.Factor as spec;
 
 use limits::{KEYS, ROWS, VARIABLES};
-use lists::{Place, least, lookup};
+use lists::{Looked, lookup};
 
 // A prior or an observation: its keys stand in the first places, rising, and unused places are 0. A prior has one key and that key's size as rows.
 // It is live until another factor supersedes it.
-#[derive(Clone, Copy)]
+#[derive(Clone, Copy, PartialEq, Eq)]
 pub struct Factor {
     pub prior: bool,
     pub touched: u8,
@@ -23,32 +23,22 @@ pub struct Factor {
     pub live: bool,
 }
 
-// The block of a key: its first column and its size.
-#[derive(Drop)]
-pub enum Found {
-    Block(usize, usize),
-    Absent,
-}
-
-// The answer of `find`: the block, and how many of the factor's keys were read.
+// The answer of `find`: the block of the key, by its first column and its size, and how many of the factor's keys were read.
 #[derive(Drop)]
 pub struct Lookup {
-    pub found: Found,
+    pub found: Option<(usize, usize)>,
     pub read: usize,
-}
-
-// A byte as an index.
-pub fn wide(x: u8) -> usize
-    ensures { result ≡ x }
-{
-    x as usize
 }
 
 // What the size table has for a key, and 0 for a key that it has no place for.
 pub fn size_of(sizes: [u8; VARIABLES], key: usize) -> usize
     ensures { (result ≡ spec.size_of sizes key) × (result < 256) }
 {
-    if key < VARIABLES { wide(sizes[key]) } else { 0 }
+    if key < VARIABLES {
+        usize::from(sizes[key])
+    } else {
+        0
+    }
 }
 
 // The record of a prior on a key of that size.
@@ -73,8 +63,8 @@ pub fn observation_of(keys: &[usize], rows: usize) -> Factor
     ensures { result ≡ spec.observation_of keys.now rows }
 {
     let mut packed = [0u8; KEYS];
-    for place in 0..keys.len() {
-        packed[place] = keys[place] as u8;
+    for (place, &key) in keys.iter().enumerate() {
+        packed[place] = key as u8;
     }
     Factor {
         prior: false,
@@ -87,78 +77,47 @@ pub fn observation_of(keys: &[usize], rows: usize) -> Factor
 
 impl Factor {
     // The key at a place is registered and above the one before it, or the place is unused.
+    #[tactic(auto, unfolding(crate::specs::Factor::key_fits, crate::specs::Factor::above, crate::specs::Counting::every))]
     fn key_fits(self, variables: usize, place: usize) -> bool
         requires { place < max_keys }
         ensures { result ≡ spec.key_fits variables self place }
     {
         let key = self.keys[place];
-        if wide(self.touched) <= place {
+        if usize::from(self.touched) <= place {
             return key == 0;
         }
-        if variables <= wide(key) {
-            return false;
-        }
-        if place == 0 {
-            return true;
-        }
-        let last = place - 1;
-        self.keys[last] < key
+        usize::from(key) < variables && (place == 0 || self.keys[place - 1] < key)
     }
 
     // A prior has one key, whose size is its rows; an observation has rows within the limit.
+    #[tactic(auto, unfolding(crate::specs::Factor::rows_fit, crate::specs::Counting::every))]
     fn rows_fit(self, sizes: [u8; VARIABLES]) -> bool
         ensures { result ≡ spec.rows_fit sizes self }
     {
-        let rows = wide(self.rows);
-        if !self.prior {
-            return 1 <= rows && rows <= ROWS;
+        let rows = usize::from(self.rows);
+        if self.prior {
+            self.touched == 1 && rows == size_of(sizes, usize::from(self.keys[0]))
+        } else {
+            1 <= rows && rows <= ROWS
         }
-        if self.touched != 1 {
-            return false;
-        }
-        rows == size_of(sizes, wide(self.keys[0]))
     }
 
     // A registering call makes this record where so many variables have these sizes.
+    #[tactic(auto, unfolding(crate::specs::Factor::fits, crate::specs::Counting::every))]
     pub fn fits(self, sizes: [u8; VARIABLES], variables: usize) -> bool
         ensures { (result ≡ spec.fits sizes variables self) × (length self.keys ≡ max_keys) }
     {
-        if KEYS < wide(self.touched) {
-            return false;
-        }
-        if !self.rows_fit(sizes) {
-            return false;
-        }
-        for place in 0..KEYS {
-            if !self.key_fits(variables, place) {
-                return false;
-            }
-        }
-        true
+        usize::from(self.touched) <= KEYS
+            && self.rows_fit(sizes)
+            && (0..KEYS).all(|place| self.key_fits(variables, place))
     }
 
     // The record of an unused place.
+    #[tactic(auto, unfolding(crate::specs::Factor::is_clear, crate::specs::Counting::every))]
     pub fn is_clear(self) -> bool
         ensures { (result ≡ spec.is_clear self) × (length self.keys ≡ max_keys) }
     {
-        if self.prior {
-            return false;
-        }
-        if self.live {
-            return false;
-        }
-        if self.touched != 0 {
-            return false;
-        }
-        if self.rows != 0 {
-            return false;
-        }
-        for place in 0..KEYS {
-            if self.keys[place] != 0 {
-                return false;
-            }
-        }
-        true
+        !self.prior && !self.live && self.touched == 0 && self.rows == 0 && self.keys == [0; KEYS]
     }
 
     // The first column of the block at a place: the sizes of the keys before it, added up.
@@ -167,8 +126,8 @@ impl Factor {
         ensures { (result ≡ spec.first_column sizes self.keys place) × (result ≤ 255 * max_keys) }
     {
         let mut sum = 0;
-        for earlier in 0..place {
-            sum += size_of(sizes, wide(self.keys[earlier]));
+        for &key in &self.keys[..place] {
+            sum += size_of(sizes, usize::from(key));
         }
         sum
     }
@@ -178,62 +137,56 @@ impl Factor {
         requires { self.touched ≤ max_keys }
         ensures { (result ≡ spec.width sizes self) × (result ≤ 255 * max_keys) }
     {
-        self.first_column(sizes, wide(self.touched))
+        self.first_column(sizes, usize::from(self.touched))
     }
 
     // The block of a key, by the lookup among the factor's keys.
     pub fn find(self, sizes: [u8; VARIABLES], key: usize) -> Lookup
         ensures { result ≡ spec.find sizes self key }
     {
-        let keys = self.keys;
-        let used = least(wide(self.touched), KEYS);
-        let looked = lookup(&keys[0..used], key);
-        let read = looked.read;
-        let stands = looked.place;
-        let Place::At(place) = stands else {
-            return Lookup {
-                found: Found::Absent,
-                read: read,
-            };
+        let used = usize::from(self.touched).min(KEYS);
+        let Looked { place, read } = lookup(&self.keys[..used], key);
+        let Some(at) = place else {
+            return Lookup { found: None, read };
         };
-        let first = self.first_column(sizes, place);
-        let size = size_of(sizes, wide(keys[place]));
+        let block = (self.first_column(sizes, at), size_of(sizes, key));
         Lookup {
-            found: Found::Block(first, size),
-            read: read,
+            found: Some(block),
+            read,
         }
     }
 
     // How many numbers of A are stored: none for a prior.
+    #[tactic(auto, unfolding(crate::specs::Factor::a_numbers))]
     pub fn a_numbers(self, sizes: [u8; VARIABLES]) -> usize
         requires { self.touched ≤ max_keys }
         ensures { (result ≡ spec.a_numbers sizes self) × (result ≤ 255 * (255 * max_keys)) }
     {
         if self.prior {
-            return 0;
+            0
+        } else {
+            usize::from(self.rows) * self.width(sizes)
         }
-        wide(self.rows) * self.width(sizes)
     }
 
     // How many numbers are stored: A, xi and W.
+    #[tactic(auto, unfolding(crate::specs::Factor::numbers))]
     pub fn numbers(self, sizes: [u8; VARIABLES]) -> usize
         requires { self.touched ≤ max_keys }
         ensures { (result ≡ spec.numbers sizes self) × (result ≤ most_numbers) }
     {
-        let rows = wide(self.rows);
+        let rows = usize::from(self.rows);
         self.a_numbers(sizes) + rows + rows * rows
     }
 
     // Lengths are those of its A, its mean and its variance.
+    #[tactic(auto, unfolding(crate::specs::Factor::lengths_fit, crate::specs::Counting::every))]
     pub fn lengths_fit(self, sizes: [u8; VARIABLES], a: usize, mean: usize, variance: usize) -> bool
         requires { self.touched ≤ max_keys }
         ensures { result ≡ spec.lengths_fit sizes self a mean variance }
     {
-        let rows = wide(self.rows);
-        if a != self.a_numbers(sizes) {
-            return false;
-        }
-        mean == rows && variance == rows * rows
+        let rows = usize::from(self.rows);
+        a == self.a_numbers(sizes) && mean == rows && variance == rows * rows
     }
 
     // The block column of a key: the part of A that begins at its first column, and no numbers where the factor lacks the key.
@@ -241,14 +194,11 @@ impl Factor {
         requires { spec.width sizes self * self.rows ≤ length a.now }
         ensures { result.now ≡ spec.columns_at (spec.find sizes self key).found self.rows a.now }
     {
-        let looked = self.find(sizes, key);
-        let found = looked.found;
-        let Found::Block(first, size) = found else {
+        let Some((first, size)) = self.find(sizes, key).found else {
             return &a[0..0];
         };
-        let rows = wide(self.rows);
+        let rows = usize::from(self.rows);
         let start = first * rows;
-        let end = start + size * rows;
-        &a[start..end]
+        &a[start..start + size * rows]
     }
 }

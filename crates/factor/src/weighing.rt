@@ -10,20 +10,16 @@ ghost use Rattle.cholesky.specs.Answers.{FormLent, end_of};
 
 use crate::limits::{ROWS, SQUARE};
 use crate::lists::copy_in;
-use cholesky::exchange::{Exchanged, exchange};
+use cholesky::Fault;
+use cholesky::exchange::exchange;
 use matrix::{View, get};
 
 // All numbers given for a factor are finite.
+#[tactic(auto, unfolding(crate::specs::Factor::given_finite, crate::specs::Counting::every))]
 pub fn given_finite(a: &[f64], mean: &[f64], variance: &[f64]) -> bool
     ensures { result ≡ spec.given_finite a.now mean.now variance.now }
 {
-    if !matrix::finite(a) {
-        return false;
-    }
-    if !matrix::finite(mean) {
-        return false;
-    }
-    matrix::finite(variance)
+    matrix::finite(a) && matrix::finite(mean) && matrix::finite(variance)
 }
 
 // Column j of S(n × n) above the diagonal compares equal to row j left of it, entry by entry.
@@ -36,12 +32,7 @@ fn column_mirrored(s: &[f64], n: usize, j: usize) -> bool
         down: 1,
         across: n,
     };
-    for i in 0..j {
-        if get(s, v, i, j) != get(s, v, j, i) {
-            return false;
-        }
-    }
-    true
+    (0..j).all(|i| get(s, v, i, j) == get(s, v, j, i))
 }
 
 // S(n × n) is symmetric. Each pair off the diagonal is looked at once: a finite number equals itself.
@@ -49,12 +40,7 @@ pub fn symmetric(s: &[f64], n: usize) -> bool
     requires { (length s.now ≡ n * n) × (all_finite s.now ≡ true) }
     ensures { result ≡ spec.symmetric n s.now }
 {
-    for j in 0..n {
-        if !column_mirrored(s, n, j) {
-            return false;
-        }
-    }
-    true
+    (0..n).all(|j| column_mirrored(s, n, j))
 }
 
 // Stores A, xi and W of a mean and a variance of n rows from a place on, by way of the working slices. The store is touched only when all numbers are there.
@@ -68,25 +54,21 @@ fn store_by(
     l: &mut [f64],
     xi: &mut [f64],
     w: &mut [f64],
-) -> Exchanged
+) -> Result<(), Fault>
     requires factor_room { FactorRoom n at a.now mean.now variance.now store.old }
     requires form_lent { FormLent n l.old xi.old w.old }
     ensures value { result ≡ end_of (exchanged n mean.now variance.now) }
     ensures store_after { store.new ≡ form_laid (exchanged n mean.now variance.now) a.now store.old at }
 {
-    copy_in(l, 0, variance);
-    copy_in(xi, 0, mean);
-    match exchange(l, n, xi, w) {
-        Exchanged::Done => {}
-        Exchanged::Pivot => return Exchanged::Pivot,
-        Exchanged::NotFinite => return Exchanged::NotFinite,
-    }
+    l.copy_from_slice(variance);
+    xi.copy_from_slice(mean);
+    exchange(l, n, xi, w)?;
     let second = at + a.len();
     let third = second + n;
     copy_in(store, at, a);
     copy_in(store, second, &xi[..]);
     copy_in(store, third, &w[..]);
-    Exchanged::Done
+    Ok(())
 }
 
 // `store_by` with working arrays of its own (docs/PROOFS.md, 'Adapters').
@@ -97,7 +79,7 @@ pub fn store_factor(
     mean: &[f64],
     variance: &[f64],
     n: usize,
-) -> Exchanged
+) -> Result<(), Fault>
     requires { FactorRoom n at a.now mean.now variance.now store.old }
     ensures value { result ≡ end_of (exchanged n mean.now variance.now) }
     ensures store_after { store.new ≡ form_laid (exchanged n mean.now variance.now) a.now store.old at }

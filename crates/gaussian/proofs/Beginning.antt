@@ -1,50 +1,42 @@
 -- A work store that is all zero holds the sums before the first factor. Assumes nothing.
 use Prim.Native.Nat.{ℕ, ◌+◌, ◌-◌, ◌*◌, ◌≤◌, ◌<◌}
-use mathlib.Core.Path.{◌≡◌, ap, ◌∙◌, sym, subst}
-use mathlib.Core.List.{List}
+use mathlib.Core.Path.{◌≡◌, ap, ◌∙◌, sym}
+use mathlib.Core.List.{List, ◌++◌}
 use native.Mathlib.Omega.{arith}
-use native.Mathlib.Nat.{zero-add}
-use lib.ListN.{length, get_or, replicate, length-replicate, get_or-replicate}
+use lib.ListN.{length, get_or, drop, replicate, length-replicate, get_or-replicate, length-append, length-drop, get_or-append}
 use lib.Seq.{ext_get_or}
 use lib.Ieee.{Float, nan}
-use Rattle.matrix.specs.Views.{columns, part, splice}
+use Rattle.matrix.specs.Views.{columns, part}
 use Rattle.matrix.specs.Sums.{plus_zero, one}
 use Rattle.matrix.specs.Triangles.{filled_diagonal}
-use Rattle.workspace.specs.Blocks.{zeroed}
 use Rattle.workspace.specs.Sums.{Sums, change}
 use Rattle.workspace.specs.declared.Frame.{Frame}
 use Rattle.workspace.specs.declared.Part.TheVariants.{A}
-use Rattle.workspace.proofs.Parts.{length_part, get_d_part, length-splice, splice_in, zeroed-is}
+use Rattle.workspace.proofs.Parts.{length_part, get_d_part}
 use Rattle.slots.specs.declared.Branch.{Branch}
 use Rattle.slots.specs.declared.Branch.TheVariants.{Z, X}
 use Rattle.gaussian.specs.Elimination.{begun}
 use Rattle.workspace.specs.Parts.{FrameLaid, matrices_in}
 
-module _ (f : Frame) (w x : List Float) (l : FrameLaid f (length w)) (e : x ≡ zeroed (part w 0 f.end) (length (part w 0 f.end))) where
+module _ (f : Frame) (w x : List Float) (l : FrameLaid f (length w)) (x_zero : x ≡ replicate f.end plus_zero) where
   abbrev t : List Float
-  t = splice w 0 f.end x
+  t = x ++ drop f.end w
 
-  x_zero : x ≡ replicate f.end plus_zero
-  x_zero =
-      let n : length (part w 0 f.end) ≡ f.end = omega (arith, length_part w 0 f.end l.fits) in
-      e ∙ zeroed-is (part w 0 f.end) ∙ ap (λ (n : ℕ). replicate n plus_zero) n
+  x_long : length x ≡ f.end
+  x_long = ap length x_zero ∙ length-replicate f.end plus_zero
 
-  x_long : length x ≡ f.end - 0
-  x_long = omega (arith, ap (λ (y : List Float). length y) x_zero, length-replicate f.end plus_zero)
+  t_long : length t ≡ length w
+  t_long = simp (length-append, length-drop) (omega (arith, x_long, l.fits))
 
   at_zero : (k : ℕ) → k < f.end → get_or t k nan ≡ plus_zero
   at_zero k h =
-      subst (λ (n : ℕ). get_or (splice w 0 f.end x) n nan ≡ get_or x k nan) (zero-add k)
-      (splice_in w 0 f.end x (omega arith) l.fits x_long k (omega arith))
-      ∙ ap (λ (y : List Float). get_or y k nan) x_zero
-      ∙ get_or-replicate f.end k plus_zero nan h
+      get_or-append x (drop f.end w) nan k (omega (arith, x_long)) ∙ ap (λ (y : List Float). get_or y k nan) x_zero ∙ get_or-replicate f.end k plus_zero nan h
 
   part-zero : (a b n : ℕ) → b ≤ f.end → b - a ≡ n → part t a b ≡ replicate n plus_zero
   part-zero a b n h g =
-      let r : length (part (splice w 0 f.end x) a b) ≡ n = length_part (splice w 0 f.end x) a b
-      (rw (length-splice w 0 f.end x (omega arith) l.fits x_long) (omega (arith, l.fits))) ∙ g in
+      let r : length (part t a b) ≡ n = length_part t a b (omega (arith, t_long, l.fits)) ∙ g in
       ext_get_or nan _ _ (r ∙ sym (length-replicate n plus_zero))
-      (λ k b'. get_d_part (splice w 0 f.end x) a b k (omega arith) ∙ at_zero (a + k) (omega arith) ∙ sym (get_or-replicate n k plus_zero nan (omega arith)))
+      (λ k b'. get_d_part t a b k (omega arith) ∙ at_zero (a + k) (omega arith) ∙ sym (get_or-replicate n k plus_zero nan (omega arith)))
 
   all-zero : matrices_in f t ≡ begun Z f
   unfolding begun
@@ -65,6 +57,3 @@ module _ (f : Frame) (w x : List Float) (l : FrameLaid f (length w)) (e : x ≡ 
       ≡ begun branch f
   unfolding begun change
   begun_x branch σ ez es = rw ez (es ∙ ap (change A (λ c. filled_diagonal (columns f.rows) one c f.rows)) all-zero)
-
-  pub begun-long : length t ≡ length w
-  begun-long = length-splice w 0 f.end x (omega arith) l.fits x_long

@@ -20,7 +20,8 @@ use Rattle.slots.specs.declared.layout.Layout.{Layout}
 use Rattle.gaussian.specs.Elimination.{branch_of, rows_for, message_rows, Outcome, in_branch, branched, numbers_in}
 use Rattle.gaussian.specs.Answers.{eliminated_as, left_in, branched_at}
 use Rattle.gaussian.specs.Asked.{SlotsAsked, frame_for}
-use Rattle.gaussian.specs.declared.Eliminated.{Eliminated}
+use Rattle.std.specs.Prelude.{Result}
+use Rattle.cholesky.specs.declared.Fault.{Fault}
 
 -- the rows of a message, once its branch is known
 pub rows_in_lem : {branch : Branch} (y d : ℕ) → branch_of y d ≡ branch → rows_for branch y d ≡ message_rows y d
@@ -61,7 +62,7 @@ module _ {u d : ℕ} {m : Layout} {factors messages : List Float} {work : ℕ} {
   unfolding frame_of
   kept-is = rw ef
 
-  pub branch_is : (a : Eliminated) (t : List Float) → a ≡ eliminated_as (in_branch branch f m (view_at factors messages keys heads slots) (length slots))
+  pub branch_is : (a : Result ℕ Fault) (t : List Float) → a ≡ eliminated_as (in_branch branch f m (view_at factors messages keys heads slots) (length slots))
       → left_in f.cleared f.kept t (in_branch branch f m (view_at factors messages keys heads slots) (length slots))
       ≡ numbers_in (in_branch branch f m (view_at factors messages keys heads slots) (length slots))
       → (a ≡ eliminated_as (branched_at u d m factors messages keys heads slots)) ×

@@ -1,18 +1,18 @@
 -- The cleared keys go: solving, filling and subtracting one after the other end as the definition does. Assumes nothing.
-use mathlib.Core.Path.{◌≡◌, refl, ◌∙◌, sym}
+use mathlib.Core.Path.{◌≡◌, refl, sym}
+use Rattle.std.specs.Prelude.{Ok, Err}
 use Rattle.matrix.specs.Views.{flip, columns}
 use Rattle.matrix.specs.Products.{product}
 use Rattle.matrix.specs.declared.Update.TheVariants.{Subtract}
 use Rattle.cholesky.specs.Factor.{Left, whole, stuck, factor}
-use Rattle.cholesky.specs.declared.Factored.{Factored}
-use Rattle.cholesky.specs.declared.Factored.TheVariants.{Done, Refused}
+use Rattle.cholesky.specs.declared.Fault.{Fault}
 use Rattle.workspace.specs.Blocks.{solved_columns}
 use Rattle.workspace.specs.Sums.{Sums, pick, change}
 use Rattle.workspace.specs.declared.Frame.{Frame}
 use Rattle.workspace.specs.declared.Part.TheVariants.{S, H, G, Xi, W}
 use Rattle.slots.specs.declared.Branch.{Branch}
 use Rattle.gaussian.specs.Elimination.{refused, done, filled_w, lost, ended, factorised}
-use Rattle.gaussian.specs.Answers.{ended_as}
+use Rattle.gaussian.specs.Answers.{ended_as, finished_as}
 use Rattle.cholesky.specs.Answers.{factored_as, list_of}
 
 module _ (branch : Branch) (f : Frame) where
@@ -27,23 +27,27 @@ module _ (branch : Branch) (f : Frame) where
   unfolding lost change
   lose-is σ σ₁ σ₂ σ₃ σ₄ σ₅ e₁ e₂ e₃ e₄ e₅ = rw (e₅, e₄, e₃, e₂, e₁)
 
-  done_by : (σ : Sums) (F : Left) → factored_as F ≡ Done → ended branch f σ F ≡ done (lost branch f (change S (λ c. list_of F) σ))
+  ended-done : (σ : Sums) (l : Left) → factored_as l ≡ Ok tt → ended branch f σ l ≡ done (lost branch f (change S (λ c. list_of l) σ))
   unfolding ended
-  done_by σ (whole l) e = refl
-  done_by σ (stuck l) e = cc
+  ended-done σ (whole l) e = refl
+  ended-done σ (stuck l) e = cc
 
-  stopped_by : (σ : Sums) (F : Left) → factored_as F ≡ Refused → ended branch f σ F ≡ refused
-  unfolding ended
-  stopped_by σ (whole l) e = cc
-  stopped_by σ (stuck l) e = refl
+  ended-stopped : (σ : Sums) (l : Left) (why : Fault) → factored_as l ≡ Err why
+      → (Err why ≡ finished_as (ended branch f σ l)) × (ended branch f σ l ≡ refused)
+  unfolding ended finished_as
+  ended-stopped σ (whole l) why e = absurd cc
+  ended-stopped σ (stuck l) why e = (sym e, refl)
 
-  pub finish-done : (σ σ₁ σ₂ : Sums) (r : Factored) → r ≡ factored_as (factor (columns f.cleared) f.cleared σ.s f.cleared)
-      → σ₁ ≡ change S (λ c. list_of (factor (columns f.cleared) f.cleared c f.cleared)) σ → r ≡ Done → σ₂ ≡ lost branch f σ₁
-      → factorised branch f σ ≡ ended_as Done σ₂
-  unfolding factorised ended_as change
-  finish-done σ σ₁ σ₂ r er e₁ ed e₂ = rw (e₂, e₁) (done_by σ (factor (columns f.cleared) f.cleared σ.s f.cleared) (sym er ∙ ed))
+  pub finish-done : (σ σ₁ σ₂ : Sums) → factored_as (factor (columns f.cleared) f.cleared σ.s f.cleared) ≡ Ok tt
+      → σ₁ ≡ change S (λ c. list_of (factor (columns f.cleared) f.cleared c f.cleared)) σ → σ₂ ≡ lost branch f σ₁
+      → (Ok tt ≡ finished_as (factorised branch f σ)) × (factorised branch f σ ≡ ended_as (Ok tt) σ₂)
+  unfolding factorised finished_as ended_as change
+  finish-done σ σ₁ σ₂ e e₁ e₂ =
+      let g : ended branch f σ (factor (columns f.cleared) f.cleared σ.s f.cleared) ≡ done σ₂ =
+      rw (e₂, e₁) (ended-done σ (factor (columns f.cleared) f.cleared σ.s f.cleared) e) in
+      (rw g refl, g)
 
-  pub finish-stopped : (σ σ₁ : Sums) (r : Factored) → r ≡ factored_as (factor (columns f.cleared) f.cleared σ.s f.cleared) → r ≡ Refused
-      → factorised branch f σ ≡ ended_as Refused σ₁
+  pub finish-stopped : (σ σ₁ : Sums) (why : Fault) → factored_as (factor (columns f.cleared) f.cleared σ.s f.cleared) ≡ Err why
+      → (Err why ≡ finished_as (factorised branch f σ)) × (factorised branch f σ ≡ ended_as (Err why) σ₁)
   unfolding factorised ended_as
-  finish-stopped σ σ₁ r er ed = stopped_by σ (factor (columns f.cleared) f.cleared σ.s f.cleared) (sym er ∙ ed)
+  finish-stopped σ σ₁ why e = ended-stopped σ (factor (columns f.cleared) f.cleared σ.s f.cleared) why e

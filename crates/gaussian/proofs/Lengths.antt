@@ -30,8 +30,8 @@ use Rattle.slots.specs.declared.Branch.{Branch}
 use Rattle.slots.specs.declared.Branch.TheVariants.{Z, X}
 use Rattle.slots.specs.declared.layout.Layout.{Layout}
 use Rattle.slots.specs.declared.layout.Spot.{Spot}
-use Rattle.slots.specs.declared.sums.Target.{Target}
-use Rattle.slots.specs.declared.sums.Target.TheVariants.{Nowhere, At}
+use Rattle.std.specs.Prelude.{Option, Some, None}
+use Rattle.matrix.specs.declared.View.{View}
 use Rattle.gaussian.specs.Elimination.{branch_of, rows_for, message_rows, begun, lost, ended, factorised, Outcome, pivot, not_finite, message}
 use Rattle.gaussian.specs.Elimination.{outcome, in_branch, branched, nth, eliminate}
 use Rattle.gaussian.specs.Asked.{Sized}
@@ -73,10 +73,10 @@ module _ (r d : ℕ) where
 
   -- ---- factors
 
-  of_product : (p : Target) (s : ℕ) (t : List Float) (y : ℕ) (o : List Float) (n : ℕ) (σ : Sums) → Long r d σ → Long r d (with_product p s t y o n σ)
+  of_product : (p : Option (Part × View)) (s : ℕ) (t : List Float) (y : ℕ) (o : List Float) (n : ℕ) (σ : Sums) → Long r d σ → Long r d (with_product p s t y o n σ)
   unfolding with_product
-  of_product Nowhere s t y o n σ l = l
-  of_product (At p v) s t y o n σ l = changed p _ σ (λ c. product-length _ _ _ _ _ _ _ _ c _) l
+  of_product None s t y o n σ l = l
+  of_product (Some (p, v)) s t y o n σ l = changed p _ σ (λ c. product-length _ _ _ _ _ _ _ _ c _) l
 
   of_own : (branch : Branch) (gone : Bool) (f : Frame) (row : ℕ) (k : Spot) (b xi w : List Float) (y : ℕ) (σ : Sums) → Long r d σ
       → Long r d (with_own branch gone f row k b xi w y σ)

@@ -15,7 +15,8 @@ use Rattle.slots.specs.declared.Branch.{Branch}
 use Rattle.slots.specs.declared.layout.Layout.{Layout}
 use Rattle.gaussian.specs.Elimination.{branch_of, message_rows, begun, factorised, outcome, in_branch, branched, nth, eliminate, numbers_in}
 use Rattle.gaussian.specs.Answers.{eliminated_as, left_in, views_of, branched_at}
-use Rattle.gaussian.specs.declared.Eliminated.{Eliminated}
+use Rattle.std.specs.Prelude.{Result}
+use Rattle.cholesky.specs.declared.Fault.{Fault}
 use Rattle.gaussian.proofs.Branches.{left-same}
 
 pub get_d_map : {A : Type 0} (g : ℕ → A) (l : List ℕ) (i : ℕ) (d : A) → i < length l → get_or (map g l) i d ≡ g (get_or l i 0)
@@ -52,7 +53,7 @@ module _ (factors messages : List Float) (keys heads slots kept cleared sizes : 
       (branched-same m (view_at factors messages keys heads slots) (nth (map g slots)) (dim_of sizes cleared) (dim_of sizes kept)
       (rows_of_all m (view_at factors messages keys heads slots) (length slots)) (length slots) e)
 
-  pub slots-are : (u d : ℕ) (m : Layout) (a : Eliminated) (t : List Float) → u ≡ dim_of sizes cleared → d ≡ dim_of sizes kept → m ≡ layout_of kept cleared sizes
+  pub slots-are : (u d : ℕ) (m : Layout) (a : Result ℕ Fault) (t : List Float) → u ≡ dim_of sizes cleared → d ≡ dim_of sizes kept → m ≡ layout_of kept cleared sizes
       → a ≡ eliminated_as (branched_at u d m factors messages keys heads slots) → left_in u d t (branched_at u d m factors messages keys heads slots)
       ≡ numbers_in (branched_at u d m factors messages keys heads slots)
       → (a ≡ eliminated_as (eliminate (views_of factors messages keys heads slots) kept cleared sizes))

@@ -14,12 +14,14 @@ use Rattle.factor.specs.Limits.{max_variables}
 use Rattle.slots.specs.Layouts.{dim_of, layout_of}
 use Rattle.slots.specs.Tables.{rows_by_all}
 use Rattle.gaussian.specs.Elimination.{Outcome, pivot, not_finite, message, eliminate, numbers_in}
-use Rattle.gaussian.specs.Answers.{eliminated_as, message_stored, left_in, views_of, marginal_from, marginal_of, refused_as}
+use Rattle.gaussian.specs.Answers.{eliminated_as, message_stored, left_in, views_of, marginal_from, marginal_of}
 use Rattle.gaussian.specs.Asked.{Asked, Roomy, Sized}
-use Rattle.gaussian.specs.declared.Eliminated.{Eliminated}
-use Rattle.gaussian.specs.declared.Eliminated.TheVariants.{Rows, Pivot, NotFinite}
-use Rattle.gaussian.specs.declared.marginal.Answer.{Answer}
-use Rattle.gaussian.specs.declared.marginal.Ending.TheVariants as ending
+use Rattle.std.specs.Prelude.{Result, Ok, Err}
+use Rattle.cholesky.specs.declared.Fault.{Fault}
+use Rattle.cholesky.specs.declared.Fault.TheVariants.{Pivot, NotFinite}
+use Rattle.gaussian.specs.declared.marginal.Marginal.{Marginal}
+use Rattle.gaussian.specs.declared.marginal.MarginalFault.{MarginalFault}
+use Rattle.gaussian.specs.declared.marginal.MarginalFault.TheVariants as fault
 use Rattle.gaussian.proofs.Enough.{enough}
 use Rattle.gaussian.proofs.Listing.{rows-listed}
 use Rattle.gaussian.proofs.Lengths.{message_sized, rows_few}
@@ -27,13 +29,13 @@ use Rattle.slots.specs.Views.{factor_numbers}
 
 -- ---- the answer
 
-pub at-pivot : (o : Outcome) → eliminated_as o ≡ Pivot → o ≡ pivot
+pub at-pivot : (o : Outcome) → eliminated_as o ≡ Err Pivot → o ≡ pivot
 unfolding eliminated_as
 at-pivot pivot e = refl
 at-pivot not_finite e = cc
 at-pivot (message r a xi w) e = cc
 
-pub at_unbounded : (o : Outcome) → eliminated_as o ≡ NotFinite → o ≡ not_finite
+pub at_unbounded : (o : Outcome) → eliminated_as o ≡ Err NotFinite → o ≡ not_finite
 unfolding eliminated_as
 at_unbounded pivot e = cc
 at_unbounded not_finite e = refl
@@ -46,7 +48,7 @@ pub record Came (o : Outcome) (r : ℕ) : Type 0 where
   pub w : List Float
   pub is : o ≡ message r a xi w
 
-pub at_rows : (o : Outcome) (r : ℕ) → eliminated_as o ≡ Rows r → Came o r
+pub at_rows : (o : Outcome) (r : ℕ) → eliminated_as o ≡ Ok r → Came o r
 unfolding eliminated_as
 at_rows pivot r e = record { a = []; xi = []; w = []; is = cc }
 at_rows not_finite r e = record { a = []; xi = []; w = []; is = cc }
@@ -54,22 +56,19 @@ at_rows (message k a xi w) r e = let g : k ≡ r = cc in record { a = a; xi = xi
 
 -- ---- a refusal
 
-module _ (o : Outcome) (a : Eliminated) (ea : a ≡ eliminated_as o) where
-  pub pivot-stored : (l : List Float) (to : ℕ) → a ≡ Pivot → (Pivot ≡ eliminated_as o) × (l ≡ message_stored l to o)
-  unfolding message_stored
-  pivot-stored l to e = (sym e ∙ ea, rw (at-pivot o (sym ea ∙ e)))
+pub refusal-stored : (o : Outcome) (why : Fault) (l : List Float) (to : ℕ) → Err why ≡ eliminated_as o → l ≡ message_stored l to o
+unfolding eliminated_as message_stored
+refusal-stored pivot why l to e = refl
+refusal-stored not_finite why l to e = refl
+refusal-stored (message r a xi w) why l to e = absurd cc
 
-  pub unbounded_stored : (l : List Float) (to : ℕ) → a ≡ NotFinite → (NotFinite ≡ eliminated_as o) × (l ≡ message_stored l to o)
-  unfolding message_stored
-  unbounded_stored l to e = (sym e ∙ ea, rw (at_unbounded o (sym ea ∙ e)))
+pub marginal-pivot : (key s : ℕ) (o : Outcome) → Err Pivot ≡ eliminated_as o → Err fault.ClearedPivot ≡ marginal_from key s o
+unfolding marginal_from
+marginal-pivot key s o e = rw (at-pivot o (sym e)) refl
 
-  pub marginal-pivot : (key s n : ℕ) (x : Answer) → a ≡ Pivot → n ≡ s → x ≡ refused_as key n ending.ClearedPivot → x ≡ marginal_from key s o
-  unfolding marginal_from
-  marginal-pivot key s n x e es ex = rw (at-pivot o (sym ea ∙ e), ← es) ex
-
-  pub marginal_unbounded : (key s n : ℕ) (x : Answer) → a ≡ NotFinite → n ≡ s → x ≡ refused_as key n ending.NotFinite → x ≡ marginal_from key s o
-  unfolding marginal_from
-  marginal_unbounded key s n x e es ex = rw (at_unbounded o (sym ea ∙ e), ← es) ex
+pub marginal_unbounded : (key s : ℕ) (o : Outcome) → Err NotFinite ≡ eliminated_as o → Err fault.NotFinite ≡ marginal_from key s o
+unfolding marginal_from
+marginal_unbounded key s o e = rw (at_unbounded o (sym e)) refl
 
 -- ---- a message, by its parts
 
@@ -104,8 +103,8 @@ asked_sized {kept} {cleared} {sizes} {factors} {messages} {work} {keys} {heads} 
     (message_sized (views_of factors messages keys heads slots) kept cleared sizes r a xi w e)
 
 module _ {kept cleared sizes : List ℕ} {factors messages : List Float} {work : ℕ} {keys heads slots : List ℕ} (len : length sizes ≡ max_variables)
-    (q : Asked kept cleared sizes factors messages work keys heads slots) (x : Eliminated)
-    (ex : x ≡ eliminated_as (eliminate (views_of factors messages keys heads slots) kept cleared sizes)) (r : ℕ) (er : x ≡ Rows r) where
+    (q : Asked kept cleared sizes factors messages work keys heads slots) (x : Result ℕ Fault)
+    (ex : x ≡ eliminated_as (eliminate (views_of factors messages keys heads slots) kept cleared sizes)) (r : ℕ) (er : x ≡ Ok r) where
   came : Came (eliminate (views_of factors messages keys heads slots) kept cleared sizes) r
   came = at_rows _ r (sym ex ∙ er)
 
@@ -128,7 +127,7 @@ module _ {kept cleared sizes : List ℕ} {factors messages : List Float} {work :
     pub message_sent : (l y : List Float) (to : ℕ)
         → y ≡ splice l to (to + factor_numbers r (dim_of sizes kept)) (part t (frame_of (dim_of sizes cleared) r (dim_of sizes kept)).a
         (frame_of (dim_of sizes cleared) r (dim_of sizes kept)).end)
-        → (Rows r ≡ eliminated_as (eliminate (views_of factors messages keys heads slots) kept cleared sizes)) ×
+        → (Ok r ≡ eliminated_as (eliminate (views_of factors messages keys heads slots) kept cleared sizes)) ×
         (y ≡ message_stored l to (eliminate (views_of factors messages keys heads slots) kept cleared sizes))
     unfolding message_stored
     message_sent l y to ey = (
@@ -152,7 +151,7 @@ module _ {kept cleared sizes : List ℕ} {factors messages : List Float} {work :
         let p₃ = third-part n r came.a came.xi came.w sized.of_a sized.of_xi sized.of_w in
         rw (came.is, standing, p₁, p₂, p₃)
 
-    pub marginal-message : (key s n u : ℕ) (f : Frame) (y : Answer) → n ≡ s → n ≡ dim_of sizes kept → u ≡ dim_of sizes cleared → f ≡ frame_of u r n
+    pub marginal-message : (key s n u : ℕ) (f : Frame) (y : Result Marginal MarginalFault) → n ≡ s → n ≡ dim_of sizes kept → u ≡ dim_of sizes cleared → f ≡ frame_of u r n
         → y ≡ marginal_of key n r (part t f.a f.end) → y ≡ marginal_from key s (eliminate (views_of factors messages keys heads slots) kept cleared sizes)
     marginal-message key s n u f y es en eu ef ey =
         let g : y ≡ marginal_of key n r (part t (frame_of u r n).a (frame_of u r n).end) = rw ef at ey in

@@ -1,36 +1,35 @@
 -- Inner: what an elimination and the making of a marginal tell in the numbers of document 01: 15 is a cleared block with a refused pivot, 16 a marginal
 -- with one, and 17 a message or marginal that is not finite.
-use Rattle.std.specs.Prelude.{[], ◌∷◌, ℕ}
+use Rattle.std.specs.Prelude.{[], ◌∷◌, ℕ, Result, Ok, Err}
 use Rattle.cholesky.specs.Forms.{Form}
 use Rattle.cholesky.specs.Forms as forms
-use Rattle.cholesky.specs.declared.exchange.Exchanged.{Exchanged}
-use Rattle.cholesky.specs.declared.exchange.Exchanged.TheVariants as exchanged
+use Rattle.cholesky.specs.declared.Fault.{Fault}
+use Rattle.cholesky.specs.declared.Fault.TheVariants.{Pivot, NotFinite}
 use Rattle.factor.specs.Told.{Told, value, refusal}
 use Rattle.gaussian.specs.Elimination.{Outcome, pivot, not_finite, message}
 use Rattle.gaussian.specs.Marginals.{moments_of}
-use Rattle.gaussian.specs.declared.Eliminated.{Eliminated}
-use Rattle.gaussian.specs.declared.Eliminated.TheVariants as eliminated
-use Rattle.gaussian.specs.declared.marginal.Ending.{Ending}
-use Rattle.gaussian.specs.declared.marginal.Ending.TheVariants as ending
+use Rattle.gaussian.specs.declared.marginal.Marginal.{Marginal}
+use Rattle.gaussian.specs.declared.marginal.MarginalFault.{MarginalFault}
+use Rattle.gaussian.specs.declared.marginal.MarginalFault.TheVariants as fault
 
 -- ---- of the code's answers
 
 -- the rows of the message
-unfoldable pub eliminated_told : Eliminated → Told
-eliminated_told (eliminated.Rows rows) = value (rows ∷ [])
-eliminated_told eliminated.Pivot = refusal 15 []
-eliminated_told eliminated.NotFinite = refusal 17 []
+unfoldable pub eliminated_told : Result ℕ Fault → Told
+eliminated_told (Ok rows) = value (rows ∷ [])
+eliminated_told (Err Pivot) = refusal 15 []
+eliminated_told (Err NotFinite) = refusal 17 []
 
-unfoldable pub solved_told : Exchanged → Told
-solved_told exchanged.Done = value []
-solved_told exchanged.Pivot = refusal 16 []
-solved_told exchanged.NotFinite = refusal 17 []
+unfoldable pub solved_told : Result (Unit {0}) Fault → Told
+solved_told (Ok u) = value []
+solved_told (Err Pivot) = refusal 16 []
+solved_told (Err NotFinite) = refusal 17 []
 
-unfoldable pub ending_told : Ending → Told
-ending_told ending.Done = value []
-ending_told ending.ClearedPivot = refusal 15 []
-ending_told ending.Pivot = refusal 16 []
-ending_told ending.NotFinite = refusal 17 []
+unfoldable pub marginal_told : Result Marginal MarginalFault → Told
+marginal_told (Ok marginal) = value []
+marginal_told (Err fault.ClearedPivot) = refusal 15 []
+marginal_told (Err fault.Pivot) = refusal 16 []
+marginal_told (Err fault.NotFinite) = refusal 17 []
 
 -- ---- of what the definitions come to
 

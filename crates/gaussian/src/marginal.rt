@@ -3,17 +3,19 @@ ghost use Rattle.std.specs.Prelude.{◌≡◌, [], ◌∷◌, ◌+◌, ◌*◌, 
 ghost use Rattle.matrix.specs.Sums.{plus_zero};
 ghost use Rattle.factor.specs.Limits.{max_size, max_total};
 ghost use Rattle.gaussian.specs.Elimination.{eliminate};
-ghost use Rattle.gaussian.specs.Answers.{views_of, marginal_from, marginal_of, moments_in, refused_as};
+ghost use Rattle.gaussian.specs.Answers.{views_of, marginal_from, marginal_of, moments_in};
 ghost use Rattle.gaussian.specs.Asked.{Asked};
 ghost use Rattle.gaussian.specs.Marginals.{moments_of};
-ghost use Rattle.gaussian.specs.Told.{solved_told, ending_told, moments_told, last_told};
+ghost use Rattle.gaussian.specs.Told.{solved_told, marginal_told, moments_told, last_told};
 ghost use Rattle.slots.specs.Views.{factor_numbers};
 ghost use Rattle.cholesky.specs.Answers.{told};
 
-use crate::{Eliminated, eliminate_in};
-use cholesky::exchange::{Exchanged, exchange};
+use crate::{Elimination, eliminate_in};
+use cholesky::Fault;
+use cholesky::exchange::exchange;
 use factor::limits::{SIZE, VARIABLES};
-use matrix::{Update, View};
+use matrix::{Matrix, Update, View};
+use slots::Sources;
 use slots::layout::dim_of;
 use slots::limits::SCRATCH;
 use workspace::frame_of;
@@ -30,20 +32,12 @@ pub struct Marginal {
     pub covariance: [f64; SQUARE],
 }
 
-// How the making of a marginal ended: with numbers, at a refused pivot of the cleared block or of the message's own W, or with a number that is not finite.
-#[derive(Drop)]
-pub enum Ending {
-    Done,
+// Why a key has no marginal: a refused pivot of the cleared block or of the message's own W, or a number that is not finite.
+#[derive(Clone, Copy, Debug, PartialEq, Eq)]
+pub enum MarginalFault {
     ClearedPivot,
     Pivot,
     NotFinite,
-}
-
-// The ending, and the marginal; refused, it holds zeros.
-#[derive(Drop)]
-pub struct Answer {
-    pub ending: Ending,
-    pub marginal: Marginal,
 }
 
 // The mean and the covariance of a message of y rows over s columns. The slices lent hold zeros; t takes W times A.
@@ -57,50 +51,37 @@ fn moments(
     l: &mut [f64],
     covariance: &mut [f64],
     t: &mut [f64],
-) -> Exchanged
+) -> Result<(), Fault>
     requires s_in_bounds { (y * s ≤ length a.now) × (y ≤ length xi.now) × (y * y ≤ length w.now) × (y * s ≤ length t.old) × (s ≤ max_size) }
     requires mean_value { (mean.old ≡ replicate s plus_zero) × (l.old ≡ replicate (s * s) plus_zero) × (covariance.old ≡ replicate (s * s) plus_zero) }
     ensures w_value { moments_of y s a.now xi.now w.now ≡ told result mean.new covariance.new }
     ensures result_value { solved_told result ≡ moments_told (moments_of y s a.now xi.now w.now) }
 {
-    let tall = View {
-        at: 0,
-        down: 1,
-        across: y,
-    };
     let square = View {
         at: 0,
         down: 1,
         across: s,
     };
-    matrix::gemv_tr(mean, square, s, Update::Add, a, tall, xi, tall, y);
-    matrix::quadform(l, square, s, w, tall, a, tall, y, t);
+    let tall = Matrix::new(a, y, s);
+    let vector = Matrix::new(xi, y, 1);
+    let weight = Matrix::new(w, y, y);
+    matrix::gemv_tr(mean, square, Update::Add, tall, vector);
+    matrix::quadform(l, square, weight, tall, t);
     exchange(l, s, mean, covariance)
-}
-
-// The answer of a refusal.
-fn refused(key: usize, size: usize, ending: Ending) -> Answer
-    ensures { result ≡ refused_as key size ending }
-{
-    Answer {
-        ending,
-        marginal: Marginal {
-            key,
-            size,
-            mean: [0.0; SIZE],
-            covariance: [0.0; SQUARE],
-        },
-    }
 }
 
 impl Marginal {
     // The marginal of a key of size s from the message of so many rows that keeps it alone: A, xi and W stand at the start of the part lent.
-    pub fn from(key: usize, size: usize, rows: usize, message: &[f64]) -> Answer
+    pub fn from(
+        key: usize,
+        size: usize,
+        rows: usize,
+        message: &[f64],
+    ) -> Result<Marginal, MarginalFault>
         requires { (size ≤ max_size) × (rows ≤ max_total) × (factor_numbers rows size ≤ length message.now) }
         ensures value { result ≡ marginal_of key size rows message.now }
-        ensures ending_value { ending_told result.ending ≡ moments_told (moments_in rows size message.now) }
+        ensures told_value { marginal_told result ≡ moments_told (moments_in rows size message.now) }
     {
-        let o = 0;
         let p = rows * size;
         let q = p + rows;
         let e = q + rows * rows;
@@ -110,67 +91,62 @@ impl Marginal {
         let mut l = [0.0; SQUARE];
         let mut t = [0.0; SCRATCH];
         match moments(
-            &message[o..p],
+            &message[..p],
             &message[p..q],
             &message[q..e],
             rows,
             size,
-            &mut mean[0..size],
-            &mut l[0..square],
-            &mut covariance[0..square],
+            &mut mean[..size],
+            &mut l[..square],
+            &mut covariance[..square],
             &mut t,
         ) {
-            Exchanged::Done => {}
-            Exchanged::Pivot => return refused(key, size, Ending::Pivot),
-            Exchanged::NotFinite => return refused(key, size, Ending::NotFinite),
-        }
-        Answer {
-            ending: Ending::Done,
-            marginal: Marginal {
+            Ok(()) => Ok(Marginal {
                 key,
                 size,
                 mean,
                 covariance,
-            },
+            }),
+            Err(Fault::Pivot) => Err(MarginalFault::Pivot),
+            Err(Fault::NotFinite) => Err(MarginalFault::NotFinite),
         }
     }
 }
 
 // The marginal of a key. The last elimination keeps that key alone, and its message stays in the work store.
 pub fn marginalize<'a>(
-    factors: &'a [f64],
-    messages: &'a [f64],
+    s: Sources<'a>,
     work: &mut [f64],
     key: usize,
-    cleared: &[usize],
+    cleared: &'a [usize],
     sizes: [u8; VARIABLES],
-    keys: &[usize],
-    heads: &[usize],
-    slots: &[usize],
-) -> Answer
-    requires asked { Asked (key ∷ []) cleared.now sizes factors.now messages.now (length work.old) keys.now heads.now slots.now }
+    slots: &'a [usize],
+) -> Result<Marginal, MarginalFault>
+    requires asked { Asked (key ∷ []) cleared.now sizes s.factors.now s.messages.now (length work.old) s.tables.keys.now s.tables.heads.now slots.now }
     requires key_bound { get_or sizes key 0 ≤ max_size }
     ensures value { result
         ≡ marginal_from key (get_or sizes key 0)
-        (eliminate (views_of factors.now messages.now keys.now heads.now slots.now)
+        (eliminate (views_of s.entry.factors.now s.entry.messages.now s.entry.tables.keys.now s.entry.tables.heads.now slots.now)
         (key ∷ []) cleared.now sizes) }
-    ensures ending_value { ending_told result.ending
+    ensures told_value { marginal_told result
         ≡ last_told (get_or sizes key 0)
-        (eliminate (views_of factors.now messages.now keys.now heads.now slots.now)
+        (eliminate (views_of s.entry.factors.now s.entry.messages.now s.entry.tables.keys.now s.entry.tables.heads.now slots.now)
         (key ∷ []) cleared.now sizes) }
 {
     let kept = [key];
     let size = dim_of(&kept, sizes);
-    match eliminate_in(
-        factors, messages, work, &kept, cleared, sizes, keys, heads, slots,
-    ) {
-        Eliminated::Rows(rows) => {
+    let a = Elimination {
+        kept: &kept,
+        cleared,
+        sizes,
+        slots,
+    };
+    match eliminate_in(s, work, a) {
+        Ok(rows) => {
             let f = frame_of(dim_of(cleared, sizes), rows, size);
-            let p = f.a;
-            let q = f.end;
-            Marginal::from(key, size, rows, &work[p..q])
+            Marginal::from(key, size, rows, &work[f.a..f.end])
         }
-        Eliminated::Pivot => refused(key, size, Ending::ClearedPivot),
-        Eliminated::NotFinite => refused(key, size, Ending::NotFinite),
+        Err(Fault::Pivot) => Err(MarginalFault::ClearedPivot),
+        Err(Fault::NotFinite) => Err(MarginalFault::NotFinite),
     }
 }

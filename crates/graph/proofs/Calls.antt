@@ -10,14 +10,13 @@ use Rattle.factor.specs.Limits.{max_keys}
 use Rattle.factor.specs.Factor.{prior_of, observation_of}
 use Rattle.factor.specs.declared.Factor.{Factor}
 use Rattle.graph.specs.Record.{size_at, fresh, live_at, valid}
-use Rattle.graph.specs.Registration.{refused, with_variable, FactorVerdict, accept, with_factor, settle, stored, add_prior, prior_store, add_observation}
+use Rattle.graph.specs.Registration.{Added, refused, with_variable, FactorVerdict, accept, with_factor, settle, stored, add_prior, prior_store, add_observation}
 use Rattle.graph.specs.Registration.{observation_store, retired, replacing, superseding, superseding_store}
 use Rattle.graph.specs.Reached.{Exposure, Call, prior, observation, variable, register, supersede, entered, entered_store, exposed, answered, graph_after}
 use Rattle.graph.specs.Reached.{lent, store_after, keys_given, numbers_named, yields, Reached}
 use Rattle.graph.specs.declared.Symbol.{Symbol}
 use Rattle.graph.specs.declared.Graph.{Graph}
-use Rattle.graph.specs.declared.Added.{Added}
-use Rattle.graph.specs.declared.Outcome.TheVariants.{Key, Number}
+use Rattle.std.specs.Prelude.{Ok}
 use Rattle.graph.specs.declared.refusal.Refusal.{Refusal}
 use Rattle.graph.specs.declared.refusal.Refusal.TheVariants.{NotLive, NoSuchGraph}
 use Rattle.graph.proofs.Checking.{by, Named, Taken, variable-cases, prior-cases, observation-cases}
@@ -27,12 +26,12 @@ use Rattle.graph.proofs.Checking.{by, Named, Taken, variable-cases, prior-cases,
 pub data Comes (g : Graph) (keys olds : List ℕ) (store : List Float) : Added → List Float → Type 0 where
   turned : (why : Refusal) → Comes g keys olds store (refused g why) store
   named : (name : Symbol) (size : ℕ) → Named g name size
-      → Comes g keys olds store (record { graph = with_variable g name size; outcome = Key g.variables }) store
+      → Comes g keys olds store (record { graph = with_variable g name size; outcome = Ok g.variables }) store
   taken : (f : Factor) (a mean variance xi w : List Float) → Taken g f a mean variance store xi w → take f.touched f.keys ≡ keys → olds ≡ []
       → Comes g keys olds store (settle g f (accept (a ++ xi ++ w))) (stored g store (accept (a ++ xi ++ w)))
   replaced : (j : ℕ) → live_at g j ≡ true → (f : Factor) (a mean variance xi w : List Float) → Taken g f a mean variance store xi w
       → take f.touched f.keys ≡ keys → olds ≡ j ∷ []
-      → Comes g keys olds store (record { graph = retired (with_factor g f) j; outcome = Number g.count }) (stored g store (accept (a ++ xi ++ w)))
+      → Comes g keys olds store (record { graph = retired (with_factor g f) j; outcome = Ok g.count }) (stored g store (accept (a ++ xi ++ w)))
 
 -- ---- the ways out of a superseding call, whose plain call answers `plain` and leaves `s`
 

@@ -14,30 +14,29 @@ use Rattle.cholesky.specs.Forms.{Form, form, pivot, not_finite, exchanged}
 use Rattle.factor.specs.Storing.{form_laid, FactorRoom}
 use Rattle.factor.specs.declared.Factor.{Factor}
 use Rattle.factor.proofs.Counting.{every-at}
-use Rattle.cholesky.specs.declared.exchange.Exchanged.{Exchanged}
-use Rattle.cholesky.specs.declared.exchange.Exchanged.TheVariants as cholesky
+use Rattle.cholesky.specs.declared.Fault.{Fault}
+use Rattle.cholesky.specs.declared.Fault.TheVariants as cholesky
 use Rattle.graph.specs.Record.{offset}
-use Rattle.graph.specs.Registration.{FactorVerdict, refuse, refused, with_factor, settle, stored, weighed_verdict}
+use Rattle.graph.specs.Registration.{FactorVerdict, refuse, with_factor, settle, stored, weighed_verdict}
 use Rattle.graph.specs.declared.Graph.{Graph}
-use Rattle.graph.specs.declared.Added.{Added}
-use Rattle.graph.specs.declared.Outcome.TheVariants.{Number}
+use Rattle.std.specs.Prelude.{Result, Ok, Err}
 use Rattle.graph.specs.declared.refusal.Refusal.{Refusal}
 use Rattle.graph.specs.declared.refusal.Refusal.TheVariants.{NotFinite, VariancePivot, NotSymmetric}
 use Rattle.graph.proofs.Checking.{Passed, checks, not-symmetric, weighs, a-long, mean_long, variance_long}
 
--- a refusal answers the graph as it came, and leaves the store
-pub turned_back_lem : (g : Graph) (f : Factor) (store s : List Float) (v : FactorVerdict) (why : Refusal) (r : Added) → v ≡ refuse why → r ≡ refused g why
-    → s ≡ store
-    → (r ≡ settle g f v) × (s ≡ stored g store v)
-turned_back_lem g f store s v why r e h k = rw e (h, k)
+-- a call that is turned back leaves the graph and the store
+pub turned_back_lem : (g : Graph) (f : Factor) (store s : List Float) (v : FactorVerdict) (why : Refusal) → v ≡ refuse why → s ≡ store
+    → (g ≡ (settle g f v).graph) × (Err why ≡ (settle g f v).outcome) × (s ≡ stored g store v)
+turned_back_lem g f store s v why e k = rw e (refl, refl, k)
 
--- the answer and the store s, by how the weighing ended
+-- what is answered and the store s, by how the weighing ended
 module _ (g : Graph) (f : Factor) (a mean variance store s : List Float) where
-  abbrev pub Ends : Exchanged → Type 0
-  Ends cholesky.Done = (◌≡◌ {A = Added} record { graph = with_factor g f; outcome = Number g.count } (settle g f (checks g f a mean variance store))) ×
-      (s ≡ stored g store (checks g f a mean variance store))
-  Ends cholesky.Pivot = (checks g f a mean variance store ≡ refuse VariancePivot) × (s ≡ store)
-  Ends cholesky.NotFinite = (checks g f a mean variance store ≡ refuse NotFinite) × (s ≡ store)
+  abbrev pub Ends : Result (Unit {0}) Fault → Type 0
+  Ends (Ok u) = (with_factor g f ≡ (settle g f (checks g f a mean variance store)).graph)
+      × (Ok g.count ≡ (settle g f (checks g f a mean variance store)).outcome)
+      × (s ≡ stored g store (checks g f a mean variance store))
+  Ends (Err cholesky.Pivot) = (checks g f a mean variance store ≡ refuse VariancePivot) × (s ≡ store)
+  Ends (Err cholesky.NotFinite) = (checks g f a mean variance store ≡ refuse NotFinite) × (s ≡ store)
 
 -- what the code has tested before it looks at the variance's pairs, with the start that it has found
 pub record Tested (g : Graph) (f : Factor) (a mean variance store : List Float) (start : ℕ) : Type 0 where
@@ -75,11 +74,11 @@ module _ (g : Graph) (f : Factor) (a mean variance store : List Float) (start : 
 
     ends : (v : Form) → checks g f a mean variance store ≡ weighed_verdict a v → s ≡ form_laid v a store start → Ends g f a mean variance store s (end_of v)
     unfolding end_of
-    ends (form xi w) c l = rw (c, ← t.next) (refl, l)
+    ends (form xi w) c l = rw (c, ← t.next) (refl, refl, l)
     ends pivot c l = (c, l)
     ends not_finite c l = (c, l)
 
-    pub ended : (r : Exchanged) → r ≡ end_of (exchanged (length mean) mean variance) → s
+    pub ended : (r : Result (Unit {0}) Fault) → r ≡ end_of (exchanged (length mean) mean variance) → s
         ≡ form_laid (exchanged (length mean) mean variance) a store start → Ends g f a mean variance store s r
     ended r e l =
         let c = weighs g f a mean variance store passed ∙ ap (λ (y : ℕ). weighed_verdict a (exchanged y mean variance)) (sym long) in

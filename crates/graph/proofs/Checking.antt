@@ -16,12 +16,11 @@ use Rattle.factor.specs.declared.Factor.{Factor}
 use Rattle.factor.proofs.Counting.{every-at}
 use Rattle.factor.proofs.Fitting.{prior-fits, observation-fits, observation-long}
 use Rattle.graph.specs.Record.{size_at, scalar, size_fits, free, total, offset, valid}
-use Rattle.graph.specs.Registration.{refused, with_variable, add_variable, FactorVerdict, accept, refuse, weighed_verdict, factor_verdict, prior_verdict}
+use Rattle.graph.specs.Registration.{Added, refused, with_variable, add_variable, FactorVerdict, accept, refuse, weighed_verdict, factor_verdict, prior_verdict}
 use Rattle.graph.specs.Registration.{counts_fit, observation_verdict}
 use Rattle.graph.specs.declared.Symbol.{Symbol}
 use Rattle.graph.specs.declared.Graph.{Graph}
-use Rattle.graph.specs.declared.Added.{Added}
-use Rattle.graph.specs.declared.Outcome.TheVariants.{Key}
+use Rattle.std.specs.Prelude.{Ok}
 use Rattle.graph.specs.declared.refusal.Refusal.{Refusal}
 use Rattle.graph.specs.declared.refusal.Refusal.TheVariants.{NotALetter, SizeOutside, KeysNotRising, CountOutside, LengthUnlike, NotFinite}
 use Rattle.graph.specs.declared.refusal.Refusal.TheVariants.{VariancePivot, NameTaken, NoSuchKey, PastLimit, FactorStoreShort, NotSymmetric, NoSuchGraph}
@@ -80,12 +79,12 @@ module _ (g : Graph) (name : Symbol) (size : ℕ) where
           unfolding add_variable every
           too_large m l = simp (h30, h1, h2, h10, lt-ltb _ _ m, lt-leb _ _ l)
 
-  pub named : Named → registering ≡ record { graph = with_variable g name size; outcome = Key g.variables }
+  pub named : Named → registering ≡ record { graph = with_variable g name size; outcome = Ok g.variables }
   unfolding add_variable every
   named n = simp (n.sound, n.letter, n.sized, n.new, lt-ltb _ _ n.few, le-leb _ _ n.room)
 
   pub variable-cases : (P : Added → Type 0) → ((why : Refusal) → P (refused g why))
-      → (Named → P (record { graph = with_variable g name size; outcome = Key g.variables })) → P registering
+      → (Named → P (record { graph = with_variable g name size; outcome = Ok g.variables })) → P registering
   variable-cases P back taken =
       by (valid g)
       (λ h30. by (scalar name.0)

@@ -6,11 +6,10 @@ use Rattle.factor.specs.Counting.{every, all, sum}
 use Rattle.factor.specs.Factor.{above, key_fits, rows_fit, fits, is_clear, first_column, a_numbers, numbers, lengths_fit, given_finite, symmetric}
 use Rattle.graph.specs.Record.{scalar, size_fits, same, free, total, registered, clear, variable_place, variables_fit, factor_place, factors_fit}
 use Rattle.graph.specs.Record.{offset, live_at, last_live, valid}
-use Rattle.graph.specs.Registration.{add_variable, factor_verdict, prior_verdict, add_prior, prior_store, counts_fit, observation_verdict}
+use Rattle.graph.specs.Registration.{Added, add_variable, factor_verdict, prior_verdict, add_prior, prior_store, counts_fit, observation_verdict}
 use Rattle.graph.specs.Registration.{add_observation, observation_store, superseding, superseding_store}
 use Rattle.graph.specs.Reached.{Call, answered}
 use Rattle.graph.specs.declared.Graph.{Graph}
-use Rattle.graph.specs.declared.Added.{Added}
 
 -- the test of a record
 unfoldable pub computed_test : Graph → Bool

@@ -17,10 +17,9 @@ use Rattle.factor.proofs.Counting.{every-at, sum-le, sum_more, sum_ext, sum-stop
 use Rattle.factor.proofs.Fitting.{fits_touched, fits-key, prior_touched, prior-is, some-rows, few_rows, touches, touches-long, touches-rising}
 use Rattle.factor.proofs.Fitting.{touches-known, observation-is, clear-is}
 use Rattle.graph.specs.Record.{no_name, name_at, size_at, factor_at, scalar, size_fits, free, total, registered, live_at, valid}
-use Rattle.graph.specs.Registration.{with_factor, retired, replacing}
+use Rattle.graph.specs.Registration.{Added, with_factor, retired, replacing}
 use Rattle.graph.specs.Reached.{Exposure, variable, register, supersede, graph_after, yields, Reached}
 use Rattle.graph.specs.declared.Graph.{Graph}
-use Rattle.graph.specs.declared.Added.{Added}
 use Rattle.graph.proofs.Calls.{in_place_lem, reached-more}
 use Rattle.graph.proofs.Filling.{fill, fill-set, fill-below, fill-above, fill-all, fill-length}
 use Rattle.graph.proofs.Keeping.{Shaped, Sound, sound_of, free_ext, clear_name, clear-size, good_of}

@@ -15,7 +15,7 @@ use Rattle.graph.specs.Registration.{refused, settle, FactorVerdict, accept, ref
 use Rattle.graph.specs.Registration.{add_observation, observation_store, superseding, superseding_store}
 use Rattle.graph.specs.Told.{call_told}
 use Rattle.graph.specs.declared.Graph.{Graph}
-use Rattle.graph.specs.declared.Outcome.TheVariants.{Number}
+use Rattle.std.specs.Prelude.{Ok}
 use Rattle.graph.specs.declared.refusal.Refusal.TheVariants.{KeysNotRising, NoSuchKey, NotFinite, VariancePivot, NotLive, NotSymmetric}
 use Rattle.graph.proofs.Computing.{computed_test, computed_call}
 
@@ -167,7 +167,7 @@ first_yielded : (add_prior pair 0 (one ∷ []) (one ∷ []) (nan ∷ nan ∷ [])
 unfolding pair first
 first_yielded = refl
 
-in_its_place : superseding first 0 (add_prior first 1 (two ∷ []) (four ∷ []) (one ∷ one ∷ nan ∷ nan ∷ [])) ≡ record { graph = second; outcome = Number 1 }
+in_its_place : superseding first 0 (add_prior first 1 (two ∷ []) (four ∷ []) (one ∷ one ∷ nan ∷ nan ∷ [])) ≡ record { graph = second; outcome = Ok 1 }
 unfolding first second
 in_its_place = refl
 

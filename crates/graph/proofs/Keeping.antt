@@ -18,11 +18,10 @@ use Rattle.factor.proofs.Counting.{every-at, every_3, every_6, by_test, all_of, 
 use Rattle.factor.proofs.Fitting.{fits_more, fits-live}
 use Rattle.graph.specs.Record.{no_name, name_at, size_at, factor_at, fresh, scalar, size_fits, same, free, total, registered, clear, variable_place}
 use Rattle.graph.specs.Record.{variables_fit, factor_place, factors_fit, live_at, last_live, valid}
-use Rattle.graph.specs.Registration.{with_variable, with_factor, retired}
+use Rattle.graph.specs.Registration.{Added, with_variable, with_factor, retired}
 use Rattle.graph.specs.Reached.{Call, graph_after, yields, Reached}
 use Rattle.graph.specs.declared.Symbol.{Symbol}
 use Rattle.graph.specs.declared.Graph.{Graph}
-use Rattle.graph.specs.declared.Added.{Added}
 use Rattle.graph.proofs.Checking.{Named, Taken}
 use Rattle.graph.proofs.Calls.{Comes, turned, named, taken, replaced, comes}
 use Rattle.graph.proofs.Validity.{valid-variables, valid-count, valid-total, valid-registered, valid-clear, valid-factor, valid_no_factor, valid-last}

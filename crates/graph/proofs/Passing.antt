@@ -18,13 +18,12 @@ use Rattle.factor.proofs.Counting.{every_3}
 use Rattle.factor.proofs.Symmetry.{diagonal-symmetric}
 use Rattle.cholesky.proofs.Forms.{identity-exchanged}
 use Rattle.graph.specs.Record.{size_at, offset, valid}
-use Rattle.graph.specs.Registration.{with_variable, accept, with_factor, settle, weighed_verdict, factor_verdict, prior_verdict, add_prior}
+use Rattle.graph.specs.Registration.{Added, with_variable, accept, with_factor, settle, weighed_verdict, factor_verdict, prior_verdict, add_prior}
 use Rattle.graph.specs.Registration.{counts_fit, observation_verdict, add_observation}
 use Rattle.graph.specs.Reached.{Exposure, prior, observation, variable, entered, graph_after}
 use Rattle.graph.specs.declared.Symbol.{Symbol}
 use Rattle.graph.specs.declared.Graph.{Graph}
-use Rattle.graph.specs.declared.Added.{Added}
-use Rattle.graph.specs.declared.Outcome.TheVariants.{Number}
+use Rattle.std.specs.Prelude.{Ok}
 use Rattle.graph.proofs.Checking.{Named, named, weighs, prior_as, observation_as}
 
 pub variable-taken : (g : Graph) (name : Symbol) (size : ℕ) → Named g name size → graph_after g (variable name size) ≡ with_variable g name size
@@ -40,7 +39,7 @@ room g f = zeros (offset g g.count + numbers g.sizes f)
 
 -- the plain call is answered with the next number, and the graph has the factor
 abbrev pub EntersAs : Graph → Exposure → Factor → Type 0
-EntersAs g exposure f = entered g exposure (room g f) ≡ record { graph = with_factor g f; outcome = Number g.count }
+EntersAs g exposure f = entered g exposure (room g f) ≡ record { graph = with_factor g f; outcome = Ok g.count }
 
 module _ (g : Graph) (f : Factor) (h12 : g.count < max_factors) (a : List Float) (long : length a ≡ a_numbers g.sizes f) (finite : all_finite a ≡ true) where
   lengths : lengths_fit g.sizes f (length a) (length (zeros f.rows)) (length (identity_of f.rows)) ≡ true

@@ -1,9 +1,10 @@
 -- What a valid record tells. Assumes nothing.
 use Prim.Native.Nat.{ℕ, ◌+◌, ◌-◌, ◌<◌, ◌≤◌}
-use mathlib.Core.Path.{◌≡◌, refl, ap, ◌∙◌}
-use mathlib.Core.Bool.{Bool, true, false, and-true}
+use mathlib.Core.Path.{◌≡◌, refl, ap, sym, ◌∙◌}
+use mathlib.Core.Bool.{Bool, true, false, and-true, cond, not}
 use native.Mathlib.Omega.{arith}
 use borrow.Author.Tests.{leb-true, ltb-true, lt-ltb, le-ltb, ne_eqb}
+use Rattle.std.specs.Prelude.{Result, Ok, Err}
 use Rattle.factor.specs.Limits.{max_variables, max_size, max_total, max_factors, max_keys, max_rows}
 use Rattle.factor.specs.Counting.{every}
 use Rattle.factor.specs.Factor.{key_at, fits, is_clear, width, numbers}
@@ -14,6 +15,8 @@ use Rattle.factor.proofs.KeyOrder.{width-within}
 use Rattle.graph.specs.Record.{size_at, factor_at, size_fits, registered, clear, variable_place, variables_fit, factor_place, factors_fit, offset, total}
 use Rattle.graph.specs.Record.{live_at, last_live, valid}
 use Rattle.graph.specs.declared.Graph.{Graph}
+use Rattle.graph.specs.declared.refusal.Refusal.{Refusal}
+use Rattle.graph.specs.declared.refusal.Refusal.TheVariants.{NotLive, NoSuchGraph}
 
 -- a size is within the limit
 pub size-most : (s : ℕ) → size_fits s ≡ true → s ≤ max_size
@@ -124,3 +127,16 @@ offset-within g i n l = omega (
   sum_more (λ k. numbers g.sizes (factor_at g k)) i,
   sum-le (λ k. numbers g.sizes (factor_at g k)) (i + 1) n (omega arith),
 )
+
+-- a factor that a call may supersede has a place
+pub live_checked : (g : Graph) (j : ℕ) (u : Unit {0}) (r : Result (Unit {0}) Refusal)
+    → r ≡ cond (not (valid g)) (Err NoSuchGraph) (cond (not (live_at g j)) (Err NotLive) (Ok tt))
+    → r ≡ Ok u → j < max_factors
+live_checked g j u r e o = go (valid g) (live_at g j) refl refl (sym e ∙ o)
+  where
+    go : (a b : Bool) → valid g ≡ a → live_at g j ≡ b
+        → ◌≡◌ {A = Result (Unit {0}) Refusal} (cond (not a) (Err NoSuchGraph) (cond (not b) (Err NotLive) (Ok tt))) (Ok u)
+        → j < max_factors
+    go true true v l h = omega (arith, live_below g j l, valid-count g v)
+    go true false v l h = absurd (let z : ◌≡◌ {A = ℕ} 0 1 = cc in omega arith)
+    go false b v l h = absurd (let z : ◌≡◌ {A = ℕ} 0 1 = cc in omega arith)

@@ -1,10 +1,9 @@
 -- The registering calls: what each is given, answers and stores, and the graphs that lists of them yield. Definitions only.
 use Rattle.std.specs.Prelude.{◌≡◌, List, [], ◌∷◌, ℕ, Float}
 use Rattle.graph.specs.Record.{fresh}
-use Rattle.graph.specs.Registration.{add_variable, add_prior, prior_store, add_observation, observation_store, superseding, superseding_store}
+use Rattle.graph.specs.Registration.{Added, add_variable, add_prior, prior_store, add_observation, observation_store, superseding, superseding_store}
 use Rattle.graph.specs.declared.Symbol.{Symbol}
 use Rattle.graph.specs.declared.Graph.{Graph}
-use Rattle.graph.specs.declared.Added.{Added}
 
 -- what a factor's call is given
 pub data Exposure : Type 0 where

@@ -6,7 +6,8 @@ mod superseding;
 
 use factor::limits::FACTORS;
 use graph::{Graph, Symbol};
-use report::{forged, observation, prior, variable};
+use report::{changed, forged, observation, prior, variable};
+use std::array;
 
 fn main(rt: HostRuntime) {
     variables(&rt);
@@ -39,12 +40,11 @@ fn variables(rt: &HostRuntime) {
 
 // Keys 0, 1 and 2 of sizes 1, 2 and 1.
 fn three() -> Graph {
-    let a = Graph::new().add_variable(Symbol(97, 0), 1);
-    let g = a.graph;
-    let b = g.add_variable(Symbol(97, 1), 2);
-    let g = b.graph;
-    let c = g.add_variable(Symbol(98, 0), 1);
-    c.graph
+    let mut g = Graph::new();
+    let _ = g.add_variable(Symbol(97, 0), 1);
+    let _ = g.add_variable(Symbol(97, 1), 2);
+    let _ = g.add_variable(Symbol(98, 0), 1);
+    g
 }
 
 fn priors(rt: &HostRuntime, g: Graph) {
@@ -284,8 +284,7 @@ fn limits(rt: &HostRuntime, g: Graph) {
     variable(rt, b"sizes to 32", g, 99, 4, 4);
     let mut full = Graph::new();
     for i in 0..32 {
-        let added = full.add_variable(Symbol(97, i), 1);
-        full = added.graph;
+        let _ = full.add_variable(Symbol(97, i), 1);
     }
     variable(rt, b"a 33rd variable", full, 98, 0, 1);
     variable(rt, b"a 33rd variable, name taken", full, 97, 31, 1);
@@ -293,11 +292,7 @@ fn limits(rt: &HostRuntime, g: Graph) {
 
 // The identity of dimension 6.
 fn identity() -> [f64; 36] {
-    let mut square = [0.0; 36];
-    for i in 0..6 {
-        square[7 * i] = 1.0;
-    }
-    square
+    array::from_fn(|i| if i % 7 == 0 { 1.0 } else { 0.0 })
 }
 
 // As many keys and rows as an observation may have, and one more.
@@ -305,10 +300,10 @@ fn widest(rt: &HostRuntime, g: Graph) {
     let one = [1.0];
     let six = [1.0; 6];
     let seven = [1.0; 7];
-    let d = g.add_variable(Symbol(98, 1), 1);
-    let four = d.graph;
-    let e = four.add_variable(Symbol(98, 2), 1);
-    let five = e.graph;
+    let mut four = g;
+    let _ = four.add_variable(Symbol(98, 1), 1);
+    let mut five = four;
+    let _ = five.add_variable(Symbol(98, 2), 1);
     observation(
         rt,
         b"4 keys",
@@ -340,10 +335,9 @@ fn widest(rt: &HostRuntime, g: Graph) {
 pub fn filled(n: usize) -> Graph {
     let one = [1.0];
     let mut full = Graph::new();
-    for i in 0..n {
+    for _ in 0..n {
         let mut store = [9.0; 130];
-        let added = full.add_observation(&[], 1, &[], &one, &one, &mut store);
-        full = added.graph;
+        let _ = full.add_observation(&[], 1, &[], &one, &one, &mut store);
     }
     full
 }
@@ -367,75 +361,42 @@ fn factor_limit(rt: &HostRuntime) {
 }
 
 fn forged_variables(rt: &HostRuntime, g: Graph) {
-    let mut bad = g;
-    bad.variables = 33;
-    forged(rt, b"33 variables", bad);
-    bad = g;
-    bad.variables = 2;
-    forged(rt, b"a variable more than counted", bad);
-    bad = g;
-    bad.variables = 4;
-    forged(rt, b"a variable less than counted", bad);
-    bad = g;
-    bad.symbols[1] = Symbol(97, 0);
-    forged(rt, b"a name twice", bad);
-    bad = g;
-    bad.symbols[2] = Symbol(0xDFFF, 0);
-    forged(rt, b"a surrogate", bad);
-    bad = g;
-    bad.sizes[2] = 0;
-    forged(rt, b"a size of 0", bad);
-    bad = g;
-    bad.sizes[2] = 7;
-    forged(rt, b"a size of 7", bad);
-    bad = g;
-    bad.symbols[31] = Symbol(0, 1);
-    forged(rt, b"a name in an unused place", bad);
-    bad = g;
-    bad.count = 1;
-    forged(rt, b"a factor less than counted", bad);
-    bad.count = 65;
-    forged(rt, b"65 factors", bad);
+    changed(rt, b"33 variables", g, |g| g.variables = 33);
+    changed(rt, b"a variable more than counted", g, |g| g.variables = 2);
+    changed(rt, b"a variable less than counted", g, |g| g.variables = 4);
+    changed(rt, b"a name twice", g, |g| g.symbols[1] = Symbol(97, 0));
+    changed(rt, b"a surrogate", g, |g| g.symbols[2] = Symbol(0xDFFF, 0));
+    changed(rt, b"a size of 0", g, |g| g.sizes[2] = 0);
+    changed(rt, b"a size of 7", g, |g| g.sizes[2] = 7);
+    changed(rt, b"a name in an unused place", g, |g| {
+        g.symbols[31] = Symbol(0, 1);
+    });
+    changed(rt, b"a factor less than counted", g, |g| g.count = 1);
+    changed(rt, b"65 factors", g, |g| g.count = 65);
 }
 
 fn forged_factors(rt: &HostRuntime, g: Graph) {
     let one = [1.0];
+    let unit = [1.0, 0.0, 0.0, 1.0];
     let mut store = [9.0; 16];
-    let added = g.add_observation(
-        &[0, 2],
-        2,
-        &[1.0; 4],
-        &[1.0; 2],
-        &[1.0, 0.0, 0.0, 1.0],
-        &mut store,
-    );
-    let right = added.graph;
-    let mut f = right.factors[0];
-    f.keys[0] = 2;
-    report::with_factor(rt, b"keys that don't rise", right, f);
-    f = right.factors[0];
-    f.keys[1] = 3;
-    report::with_factor(rt, b"a key not there", right, f);
-    f = right.factors[0];
-    f.keys[2] = 1;
-    report::with_factor(rt, b"a spare key", right, f);
-    f = right.factors[0];
-    f.rows = 7;
-    report::with_factor(rt, b"7 rows", right, f);
-    f = right.factors[0];
-    f.touched = 5;
-    report::with_factor(rt, b"5 keys", right, f);
-    f = right.factors[0];
-    f.prior = true;
-    report::with_factor(rt, b"a prior with two keys", right, f);
-    f.touched = 1;
-    f.keys[1] = 0;
-    report::with_factor(rt, b"a prior with rows unlike its size", right, f);
-    f.rows = 1;
-    report::with_factor(rt, b"a prior as it should be", right, f);
+    let mut right = g;
+    let _ = right.add_observation(&[0, 2], 2, &[1.0; 4], &[1.0; 2], &unit, &mut store);
+    changed(rt, b"keys that don't rise", right, |g| {
+        g.factors[0].keys[0] = 2;
+    });
+    changed(rt, b"a key not there", right, |g| g.factors[0].keys[1] = 3);
+    changed(rt, b"a spare key", right, |g| g.factors[0].keys[2] = 1);
+    changed(rt, b"7 rows", right, |g| g.factors[0].rows = 7);
+    changed(rt, b"5 keys", right, |g| g.factors[0].touched = 5);
     let mut bad = right;
-    bad.count = 0;
-    forged(rt, b"a factor more than counted", bad);
+    bad.factors[0].prior = true;
+    forged(rt, b"a prior with two keys", bad);
+    bad.factors[0].touched = 1;
+    bad.factors[0].keys[1] = 0;
+    forged(rt, b"a prior with rows unlike its size", bad);
+    bad.factors[0].rows = 1;
+    forged(rt, b"a prior as it should be", bad);
+    changed(rt, b"a factor more than counted", right, |g| g.count = 0);
     prior(
         rt,
         b"the graph that was not forged",
@@ -450,14 +411,10 @@ fn forged_factors(rt: &HostRuntime, g: Graph) {
 // A first factor with as many keys and rows as there may be, and one row more.
 fn forged_widest(rt: &HostRuntime, g: Graph) {
     let one = [1.0];
-    let d = g.add_variable(Symbol(98, 1), 1);
-    let four = d.graph;
     let mut store = [9.0; 16];
-    let added = four.add_observation(&[0, 1, 2, 3], 1, &[1.0; 5], &one, &one, &mut store);
-    let right = added.graph;
-    let mut f = right.factors[0];
-    f.rows = 6;
-    report::with_factor(rt, b"4 keys and 6 rows", right, f);
-    f.rows = 7;
-    report::with_factor(rt, b"4 keys and 7 rows", right, f);
+    let mut right = g;
+    let _ = right.add_variable(Symbol(98, 1), 1);
+    let _ = right.add_observation(&[0, 1, 2, 3], 1, &[1.0; 5], &one, &one, &mut store);
+    changed(rt, b"4 keys and 6 rows", right, |g| g.factors[0].rows = 6);
+    changed(rt, b"4 keys and 7 rows", right, |g| g.factors[0].rows = 7);
 }

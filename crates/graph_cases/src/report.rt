@@ -1,109 +1,44 @@
 // The lines that are printed: an outcome, and whether the graph and the store are as they were.
 ghost use Rattle.std.specs.Prelude.{◌≤◌};
 
-use factor::Factor;
-use factor::limits::{FACTORS, KEYS, VARIABLES};
-use graph::refusal::code;
-use graph::{Added, Graph, Outcome, Symbol};
-use streams::{write_all, write_decimal};
+use factor::limits::FACTORS;
+use graph::refusal::{Refusal, code};
+use graph::{Graph, Symbol};
+use streams::{print_named, write_all};
 
-fn print_outcome(rt: &HostRuntime, outcome: Outcome) {
-    match outcome {
-        Outcome::Key(key) => {
-            write_all(&mut rt.stdout(), b"key ");
-            write_decimal(&mut rt.stdout(), key as u64);
-        }
-        Outcome::Number(number) => {
-            write_all(&mut rt.stdout(), b"number ");
-            write_decimal(&mut rt.stdout(), number as u64);
-        }
-        Outcome::Refused(why) => {
-            write_all(&mut rt.stdout(), b"refused ");
-            write_decimal(&mut rt.stdout(), code(why) as u64);
-        }
-    }
+// The numbers of the longest store that a call is lent.
+const ROOM: usize = 130;
+
+fn print(rt: &HostRuntime, text: &[u8]) {
+    let _ = write_all(&mut rt.stdout(), text);
 }
 
-fn same_symbol(a: Symbol, b: Symbol) -> bool {
-    a.0 == b.0 && a.1 == b.1
-}
-
-fn same_factor(a: Factor, b: Factor) -> bool {
-    if a.prior != b.prior {
-        return false;
-    }
-    if a.touched != b.touched {
-        return false;
-    }
-    if a.rows != b.rows {
-        return false;
-    }
-    if a.live != b.live {
-        return false;
-    }
-    for j in 0..KEYS {
-        if a.keys[j] != b.keys[j] {
-            return false;
-        }
-    }
-    true
-}
-
-fn same_variables(a: Graph, b: Graph) -> bool {
-    for i in 0..VARIABLES {
-        let x = a.symbols[i];
-        let y = b.symbols[i];
-        if !same_symbol(x, y) {
-            return false;
-        }
-        if a.sizes[i] != b.sizes[i] {
-            return false;
-        }
-    }
-    a.variables == b.variables
-}
-
-fn same_graph(a: Graph, b: Graph) -> bool {
-    for i in 0..FACTORS {
-        let x = a.factors[i];
-        let y = b.factors[i];
-        if !same_factor(x, y) {
-            return false;
-        }
-    }
-    a.count == b.count && same_variables(a, b)
-}
-
-// A store that is lent holds 9 throughout.
-fn untouched(store: [f64; 130]) -> bool {
-    for i in 0..130 {
-        if store[i] != 9.0 {
-            return false;
-        }
-    }
-    true
-}
-
-fn print_state(rt: &HostRuntime, graph: bool, store: bool) {
-    if graph {
-        write_all(&mut rt.stdout(), b", graph as it was");
+fn print_state(rt: &HostRuntime, name: &[u8], same: bool) {
+    print(rt, name);
+    if same {
+        print(rt, b" as it was");
     } else {
-        write_all(&mut rt.stdout(), b", graph changed");
-    }
-    if store {
-        write_all(&mut rt.stdout(), b", store as it was\n");
-    } else {
-        write_all(&mut rt.stdout(), b", store changed\n");
+        print(rt, b" changed");
     }
 }
 
-fn line(rt: &HostRuntime, label: &[u8], g: Graph, added: Added, store: bool) {
-    write_all(&mut rt.stdout(), label);
-    write_all(&mut rt.stdout(), b": ");
-    let outcome = added.outcome;
-    let next = added.graph;
-    print_outcome(rt, outcome);
-    print_state(rt, same_graph(g, next), store);
+// What a call answered, as a number of that name, and whether it left the graph and the store as they were.
+fn line(
+    rt: &HostRuntime,
+    label: &[u8],
+    name: &[u8],
+    outcome: Result<usize, Refusal>,
+    same_graph: bool,
+    same_store: bool,
+) {
+    print(rt, label);
+    let _ = match outcome {
+        Ok(number) => print_named(&mut rt.stdout(), name, number),
+        Err(why) => print_named(&mut rt.stdout(), b": refused ", code(why)),
+    };
+    print_state(rt, b", graph", same_graph);
+    print_state(rt, b", store", same_store);
+    print(rt, b"\n");
 }
 
 // Registers a variable, prints a line of what came of it, and hands the graph on.
@@ -115,12 +50,31 @@ pub fn variable(
     index: u32,
     size: usize,
 ) -> Graph {
-    let added = g.add_variable(Symbol(letter, index), size);
-    line(rt, label, g, added, true);
-    added.graph
+    let mut next = g;
+    let outcome = next.add_variable(Symbol(letter, index), size);
+    line(rt, label, b": key ", outcome, g == next, true);
+    next
 }
 
-// As `variable`, with a prior; the call is lent a store of `room` numbers.
+// As `variable`, with a call that registers a factor; it is lent a store of `room` numbers, all of them 9.
+fn registered<F: FnOnce(&mut Graph, &mut [f64]) -> Result<usize, Refusal>>(
+    rt: &HostRuntime,
+    label: &[u8],
+    g: Graph,
+    room: usize,
+    call: F,
+) -> Graph
+    requires room { room ≤ 130 }
+    requires callable { F.IsAlwaysCallable call }
+{
+    let mut store = [9.0; ROOM];
+    let mut next = g;
+    let outcome = call(&mut next, &mut store[..room]);
+    let untouched = store.iter().all(|&x| x == 9.0);
+    line(rt, label, b": number ", outcome, g == next, untouched);
+    next
+}
+
 pub fn prior(
     rt: &HostRuntime,
     label: &[u8],
@@ -132,13 +86,11 @@ pub fn prior(
 ) -> Graph
     requires { room ≤ 130 }
 {
-    let mut store = [9.0; 130];
-    let added = g.add_prior(key, mean, variance, &mut store[0..room]);
-    line(rt, label, g, added, untouched(store));
-    added.graph
+    registered(rt, label, g, room, |g, store| {
+        g.add_prior(key, mean, variance, store)
+    })
 }
 
-// As `variable`, with an observation; the call is lent a store of `room` numbers.
 pub fn observation(
     rt: &HostRuntime,
     label: &[u8],
@@ -152,10 +104,9 @@ pub fn observation(
 ) -> Graph
     requires { room ≤ 130 }
 {
-    let mut store = [9.0; 130];
-    let added = g.add_observation(keys, rows, a, mean, variance, &mut store[0..room]);
-    line(rt, label, g, added, untouched(store));
-    added.graph
+    registered(rt, label, g, room, |g, store| {
+        g.add_observation(keys, rows, a, mean, variance, store)
+    })
 }
 
 // As `prior`, in place of the factor of that number.
@@ -171,10 +122,9 @@ pub fn over_prior(
 ) -> Graph
     requires { room ≤ 130 }
 {
-    let mut store = [9.0; 130];
-    let added = g.supersede_prior(number, key, mean, variance, &mut store[0..room]);
-    line(rt, label, g, added, untouched(store));
-    added.graph
+    registered(rt, label, g, room, |g, store| {
+        g.supersede_prior(number, key, mean, variance, store)
+    })
 }
 
 // As `observation`, in place of the factor of that number.
@@ -192,11 +142,9 @@ pub fn over_observation(
 ) -> Graph
     requires { room ≤ 130 }
 {
-    let mut store = [9.0; 130];
-    let lent = &mut store[0..room];
-    let added = g.supersede_observation(number, keys, rows, a, mean, variance, lent);
-    line(rt, label, g, added, untouched(store));
-    added.graph
+    registered(rt, label, g, room, |g, store| {
+        g.supersede_observation(number, keys, rows, a, mean, variance, store)
+    })
 }
 
 // Both calls in place of the factor of that number, with arguments that are accepted where it is live.
@@ -208,15 +156,14 @@ pub fn over_each(rt: &HostRuntime, label: &[u8], g: Graph, number: usize) {
 
 // The numbers of the live factors.
 pub fn live(rt: &HostRuntime, label: &[u8], g: Graph) {
-    write_all(&mut rt.stdout(), label);
-    write_all(&mut rt.stdout(), b": live");
+    print(rt, label);
+    print(rt, b": live");
     for number in 0..FACTORS {
         if g.is_live(number) {
-            write_all(&mut rt.stdout(), b" ");
-            write_decimal(&mut rt.stdout(), number as u64);
+            let _ = print_named(&mut rt.stdout(), b" ", number);
         }
     }
-    write_all(&mut rt.stdout(), b"\n");
+    print(rt, b"\n");
 }
 
 // A record that no calls yield: each call is made on it, with arguments that a right one would accept.
@@ -227,9 +174,11 @@ pub fn forged(rt: &HostRuntime, label: &[u8], g: Graph) {
     observation(rt, label, g, &[], 1, &[], &one, &one, 32);
 }
 
-// `forged` for a graph whose first factor is replaced by f.
-pub fn with_factor(rt: &HostRuntime, label: &[u8], g: Graph, f: Factor) {
+// `forged` for a graph that is changed first.
+pub fn changed<F: FnOnce(&mut Graph)>(rt: &HostRuntime, label: &[u8], g: Graph, change: F)
+    requires { F.IsAlwaysCallable change }
+{
     let mut bad = g;
-    bad.factors[0] = f;
+    change(&mut bad);
     forged(rt, label, bad);
 }

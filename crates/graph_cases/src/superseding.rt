@@ -341,9 +341,7 @@ fn with_state(g: Graph, number: usize, live: bool) -> Graph
     requires { number < max_factors }
 {
     let mut other = g;
-    let mut f = other.factors[number];
-    f.live = live;
-    other.factors[number] = f;
+    other.factors[number].live = live;
     other
 }
 

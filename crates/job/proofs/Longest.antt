@@ -5,6 +5,7 @@ use mathlib.Core.Bool.{true}
 use mathlib.Core.List.{List}
 use native.Mathlib.Omega.{arith}
 use borrow.Author.Tests.{le-leb}
+use Rattle.std.specs.Prelude.{Result, Ok, Err}
 use lib.Ieee.{Float}
 use lib.ListN.{length, take, length-take, length-replicate}
 use Rattle.matrix.specs.Sums.{plus_zero}
@@ -16,17 +17,14 @@ use Rattle.graph.specs.declared.Graph.{Graph}
 use Rattle.graph.proofs.Keeping.{good_of}
 use Rattle.graph.proofs.Numbers.{number-most}
 use Rattle.records.specs.Records.{Reading, read_all}
-use Rattle.records.specs.declared.answer.Ended as records
-use Rattle.records.specs.declared.answer.Ended.TheVariants as reads
+use Rattle.records.specs.declared.answer.Rejected.{Rejected}
 use Rattle.graph.proofs.Calls.{fresh-reached}
 use Rattle.records.proofs.Prefix.{first_decide}
 use Rattle.workspace.specs.Frames.{work_numbers}
 use Rattle.solver.specs.Run.{run, run_along}
-use Rattle.solver.specs.declared.run.Ended.{Ended}
-use Rattle.solver.specs.declared.run.Ended.TheVariants.{Done, Refused}
+use Rattle.solver.specs.declared.run.Stopped.{Stopped}
 use Rattle.lines.specs.Lines.{written}
-use Rattle.lines.specs.declared.Written.{Written}
-use Rattle.lines.specs.declared.Written.TheVariants.{Length, Short}
+use Rattle.lines.specs.declared.TooShort.{TooShort}
 use Rattle.lines.proofs.Longest.{lines_most, refusal-most}
 use Rattle.job.specs.Job.{factor_room, message_room, marginal_room, zeros, ended_text, run_text, run_along_text, read_text}
 use Rattle.job.specs.Job.{reading_text, job_text, job_along_text, deciding_bytes, Decide}
@@ -62,11 +60,11 @@ read-placed bytes =
 abbrev pub text_most : ℕ
 text_most = 717 * max_variables
 
-ended-most : (g : Graph) (e : Ended) (marginals : List Float) → valid g ≡ true → Keyed e → length (ended_text g e marginals) ≤ text_most
-ended-most g Done marginals v k = lines_most g marginals v
-ended-most g (Refused why stage key) marginals v k = omega (
+ended-most : (g : Graph) (e : Result (Unit {0}) Stopped) (marginals : List Float) → valid g ≡ true → Keyed e → length (ended_text g e marginals) ≤ text_most
+ended-most g (Ok done) marginals v k = lines_most g marginals v
+ended-most g (Err s) marginals v k = omega (
   arith,
-  refusal-most (refusal_number why) stage key (omega (arith, number-most why)) (omega (arith, k.0)) (omega (arith, k.1)),
+  refusal-most (refusal_number s.why) s.stage s.key (omega (arith, number-most s.why)) (omega (arith, k.0)) (omega (arith, k.1)),
 )
 
 run-most : (g : Graph) (factors : List Float) → valid g ≡ true → length (run_text g factors) ≤ text_most
@@ -84,11 +82,11 @@ along-most order g factors v =
 -- what a job's graph comes to is no longer than this, and so is what the job prints
 module _ (text : Graph → List Float → List ℕ) (most : ℕ) (room : 71 ≤ most) (short : (g : Graph) (factors : List Float) → valid g ≡ true
     → length (text g factors) ≤ most) where
-  read-most : (e : records.Ended) (g : Graph) (factors : List Float) → Reached g → Placed deciding_bytes e → length (read_text e (text g factors)) ≤ most
-  read-most reads.Done g factors r l = short g factors (good_of g r).1
-  read-most (reads.Refused why place) g factors r l = omega (
+  read-most : (e : Result (Unit {0}) Rejected) (g : Graph) (factors : List Float) → Reached g → Placed deciding_bytes e → length (read_text e (text g factors)) ≤ most
+  read-most (Ok done) g factors r l = short g factors (good_of g r).1
+  read-most (Err e) g factors r l = omega (
     arith,
-    refusal-most (refusal_number why) 0 place (omega (arith, number-most why)) (omega arith) (omega arith),
+    refusal-most (refusal_number e.why) 0 e.place (omega (arith, number-most e.why)) (omega arith) (omega arith),
   )
 
   pub reading-most : (bytes : List ℕ) → length (reading_text text (read_all bytes (zeros factor_room))) ≤ most
@@ -106,10 +104,10 @@ unfolding job_along_text
 job_along-most bytes order = reading-most (run_along_text order) text_most (omega arith) (along-most order) bytes
 
 -- a buffer of that length takes every text
-pub never_short : (bytes out : List ℕ) → text_most ≤ length out → written out (job_text bytes) ≡ Length (length (job_text bytes))
+pub never_short : (bytes out : List ℕ) → text_most ≤ length out → written out (job_text bytes) ≡ Ok (length (job_text bytes))
 unfolding written
 never_short bytes out l = rw (le-leb (length (job_text bytes)) (length out) (omega (arith, job_most bytes)))
 
 -- so only a shorter one is told to be too short
-pub told-short : (text out : List ℕ) (r : Written) → length text ≤ text_most → r ≡ written out text → r ≡ Short → length out < text_most
-told-short text out r l e s = omega (arith, short_of out text r e s)
+pub told-short : (text out : List ℕ) (r : Result ℕ TooShort) → length text ≤ text_most → r ≡ written out text → (short : TooShort) → r ≡ Err short → length out < text_most
+told-short text out r l e short s = omega (arith, short_of out text r e short s)

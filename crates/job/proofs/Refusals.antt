@@ -6,18 +6,17 @@ use mathlib.Core.List.{List, [], ◌∷◌}
 use native.Mathlib.Omega.{arith}
 use native.Mathlib.Decide.{dec_lt}
 use lib.Dec.{ltb}
+use Rattle.std.specs.Prelude.{Result, Ok, Err}
 use lib.Ieee.{Float}
 use lib.ListN.{length, get_or, get_or-eq_default}
 use Rattle.factor.specs.Limits.{max_variables}
 use Rattle.graph.specs.Record.{valid}
 use Rattle.graph.specs.Reached.{Reached}
 use Rattle.graph.specs.declared.Graph.{Graph}
+use Rattle.graph.specs.declared.refusal.Refusal.{Refusal}
 use Rattle.graph.proofs.Validity.{valid-variables}
 use Rattle.records.specs.Records.{Reading, onward, step_of, request_store, record_at, read_from}
-use Rattle.records.specs.declared.answer.Next.{Next}
-use Rattle.records.specs.declared.answer.Next.TheVariants as next-record
-use Rattle.records.specs.declared.answer.Ended as records
-use Rattle.records.specs.declared.answer.Ended.TheVariants as reads
+use Rattle.records.specs.declared.answer.Rejected.{Rejected}
 use Rattle.records.proofs.Reading.{step-reached}
 use Rattle.schedule.specs.Count.{from, each_once}
 use Rattle.schedule.specs.Pass.{at}
@@ -29,8 +28,7 @@ use Rattle.messages.specs.Values as messages
 use Rattle.marginals.specs.Marginals.{Found, found, refused, marginals_from, missing_from}
 use Rattle.solver.specs.Plan.{plan_along}
 use Rattle.solver.specs.Run.{RunVerdict, run, key_at, run_along}
-use Rattle.solver.specs.declared.run.Ended.{Ended}
-use Rattle.solver.specs.declared.run.Ended.TheVariants.{Done, Refused}
+use Rattle.solver.specs.declared.run.Stopped.{Stopped}
 use Rattle.solver.proofs.Carriable.{along-runnable}
 use Rattle.solver.proofs.Cases.{along-cases}
 use Rattle.solver.proofs.Rising.{as_rising}
@@ -38,17 +36,17 @@ use Rattle.solver.proofs.Rising.{as_rising}
 -- ---- the record, and the graph that was read
 
 -- a refused record has a place of at most n
-abbrev pub Placed : ℕ → records.Ended → Type 0
-Placed n reads.Done = n ≤ n
-Placed n (reads.Refused w place) = place ≤ n
+abbrev pub Placed : ℕ → Result (Unit {0}) Rejected → Type 0
+Placed n (Ok done) = n ≤ n
+Placed n (Err rejected) = rejected.place ≤ n
 
 abbrev Fine : ℕ → Reading → Type 0
 Fine n r = Reached r.answer.graph × Placed n r.answer.ended
 
-fine_on : (most place : ℕ) (n : Next) (g : Graph) (store : List Float) (rest : ℕ → Reading) → Reached g → place ≤ most
+fine_on : (most place : ℕ) (n : Result ℕ Refusal) (g : Graph) (store : List Float) (rest : ℕ → Reading) → Reached g → place ≤ most
     → ((k : ℕ) → Fine most (rest k)) → Fine most (onward n g store place rest)
-fine_on most place (next-record.At n) g store rest r l h = h n
-fine_on most place (next-record.Refused w) g store rest r l h = (r, l)
+fine_on most place (Ok n) g store rest r l h = h n
+fine_on most place (Err w) g store rest r l h = (r, l)
 
 fine_turn : (most : ℕ) (b : Bool) (x y : Reading) → Fine most x → Fine most y → Fine most (cond b x y)
 fine_turn most true x y h k = h
@@ -70,16 +68,16 @@ read_fine (suc turns) bytes from place most g store r l =
 
 -- ---- the stage and the key of a run
 
-abbrev pub Keyed : Ended → Type 0
-Keyed Done = 0 ≤ 0
-Keyed (Refused w stage key) = (stage ≤ 3) × (key ≤ max_variables)
+abbrev pub Keyed : Result (Unit {0}) Stopped → Type 0
+Keyed (Ok done) = 0 ≤ 0
+Keyed (Err stopped) = (stopped.stage ≤ 3) × (stopped.key ≤ max_variables)
 
 abbrev KeyedBy : RunVerdict → Type 0
 KeyedBy v = Keyed v.answer.ended
 
 abbrev Within : ℕ → messages.FirstRefusal → Type 0
-Within n messages.none = n ≤ n
-Within n (messages.refused_at k w) = k ≤ n
+Within n (Ok done) = n ≤ n
+Within n (Err undone) = undone.at ≤ n
 
 -- a key without a marginal is one of the keys looked at
 missing_within : (k : ℕ) (all : List Found) (n : ℕ) → k + length all ≤ n → Within n (missing_from k all)

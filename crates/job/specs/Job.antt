@@ -1,16 +1,14 @@
 -- What a job prints: a line for each key, or one line that says why there are none. Definitions only.
-use Rattle.std.specs.Prelude.{ℕ, ◌+◌, ◌*◌, ◌≤◌, ◌≡◌, List, Float, take, replicate}
+use Rattle.std.specs.Prelude.{ℕ, ◌+◌, ◌*◌, ◌≤◌, ◌≡◌, List, Result, Ok, Err, Float, take, replicate}
 use Rattle.matrix.specs.Sums.{plus_zero}
 use Rattle.factor.specs.Limits.{max_size, max_total}
 use Rattle.graph.specs.Refusals.{refusal_number}
 use Rattle.graph.specs.declared.Graph.{Graph}
 use Rattle.records.specs.Records.{enough, Reading, read_all}
-use Rattle.records.specs.declared.answer.Ended as records
-use Rattle.records.specs.declared.answer.Ended.TheVariants as reading
+use Rattle.records.specs.declared.answer.Rejected.{Rejected}
 use Rattle.workspace.specs.Frames.{work_numbers}
 use Rattle.solver.specs.Run.{RunVerdict, run, run_along}
-use Rattle.solver.specs.declared.run.Ended as solver
-use Rattle.solver.specs.declared.run.Ended.TheVariants as ending
+use Rattle.solver.specs.declared.run.Stopped.{Stopped}
 use Rattle.lines.specs.Lines.{lines_text, refusal_text}
 
 -- ---- the stores of a job, each of zeros at first
@@ -35,9 +33,9 @@ abbrev pub reading_stage : ℕ
 reading_stage = 0
 
 -- how a run ended, with the marginals that it left
-abbrev pub ended_text : Graph → solver.Ended → List Float → List ℕ
-ended_text g ending.Done marginals = lines_text g marginals g.variables
-ended_text g (ending.Refused why stage key) marginals = refusal_text (refusal_number why) stage key
+abbrev pub ended_text : Graph → Result (Unit {0}) Stopped → List Float → List ℕ
+ended_text g (Ok done) marginals = lines_text g marginals g.variables
+ended_text g (Err stopped) marginals = refusal_text (refusal_number stopped.why) stopped.stage stopped.key
 
 abbrev pub verdict_text : Graph → RunVerdict → List ℕ
 verdict_text g v = ended_text g v.answer.ended v.marginals
@@ -51,9 +49,9 @@ unfoldable pub run_along_text : (order : List ℕ) → Graph → List Float → 
 run_along_text order g factors = verdict_text g (run_along g order factors (zeros message_room) work_numbers (zeros marginal_room))
 
 -- how the reading ended: for a refused job nothing else is looked at
-abbrev pub read_text : records.Ended → (text : List ℕ) → List ℕ
-read_text reading.Done text = text
-read_text (reading.Refused why place) text = refusal_text (refusal_number why) reading_stage place
+abbrev pub read_text : Result (Unit {0}) Rejected → (text : List ℕ) → List ℕ
+read_text (Ok done) text = text
+read_text (Err rejected) text = refusal_text (refusal_number rejected.why) reading_stage rejected.place
 
 -- with the text that the graph and its factors come to
 abbrev pub reading_text : (Graph → List Float → List ℕ) → Reading → List ℕ

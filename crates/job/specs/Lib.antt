@@ -1,2 +1,3 @@
 -- The definitions that the contracts of `job` cite.
 pub mod Job
+pub mod Lent

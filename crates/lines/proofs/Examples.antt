@@ -2,6 +2,7 @@
 use Prim.Native.Nat.{ℕ}
 use mathlib.Core.Path.{◌≡◌, refl}
 use mathlib.Core.List.{List, [], ◌∷◌, ◌++◌}
+use Rattle.std.specs.Prelude.{Err}
 use lib.Ieee.{Float, binary64, of_bits, to_bits}
 use Rattle.factor.specs.Counting.{sum}
 use Rattle.graph.specs.Record.{fresh}
@@ -12,7 +13,6 @@ use Rattle.graph.specs.declared.refusal.Refusal.TheVariants.{MarginalPivot}
 use Rattle.text.specs.Decimals.{decimal_by, decimal, field_text}
 use Rattle.graph.specs.Moments.{start_of}
 use Rattle.lines.specs.Lines.{hex_by, number_text, numbers_text, line_text, lines_text, refusal_text, written, laid_in}
-use Rattle.lines.specs.declared.Written.TheVariants.{Short}
 
 -- one key of size 1
 abbrev one_key : Graph
@@ -46,6 +46,6 @@ unfolding text refusal_text field_text
 refused_16 = refl
 
 -- it has 15 bytes, so a buffer of 2 is left as it was
-short-buffer : (written (1 ∷ 2 ∷ []) (refusal_text 16 3 0) ≡ Short) × (laid_in (1 ∷ 2 ∷ []) (refusal_text 16 3 0) ≡ 1 ∷ 2 ∷ [])
+short-buffer : (written (1 ∷ 2 ∷ []) (refusal_text 16 3 0) ≡ Err (record {})) × (laid_in (1 ∷ 2 ∷ []) (refusal_text 16 3 0) ≡ 1 ∷ 2 ∷ [])
 unfolding text refusal_text field_text written laid_in
 short-buffer = (refl, refl)

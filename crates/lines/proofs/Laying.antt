@@ -1,56 +1,71 @@
--- Text put into a buffer, piece after piece. Assumes nothing.
-use Prim.Native.Nat.{ℕ, ◌+◌, ◌≤◌, ◌<◌}
+-- Text that was put is laid where it fits, and the place after it tells whether it does. So a text that is put twice, first only to find its length, is laid
+-- where it fits. Assumes nothing.
+use Prim.Native.Nat.{ℕ, suc, ◌+◌, ◌≤◌, ◌<◌, min}
 use mathlib.Core.Path.{◌≡◌, refl, sym, ap, ◌∙◌}
+use mathlib.Core.Bool.{Bool, true, false, cond}
 use mathlib.Core.List.{List, [], ◌∷◌, ◌++◌}
 use native.Mathlib.Omega.{arith}
 use native.Mathlib.Numerals.{add-one}
-use lib.ListN.{length, set, take, drop, length-append}
+use borrow.Author.Tests.{lt-ltb, ltb-true, ltb-false, le-leb, lt-leb}
+use lib.Dec.{ltb}
+use lib.ListN.{length, set, take, drop, length-set}
 use lib.Seq.{set_split, append_snoc}
+use Rattle.std.specs.Prelude.{Ok, Err}
 use Rattle.factor.specs.Factor.{lay}
 use Rattle.factor.proofs.Laying.{lay-none, two-laid}
-use borrow.Author.Tests.{le-leb, lt-leb}
-use Rattle.lines.specs.Lines.{PutsWithin, written, laid_in}
-use Rattle.lines.specs.declared.Written.TheVariants.{Length, Short}
+use Rattle.text.specs.Putting.{last_place, next_place, put, past_text}
+use Rattle.lines.specs.Lines.{written, laid_in}
 
--- nothing
-pub puts_none : (out : List ℕ) (at : ℕ) → PutsWithin out out at at []
-puts_none out at = (lay-none out at, omega arith)
+-- ---- what is put within a buffer
 
 -- one byte
-pub puts_one : (out : List ℕ) (at x : ℕ) → at < length out → PutsWithin out (set out at x) at (at + 1) (x ∷ [])
-puts_one out at x l = (
-  set_split out at x l ∙ ap (λ (k : ℕ). take at out ++ x ∷ drop k out) (sym (add-one at))
-      ∙ sym (append_snoc (take at out) x (drop (at + 1) out)),
-  refl,
-)
+one-laid : (out : List ℕ) (at x : ℕ) → at < length out → set out at x ≡ lay out at (x ∷ [])
+one-laid out at x l =
+    set_split out at x l ∙ ap (λ (k : ℕ). take at out ++ x ∷ drop k out) (sym (add-one at))
+    ∙ sym (append_snoc (take at out) x (drop (at + 1) out))
 
--- a piece after another is the two as one
-pub puts_both : (a b c : List ℕ) (at m n : ℕ) (s t : List ℕ) → at ≤ length a → PutsWithin a b at m s → PutsWithin b c m n t → PutsWithin a c at n (s ++ t)
-puts_both a b c at m n s t l p q =
-    (two-laid a s at l t b c m p.1 p.0 q.0, let e : length (s ++ t) ≡ length s + length t = length-append s t in omega arith)
+next_low : (at : ℕ) → at < last_place → next_place at ≡ at + 1
+unfolding next_place
+next_low at l = rw (lt-ltb at last_place l) refl
 
--- a loop that stores a byte a turn
-pub puts_begun : (out : List ℕ) (at : ℕ) → PutsWithin out out at (at + 0) []
-puts_begun out at = ((puts_none out at).0, refl)
+-- a place is the one that the text's length gives, or the last one where that lies past it
+past_is : (at : ℕ) (text : List ℕ) → at ≤ last_place → past_text at text ≡ min (at + length text) last_place
+unfolding past_text next_place
+past_is at [] l = omega arith
+past_is at (x ∷ text) l = by (ltb at last_place) refl (λ h. past_is (at + 1) text h) (past_is at text l)
+  where
+    by : (b : Bool) → ltb at last_place ≡ b → (at + 1 ≤ last_place → past_text (at + 1) text ≡ min (at + 1 + length text) last_place) → past_text at text
+        ≡ min (at + length text) last_place → past_text (cond b (at + 1) at) text ≡ min (at + suc (length text)) last_place
+    by true e more same = more (omega (arith, ltb-true at last_place e)) ∙ omega arith
+    by false e more same = same ∙ omega (arith, ltb-false at last_place e)
 
-pub puts_next : (out₀ out : List ℕ) (at i x : ℕ) (s t : List ℕ) → length out ≡ length out₀ → at + i < length out₀ → PutsWithin out₀ out at (at + i) s → t
-    ≡ s ++ (x ∷ []) → PutsWithin out₀ (set out (at + i) x) at (at + (i + 1)) t
-puts_next out₀ out at i x s t k l p e =
-    let q : PutsWithin out₀ (set out (at + i) x) at (at + i + 1) (s ++ (x ∷ [])) = puts_both out₀ out (set out (at + i) x) at (at + i) (at + i + 1) s
-    (x ∷ []) (omega arith) p (puts_one out (at + i) x (omega arith)) in
-    rw e (q.0, omega (arith, q.1))
+-- a text that fits is laid
+put_lays : (out : List ℕ) (at : ℕ) (text : List ℕ) → at + length text ≤ length out → length out ≤ last_place → put out at text ≡ lay out at text
+unfolding put
+put_lays out at [] l h = lay-none out at
+put_lays out at (x ∷ text) l h =
+    let e : next_place at ≡ at + 1 = next_low at (omega arith) in
+    let k : length (set out at x) ≡ length out = length-set out at x in
+    let rest : put (set out at x) (at + 1) text ≡ lay (set out at x) (at + 1) text = put_lays (set out at x) (at + 1) text (omega arith) (omega arith) in
+    rw e (two-laid out (x ∷ []) at (omega arith) text (set out at x) (put (set out at x) (at + 1) text) (at + 1) refl (one-laid out at x (omega arith)) rest)
 
--- an equal text
-pub puts_same : (a b : List ℕ) (at n : ℕ) (s t : List ℕ) → s ≡ t → PutsWithin a b at n s → PutsWithin a b at n t
-puts_same a b at n s t e p = rw e at p
+-- ---- the two ways out: the place after a text that fits is its length, and that of a longer one lies past the buffer
 
--- ---- the two ways out of a laying
-
-pub too_short : (out text : List ℕ) (n : ℕ) → n ≡ length text → length out < n → (Short ≡ written out text) × (out ≡ laid_in out text)
+pub too_short : (out text : List ℕ) (n : ℕ) → n ≡ length text → length out < n → (Err (record {}) ≡ written out text) × (out ≡ laid_in out text)
 unfolding written laid_in
 too_short out text n e l = rw (lt-leb (length text) (length out) (omega arith)) (refl, refl)
 
-pub fitting : (out after text : List ℕ) (n : ℕ) → n ≡ length text → n ≤ length out → after ≡ lay out 0 text
-    → (Length n ≡ written out text) × (after ≡ laid_in out text)
+pub fitting : (out after text : List ℕ) (n : ℕ) → n ≡ length text → n ≤ length out → length out ≤ last_place → after ≡ put out 0 text
+    → (Ok n ≡ written out text) × (after ≡ laid_in out text)
 unfolding written laid_in
-fitting out after text n e l h = rw (le-leb (length text) (length out) (omega arith)) (ap Length e, h)
+fitting out after text n e l h f =
+    rw (le-leb (length text) (length out) (omega arith)) (ap Ok e, f ∙ put_lays out 0 text (omega arith) h)
+
+-- where the place after a run is taken for the length
+pub short : (out text : List ℕ) (n : ℕ) → n ≡ past_text 0 text → length out < n → (Err (record {}) ≡ written out text) × (out ≡ laid_in out text)
+short out text n e l = too_short out text (length text) refl (omega (arith, past_is 0 text (omega arith)))
+
+pub whole : (out after text : List ℕ) (n : ℕ) → n ≡ past_text 0 text → n ≤ length out → length out < last_place → after ≡ put out 0 text
+    → (Ok n ≡ written out text) × (after ≡ laid_in out text)
+whole out after text n e l h f =
+    fitting out after text n (omega (arith, past_is 0 text (omega arith))) l (omega arith) f

@@ -1,6 +1,5 @@
 -- Laws that several proofs cite.
 pub mod Laying
-pub mod Fitting
 pub mod Texts
 pub mod Longest
 pub mod Examples

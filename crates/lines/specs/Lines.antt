@@ -1,5 +1,5 @@
 -- What is printed, byte by byte. Definitions only.
-use Rattle.std.specs.Prelude.{cond, ◌≡◌, List, [], ◌∷◌, ◌++◌, ℕ, zero, suc, ◌+◌, ◌-◌, ◌*◌, ◌/◌, ◌%◌, ◌^◌, ltb, leb, Float, length, get_or}
+use Rattle.std.specs.Prelude.{cond, List, [], ◌∷◌, ◌++◌, Result, Ok, Err, ℕ, zero, suc, ◌+◌, ◌-◌, ◌*◌, ◌/◌, ◌%◌, ◌^◌, ltb, leb, Float, length, get_or}
 use Rattle.std.specs.Float.{nan, binary64}
 use Rattle.std.specs.Float.Ieee.{to_bits}
 use Rattle.factor.specs.Counting.{sum}
@@ -8,8 +8,7 @@ use Rattle.text.specs.Decimals.{space, feed, decimal, field_text}
 use Rattle.graph.specs.Record.{size_at}
 use Rattle.graph.specs.Moments.{moment_numbers, start_of}
 use Rattle.graph.specs.declared.Graph.{Graph}
-use Rattle.lines.specs.declared.Written.{Written}
-use Rattle.lines.specs.declared.Written.TheVariants.{Length, Short}
+use Rattle.lines.specs.declared.TooShort.{TooShort}
 
 -- ---- numbers
 
@@ -65,13 +64,9 @@ refusal_text number stage place = refused_word ++ field_text number ++ field_tex
 
 -- ---- text in a lent buffer
 
--- text put from a place on: the buffer, and the place after the text
-abbrev pub PutsWithin : (out after : List ℕ) (at next : ℕ) (text : List ℕ) → Type 0
-PutsWithin out after at next text = (after ≡ lay out at text) × (next ≡ at + length text)
-
 -- a text that fits stands at the buffer's start; a buffer that is too short is left as it was
-unfoldable pub written : (out text : List ℕ) → Written
-written out text = cond (leb (length text) (length out)) (Length (length text)) Short
+unfoldable pub written : (out text : List ℕ) → Result ℕ TooShort
+written out text = cond (leb (length text) (length out)) (Ok (length text)) (Err (record {}))
 
 unfoldable pub laid_in : (out text : List ℕ) → List ℕ
 laid_in out text = cond (leb (length text) (length out)) (lay out 0 text) out
@@ -82,6 +77,6 @@ laid_in out text = cond (leb (length text) (length out)) (lay out 0 text) out
 abbrev pub short : ℕ
 short = 0xFFFFFFFFFFFFFFFF
 
-abbrev pub length_of : Written → ℕ
-length_of (Length n) = n
-length_of Short = short
+abbrev pub length_of : Result ℕ TooShort → ℕ
+length_of (Ok n) = n
+length_of (Err why) = short

@@ -1,15 +1,13 @@
 // What a job prints, in a lent buffer: a line for each key, or a line for a refusal.
 #![tactic(auto)]
 
-ghost use Rattle.std.specs.Prelude.{◌≡◌, true, ◌+◌, ◌*◌, ◌<◌, ◌≤◌, length};
+ghost use Rattle.std.specs.Prelude.{◌≡◌, true, ◌+◌, ◌<◌, ◌≤◌, length};
 ghost use Rattle.std.specs.Float.{binary64};
 ghost use Rattle.std.specs.Float.Ieee.{to_bits};
-ghost use Rattle.factor.specs.Factor.{lay};
 ghost use Rattle.graph.specs.Record.{valid};
 ghost use Rattle.graph.specs.Moments.{start_of};
 ghost use Rattle.graph.specs.Refusals.{refusal_number};
-ghost use Rattle.text.specs.Decimals.{decimal};
-ghost use Rattle.text.specs.Putting as text;
+ghost use Rattle.text.specs.Putting.{Puts};
 ghost use Rattle.lines.specs.Lines as spec;
 
 use graph::Graph;
@@ -19,23 +17,20 @@ use text::{decimal_length, put, put_decimal, put_field, put_word};
 // The bytes of a space and a float.
 const NUMBER_BYTES: usize = 17;
 
-// How the laying ended: the length of the text, or that the buffer is too short for it.
-#[derive(Drop)]
-pub enum Written {
-    Length(usize),
-    Short,
-}
+// The buffer is too short for the text.
+#[derive(Clone, Copy, Debug, PartialEq, Eq)]
+pub struct TooShort;
 
 // The answer in C where the buffer is too short. No text has that length.
 const SHORT: usize = 0xFFFFFFFFFFFFFFFF;
 
 // The number that stands for it in C.
-pub fn length_of(answer: Written) -> usize
+pub fn length_of(answer: Result<usize, TooShort>) -> usize
     ensures { result ≡ spec.length_of answer }
 {
     match answer {
-        Written::Length(n) => n,
-        Written::Short => SHORT,
+        Ok(n) => n,
+        Err(TooShort) => SHORT,
     }
 }
 
@@ -49,14 +44,14 @@ fn hex_digit(d: u8) -> u8
 
 // The 16 digits of a pattern, the highest first.
 fn put_hex(out: &mut [u8], at: usize, bits: u64) -> usize
-    requires { at + 16 ≤ length out.old }
-    ensures { spec.PutsWithin out.old out.new at result (spec.hex_by 16 bits) }
+    ensures { Puts out.old out.new at result (spec.hex_by 16 bits) }
 {
-    for i in 0..16 {
+    let mut to = at;
+    for i in 0..16usize {
         let d = (bits >> (60 - 4 * i)) % 16;
-        out[at + i] = hex_digit(d as u8);
+        to = put(out, to, hex_digit(d as u8));
     }
-    at + 16
+    to
 }
 
 // The bits of a float, and for a NaN the ones that the definition takes.
@@ -71,8 +66,7 @@ pub fn bits_of(x: f64) -> u64
 
 // A space and a float.
 fn put_number(out: &mut [u8], at: usize, x: f64) -> usize
-    requires { at + spec.number_bytes ≤ length out.old }
-    ensures { spec.PutsWithin out.old out.new at result (spec.number_text x) }
+    ensures { Puts out.old out.new at result (spec.number_text x) }
 {
     let next = put(out, at, b' ');
     put_hex(out, next, bits_of(x))
@@ -80,20 +74,20 @@ fn put_number(out: &mut [u8], at: usize, x: f64) -> usize
 
 // So many floats from a place of the values on.
 fn put_numbers(out: &mut [u8], at: usize, values: &[f64], from: usize, n: usize) -> usize
-    requires { (at + spec.number_bytes * n ≤ length out.old) × (from + n ≤ length values.now) }
-    ensures { spec.PutsWithin out.old out.new at result (spec.numbers_text values.now from n) }
+    requires { from + n ≤ length values.now }
+    ensures { Puts out.old out.new at result (spec.numbers_text values.now from n) }
 {
-    let mut next = at;
-    for i in 0..n {
-        next = put_number(out, next, values[from + i]);
+    let mut to = at;
+    for &x in &values[from..from + n] {
+        to = put_number(out, to, x);
     }
-    next
+    to
 }
 
 // The line of a key, from where its numbers begin in the values on.
 fn put_line(out: &mut [u8], at: usize, key: usize, values: &[f64], from: usize, n: usize) -> usize
-    requires { (at + length (decimal key) + spec.number_bytes * n + 1 ≤ length out.old) × (from + n ≤ length values.now) }
-    ensures { spec.PutsWithin out.old out.new at result (spec.line_text key values.now from n) }
+    requires { from + n ≤ length values.now }
+    ensures { Puts out.old out.new at result (spec.line_text key values.now from n) }
 {
     let second = put_decimal(out, at, key);
     let last = put_numbers(out, second, values, from, n);
@@ -122,36 +116,37 @@ fn lines_length(g: Graph) -> usize
     sum
 }
 
-fn put_lines(out: &mut [u8], g: Graph, values: &[f64])
-    requires { (valid g ≡ true) × (start_of g.sizes g.variables ≤ length values.now)
-        × (spec.lines_length g g.variables ≤ length out.old) }
-    ensures { out.new ≡ lay out.old 0 (spec.lines_text g values.now g.variables) }
+// The lines of all keys, whose numbers stand in the values one key after the other.
+fn put_lines(out: &mut [u8], g: Graph, values: &[f64]) -> usize
+    requires { (valid g ≡ true) × (start_of g.sizes g.variables ≤ length values.now) }
+    ensures { Puts out.old out.new 0 result (spec.lines_text g values.now g.variables) }
 {
-    let mut next = 0;
+    let mut to = 0;
     let mut from = 0;
     for key in 0..g.variables {
         let n = numbers_of(g, key);
-        next = put_line(out, next, key, values, from, n);
+        to = put_line(out, to, key, values, from, n);
         from += n;
     }
+    to
 }
 
 // A line for each key, rising: its mean and covariance, which stand in the marginal store one key after the other. A short buffer is left as it was.
-pub fn lay_lines(g: Graph, marginals: &[f64], out: &mut [u8]) -> Written
+pub fn lay_lines(g: Graph, marginals: &[f64], out: &mut [u8]) -> Result<usize, TooShort>
     requires { (valid g ≡ true) × (start_of g.sizes g.variables ≤ length marginals.now) }
     ensures value { result ≡ spec.written out.old (spec.lines_text g marginals.now g.variables) }
     ensures out_after { out.new ≡ spec.laid_in out.old (spec.lines_text g marginals.now g.variables) }
 {
     let n = lines_length(g);
     if out.len() < n {
-        return Written::Short;
+        return Err(TooShort);
     }
     put_lines(out, g, marginals);
-    Written::Length(n)
+    Ok(n)
 }
 
 fn put_refusal(out: &mut [u8], number: usize, stage: usize, place: usize) -> usize
-    ensures { text.Puts out.old out.new 0 result (spec.refusal_text number stage place) }
+    ensures { Puts out.old out.new 0 result (spec.refusal_text number stage place) }
 {
     let first = put_word(out, 0, b"refused");
     let second = put_field(out, first, number);
@@ -161,7 +156,12 @@ fn put_refusal(out: &mut [u8], number: usize, stage: usize, place: usize) -> usi
 }
 
 // The line of a refusal. A short buffer is left as it was. The first run is into one byte that nobody reads: it finds the length.
-pub fn lay_refusal(why: Refusal, stage: usize, place: usize, out: &mut [u8]) -> Written
+pub fn lay_refusal(
+    why: Refusal,
+    stage: usize,
+    place: usize,
+    out: &mut [u8],
+) -> Result<usize, TooShort>
     ensures value { result ≡ spec.written out.old (spec.refusal_text (refusal_number why) stage place) }
     ensures out_after { out.new ≡ spec.laid_in out.old (spec.refusal_text (refusal_number why) stage place) }
 {
@@ -169,8 +169,8 @@ pub fn lay_refusal(why: Refusal, stage: usize, place: usize, out: &mut [u8]) -> 
     let mut nowhere = [0u8; 1];
     let n = put_refusal(&mut nowhere, number, stage, place);
     if out.len() < n {
-        return Written::Short;
+        return Err(TooShort);
     }
     put_refusal(out, number, stage, place);
-    Written::Length(n)
+    Ok(n)
 }

@@ -1,7 +1,7 @@
 // The lists of an elimination, out of a plan's arrays: kept keys, cleared keys and slots.
 #![tactic(auto)]
 
-ghost use Rattle.std.specs.Prelude.{◌≡◌, ◌++◌, map, ◌+◌, ◌-◌, ◌<◌, ◌≤◌, length, take, drop};
+ghost use Rattle.std.specs.Prelude.{◌≡◌, ◌++◌, map, ◌+◌, ◌<◌, ◌≤◌, length, take};
 ghost use Rattle.factor.specs.Limits.{max_variables};
 ghost use Rattle.schedule.specs.Pass.{at};
 ghost use Rattle.plan.specs.Mask.{keys_in};
@@ -49,29 +49,21 @@ fn raised(s: u8, shift: usize) -> usize
     requires { shift ≤ first_backward }
     ensures { result ≡ raised shift s }
 {
-    let n = s as usize;
+    let n = usize::from(s);
     if n < FACTORS { n } else { n + shift }
 }
 
-// Appends slots[from..to] and answers the place after them. Numbers of messages are raised by `shift`: 0 for the forward pass, `BACKWARD`
+// Appends the slots and answers the place after them. Numbers of messages are raised by `shift`: 0 for the forward pass, `BACKWARD`
 // for the backward one, so that the messages of the two passes have numbers of their own.
-fn put_slots(
-    list: &mut [usize],
-    at: usize,
-    slots: &[u8],
-    from: usize,
-    to: usize,
-    shift: usize,
-) -> usize
-    requires { (from ≤ to) × (to ≤ length slots.now) × (at + (to - from) ≤ length list.old) × (shift ≤ first_backward) }
-    ensures list_after { take result list.new ≡ take at list.old ++ map (raised shift) (drop from (take to slots.now)) }
-    ensures value { result ≡ at + (to - from) }
+fn put_slots(list: &mut [usize], at: usize, slots: &[u8], shift: usize) -> usize
+    requires { (at + length slots.now ≤ length list.old) × (shift ≤ first_backward) }
+    ensures list_after { take result list.new ≡ take at list.old ++ map (raised shift) slots.now }
+    ensures value { result ≡ at + length slots.now }
 {
-    for i in from..to {
-        let place = at + (i - from);
-        list[place] = raised(slots[i], shift);
+    for (i, &s) in slots.iter().enumerate() {
+        list[at + i] = raised(s, shift);
     }
-    at + (to - from)
+    at + slots.len()
 }
 
 // The lists of one message of a pass.
@@ -79,18 +71,14 @@ pub fn message_lists(p: Pass, j: usize, shift: usize) -> Lists
     requires { PassReady max_variables p × (j < p.count) × (shift ≤ backward_shift) }
     ensures { Holds shift (at (messages_of p) j) result }
 {
-    let b = p.board;
-    let content = b.content;
-    let from = p.starts[j] as usize;
-    let to = p.ends[j] as usize;
-    let keeps = p.masks[FACTORS + j];
-    let clears = p.cleared[j];
+    let from = usize::from(p.starts[j]);
+    let to = usize::from(p.ends[j]);
     let mut kept = [0; VARIABLES];
     let mut cleared = [0; VARIABLES];
     let mut slots = [0; SLOTS];
-    let k = put_set(&mut kept, 0, keeps, 0);
-    let c = put_set(&mut cleared, 0, clears, 0);
-    let n = put_slots(&mut slots, 0, &content, from, to, shift);
+    let k = put_set(&mut kept, 0, p.masks[FACTORS + j], 0);
+    let c = put_set(&mut cleared, 0, p.cleared[j], 0);
+    let n = put_slots(&mut slots, 0, &p.board.content[from..to], shift);
     Lists {
         kept: kept,
         keeps: k,
@@ -106,18 +94,14 @@ pub fn gathered_lists(q: Gathered, key: usize) -> Lists
     requires { Held q }
     ensures { HoldsGathered key (gathered_of q) result }
 {
-    let items = q.items;
-    let last = q.last;
-    let forward = q.forward;
-    let backward = q.backward;
     let mut kept = [0; VARIABLES];
     let mut cleared = [0; VARIABLES];
     let mut slots = [0; SLOTS];
     kept[0] = key;
-    let c = put_set(&mut cleared, 0, last, 0);
-    let f = put_set(&mut slots, 0, forward, FACTORS);
-    let b = put_set(&mut slots, f, backward, FACTORS + BACKWARD);
-    let n = put_slots(&mut slots, b, &items, q.covered, q.count, 0);
+    let c = put_set(&mut cleared, 0, q.last, 0);
+    let f = put_set(&mut slots, 0, q.forward, FACTORS);
+    let b = put_set(&mut slots, f, q.backward, FACTORS + BACKWARD);
+    let n = put_slots(&mut slots, b, &q.items[q.covered..q.count], 0);
     Lists {
         kept: kept,
         keeps: 1,

@@ -7,25 +7,24 @@ use lib.ListN.{get_or, take}
 use lib.Seq.{take_at}
 use Rattle.factor.specs.Factor.{lay}
 use Rattle.graph.specs.declared.refusal.Refusal.{Refusal}
-use Rattle.graph.specs.declared.refusal.Refusal.TheVariants.{ClearedPivot, MarginalPivot, ResultNotFinite}
 use Rattle.schedule.specs.Gather.{Gathered}
 use Rattle.plan.specs.Gather.{gathered_of}
 use Rattle.plan.specs.declared.gather.Gathered as arrays
 use Rattle.gaussian.specs.Elimination.{Outcome, pivot, not_finite, message, eliminate}
-use Rattle.gaussian.specs.Answers.{views_of, marginal_answer, marginal_from, refused_as}
+use Rattle.gaussian.specs.Answers.{views_of, marginal_answer, marginal_from}
 use Rattle.gaussian.specs.Asked.{Asked}
 use Rattle.cholesky.specs.Forms.{Form}
 use Rattle.cholesky.specs.Forms as forms
 use Rattle.gaussian.specs.Marginals.{moments_of}
-use Rattle.gaussian.specs.declared.marginal.Answer.{Answer}
-use Rattle.gaussian.specs.declared.marginal.Ending.{Ending}
-use Rattle.gaussian.specs.declared.marginal.Ending.TheVariants as ending
+use Rattle.gaussian.specs.declared.marginal.Marginal.{Marginal}
+use Rattle.gaussian.specs.declared.marginal.MarginalFault.{MarginalFault}
+use Rattle.std.proofs.Common.{Result, Ok, Err}
 use Rattle.lists.specs.Lists.{HoldsGathered}
 use Rattle.lists.specs.declared.Lists.{Lists}
 use Rattle.messages.specs.Values.{none, refused_at}
 use Rattle.messages.specs.Asked.{cleared_of, listed_slots}
 use Rattle.marginals.specs.Marginals.{Found, found, refused, found_by, found_in, missing_from, marginals_in}
-use Rattle.marginals.specs.Asked.{last_by, found_at, AskedAt}
+use Rattle.marginals.specs.Asked.{last_by, found_at, AskedAt, refusal_of}
 use Rattle.marginals.proofs.Lengths.{moments-long}
 use Rattle.factor.proofs.Laying.{lay-none}
 
@@ -36,7 +35,7 @@ module _ (sizes : List ℕ) (factors messages : List Float) (keys heads : List �
       → Asked (key ∷ []) (cleared_of l) sizes factors messages work keys heads (listed_slots l)
   lists_asked work a = rw (h.cleared, h.slots) a
 
-  pub lists_last : (s : ℕ) (r : Answer) → r ≡ marginal_from key s
+  pub lists_last : (s : ℕ) (r : Result Marginal MarginalFault) → r ≡ marginal_from key s
       (eliminate (views_of factors messages keys heads (listed_slots l)) (key ∷ []) (cleared_of l) sizes)
       → r ≡ marginal_from key s (last_by sizes factors messages keys heads key q)
   lists_last s r e = rw (h.cleared, h.slots) at e
@@ -44,17 +43,12 @@ module _ (sizes : List ℕ) (factors messages : List Float) (keys heads : List �
 -- ---- the answer
 
 -- what an answer tells of a key of size s
-abbrev Tells : ℕ → Answer → Found → Type 0
-Tells s a f = told_by a.ending
-  where
-    told_by : Ending → Type 0
-    told_by ending.Done = (a.marginal.size ≡ s) × (f ≡ found (take s a.marginal.mean) (take (s * s) a.marginal.covariance))
-    told_by ending.ClearedPivot = f ≡ refused ClearedPivot
-    told_by ending.Pivot = f ≡ refused MarginalPivot
-    told_by ending.NotFinite = f ≡ refused ResultNotFinite
+abbrev Tells : ℕ → Result Marginal MarginalFault → Found → Type 0
+Tells s (Ok m) f = (m.size ≡ s) × (f ≡ found (take s m.mean) (take (s * s) m.covariance))
+Tells s (Err fault) f = f ≡ refused (refusal_of fault)
 
 tells-moments : (key s r : ℕ) (a xi w : List Float) (m : Form) → moments_of r s a xi w ≡ m → Tells s (marginal_answer key s m) (found_by m)
-unfolding marginal_answer found_by refused_as
+unfolding marginal_answer found_by
 tells-moments key s r a xi w (forms.form mean covariance) e =
     let long = moments-long s mean covariance r a xi w e in
     (refl, rw (take_at mean _ s long.0, take_at covariance _ (s * s) long.1) refl)
@@ -62,7 +56,7 @@ tells-moments key s r a xi w forms.pivot e = refl
 tells-moments key s r a xi w forms.not_finite e = refl
 
 tells : (key s : ℕ) (o : Outcome) → Tells s (marginal_from key s o) (found_in s o)
-unfolding marginal_from found_in refused_as
+unfolding marginal_from found_in
 tells key s pivot = refl
 tells key s not_finite = refl
 tells key s (message r a xi w) = tells-moments key s r a xi w (moments_of r s a xi w) refl
@@ -86,27 +80,19 @@ module _ (sizes : List ℕ) (factors messages : List Float) (keys heads : List �
   abbrev f : Found
   f = found_at sizes factors messages keys heads key (gathered_of q)
 
-  module _ (a : Answer) (ea : a ≡ marginal_from key s (last_by sizes factors messages keys heads key (gathered_of q))) where
+  module _ (a : Result Marginal MarginalFault) (ea : a ≡ marginal_from key s (last_by sizes factors messages keys heads key (gathered_of q))) where
     told : Tells s a f
     unfolding found_at
     told = rw ea (tells key s (last_by sizes factors messages keys heads key (gathered_of q)))
 
-    pub cleared-told : a.ending ≡ ending.ClearedPivot → (refused_at key ClearedPivot ≡ missing_from key (f ∷ [])) ×
+    pub fault-told : (fault : MarginalFault) → a ≡ Err fault → (refused_at key (refusal_of fault) ≡ missing_from key (f ∷ [])) ×
         (results ≡ lay results to (marginals_in (f ∷ [])))
-    cleared-told e = refused-is f key to results ClearedPivot (rw e at told)
+    fault-told fault e = refused-is f key to results (refusal_of fault) (rw e at told)
 
-    pub pivot-told : a.ending ≡ ending.Pivot → (refused_at key MarginalPivot ≡ missing_from key (f ∷ [])) × (results ≡ lay results to (marginals_in (f ∷ [])))
-    pivot-told e = refused-is f key to results MarginalPivot (rw e at told)
+    pub made-size : (m : Marginal) → a ≡ Ok m → m.size ≡ s
+    made-size m e = (rw e at told).0
 
-    pub unbounded_told : a.ending ≡ ending.NotFinite → (refused_at key ResultNotFinite ≡ missing_from key (f ∷ [])) ×
-        (results ≡ lay results to (marginals_in (f ∷ [])))
-    unbounded_told e = refused-is f key to results ResultNotFinite (rw e at told)
-
-    pub done-size : a.ending ≡ ending.Done → a.marginal.size ≡ s
-    done-size e = (rw e at told).0
-
-    pub done-told : a.ending ≡ ending.Done → (after : List Float) → after
-        ≡ lay results to (take a.marginal.size a.marginal.mean ++ take (a.marginal.size * a.marginal.size) a.marginal.covariance)
+    pub made-told : (m : Marginal) → a ≡ Ok m → (after : List Float) → after
+        ≡ lay results to (take m.size m.mean ++ take (m.size * m.size) m.covariance)
         → (none ≡ missing_from key (f ∷ [])) × (after ≡ lay results to (marginals_in (f ∷ [])))
-    done-told e after l = found-is f key to results (take s a.marginal.mean) (take (s * s) a.marginal.covariance) after (rw e at told).1
-        (rw (done-size e) at l)
+    made-told m e after l = found-is f key to results (take s m.mean) (take (s * s) m.covariance) after (rw e at told).1 (rw (made-size m e) at l)

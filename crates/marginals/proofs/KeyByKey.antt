@@ -8,17 +8,15 @@ use lib.Ieee.{Float}
 use lib.ListN.{length, get_or, take, drop, length-append, take-append-drop, drop_of_length-le}
 use lib.Seq.{length-take-le, drop-cons, drop-drop}
 use Rattle.factor.specs.Factor.{lay}
-use Rattle.graph.specs.declared.refusal.Refusal.{Refusal}
 use Rattle.schedule.specs.Gather.{Gathered}
 use Rattle.gaussian.specs.Elimination.{Outcome, pivot, not_finite, message}
 use Rattle.cholesky.specs.Forms.{Form}
 use Rattle.cholesky.specs.Forms as forms
 use Rattle.gaussian.specs.Marginals.{moments_of}
-use Rattle.messages.specs.Values.{none, refused_at}
-use Rattle.messages.specs.Asked.{refusal_in}
-use Rattle.messages.proofs.Telling.{carried-tells}
-use Rattle.messages.specs.declared.Carried.{Carried}
-use Rattle.messages.specs.declared.Carried.TheVariants.{Done, Refused}
+use Rattle.messages.specs.Values.{none}
+use Rattle.messages.specs.Told.{stop_told}
+use Rattle.messages.specs.declared.Undone.{Undone}
+use Rattle.std.proofs.Common.{Err}
 use Rattle.marginals.specs.Marginals.{Found, found, refused, found_by, found_in, missing_from, marginals_in}
 use Rattle.graph.specs.Moments.{moment_numbers, start_of}
 use Rattle.graph.proofs.Moments.{start_none, start_more}
@@ -32,12 +30,12 @@ through_first : (f : Found) (rest : List Found) (k : ℕ) → missing_from k (f 
     → (missing_from k (f ∷ rest) ≡ missing_from (k + 1) rest) × (marginals_in (f ∷ rest) ≡ marginals_in (f ∷ []) ++ marginals_in rest)
 unfolding missing_from marginals_in
 through_first (found mean covariance) rest k e = (refl, ap (λ (l : List Float). l ++ marginals_in rest) (sym (append-nil (mean ++ covariance))))
-through_first (refused why) rest k e = absurd (let z : ◌≡◌ {A = ℕ} 0 1 = cc in omega arith)
+through_first (refused why) rest k e = absurd (cc)
 
-halted_first : (f : Found) (rest : List Found) (k j : ℕ) (why : Refusal) → missing_from k (f ∷ []) ≡ refused_at j why → missing_from k (f ∷ rest) ≡ refused_at j why
+halted_first : (f : Found) (rest : List Found) (k : ℕ) (u : Undone) → missing_from k (f ∷ []) ≡ Err u → missing_from k (f ∷ rest) ≡ Err u
 unfolding missing_from
-halted_first (found mean covariance) rest k j why e = absurd (let z : ◌≡◌ {A = ℕ} 0 1 = cc in omega arith)
-halted_first (refused w) rest k j why e = e
+halted_first (found mean covariance) rest k u e = absurd (cc)
+halted_first (refused w) rest k u e = e
 
 -- ---- how many numbers a key has
 
@@ -47,13 +45,13 @@ unfolding found_by missing_from marginals_in
 moments-count s r a xi w (forms.form mean covariance) k e h =
     let long = moments-long s mean covariance r a xi w e in
     ap length (append-nil (mean ++ covariance)) ∙ length-append mean covariance ∙ omega (arith, long.0, long.1)
-moments-count s r a xi w forms.pivot k e h = absurd (let z : ◌≡◌ {A = ℕ} 0 1 = cc in omega arith)
-moments-count s r a xi w forms.not_finite k e h = absurd (let z : ◌≡◌ {A = ℕ} 0 1 = cc in omega arith)
+moments-count s r a xi w forms.pivot k e h = absurd (cc)
+moments-count s r a xi w forms.not_finite k e h = absurd (cc)
 
 outcome-count : (s : ℕ) (o : Outcome) (k : ℕ) → missing_from k (found_in s o ∷ []) ≡ none → length (marginals_in (found_in s o ∷ [])) ≡ moment_numbers s
 unfolding found_in missing_from marginals_in
-outcome-count s pivot k h = absurd (let z : ◌≡◌ {A = ℕ} 0 1 = cc in omega arith)
-outcome-count s not_finite k h = absurd (let z : ◌≡◌ {A = ℕ} 0 1 = cc in omega arith)
+outcome-count s pivot k h = absurd (cc)
+outcome-count s not_finite k h = absurd (cc)
 outcome-count s (message r a xi w) k h = moments-count s r a xi w (moments_of r s a xi w) k refl h
 
 module _ (sizes : List ℕ) (factors messages : List Float) (keys heads : List ℕ) where
@@ -117,23 +115,13 @@ module _ (sizes : List ℕ) (factors messages : List Float) (keys heads : List �
                 ∙ drop-drop (length (marginals_in (f ∷ []))) to results₀);
           }
 
-      pub walk_halted : (numbers j : ℕ) (why : Refusal) (r : Carried) (results' : List Float) → r ≡ Refused j why → refusal_in r ≡ missing_from k (f ∷ [])
-          → Finds all numbers r results₀ results'
-      walk_halted numbers j why r results' er e =
-          let s : refusal_in r ≡ missing_from 0 all = rw er (sym (w.stop ∙ ap (missing_from k) opened
-          ∙ halted_first f (rest (k + 1)) k j why (sym e ∙ ap refusal_in er))) in
-          record {
-            tells = s;
-            told = carried-tells r (missing_from 0 all) s;
-            count = λ t. absurd (apart t);
-            stand = λ t. absurd (apart t);
-          }
-        where
-          apart : r ≡ Done → ⊥
-          apart t = let z : ◌≡◌ {A = ℕ} 0 1 = cc in omega arith
+      pub walk_halted : (numbers : ℕ) (u : Undone) (results' : List Float) → Err u ≡ missing_from k (f ∷ []) → Finds all numbers (Err u) results₀ results'
+      walk_halted numbers u results' e =
+          let s : Err u ≡ missing_from 0 all = sym (w.stop ∙ ap (missing_from k) opened ∙ halted_first f (rest (k + 1)) k u (sym e)) in
+          record { tells = s; told = ap stop_told s; count = λ t. absurd (cc); stand = λ t. absurd (cc) }
 
     pub walk-done : (results₀ results : List Float) (to k : ℕ) → Walked results₀ results to k → length qs ≤ k
-        → Finds all (start_of sizes (length qs)) Done results₀ results
+        → Finds all (start_of sizes (length qs)) none results₀ results
     unfolding found_from missing_from marginals_in
     walk-done results₀ results to k w h =
         let e : drop k qs ≡ [] = drop_of_length-le qs {i = k} h in
@@ -143,7 +131,7 @@ module _ (sizes : List ℕ) (factors messages : List Float) (keys heads : List �
         let s : none ≡ missing_from 0 all = sym (w.stop ∙ rw e refl) in
         record {
           tells = s;
-          told = carried-tells Done (missing_from 0 all) s;
+          told = ap stop_told s;
           count = λ t. n ∙ w.place ∙ ap (start_of sizes) i;
           stand = λ t. rw (n, d) (sym (take-append-drop to results) ∙ ap (λ (l : List Float). take to results ++ l) w.after);
         }

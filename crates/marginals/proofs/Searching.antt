@@ -10,15 +10,14 @@ use Rattle.factor.specs.Limits.{max_size, max_total}
 use Rattle.factor.specs.Factor.{lay}
 use Rattle.graph.specs.Record.{size_at}
 use Rattle.graph.specs.declared.Graph.{Graph}
-use Rattle.graph.specs.declared.refusal.Refusal.{Refusal}
 use Rattle.graph.proofs.Validity.{size-most, valid-size}
 use Rattle.schedule.specs.Gather.{Gathered}
 use Rattle.plan.specs.Gather.{Held, gathered_of}
 use Rattle.plan.specs.Plan.{no_gathered}
 use Rattle.plan.specs.declared.gather.Gathered as arrays
-use Rattle.messages.specs.Asked.{refusal_in}
-use Rattle.messages.specs.declared.Carried.{Carried}
-use Rattle.messages.specs.declared.Carried.TheVariants.{Done, Refused}
+use Rattle.messages.specs.Values.{FirstRefusal, none}
+use Rattle.messages.specs.declared.Undone.{Undone}
+use Rattle.std.proofs.Common.{Err}
 use Rattle.messages.proofs.Members.{at_map}
 use Rattle.marginals.specs.Marginals.{marginal_numbers, Found, missing_from, marginals_in}
 use Rattle.graph.specs.Moments.{start_of}
@@ -39,16 +38,16 @@ module _ (g : Graph) (at : List arrays.Gathered) (factors messages : List Float)
   many : length (entries at g.variables) ≡ g.variables
   many = length-map (take g.variables at) gathered_of ∙ length-take-le g.variables at f.long
 
-  planned_finds : (numbers : ℕ) (r : Carried) (results : List Float) → numbers ≡ marginal_numbers g
+  planned_finds : (numbers : ℕ) (r : FirstRefusal) (results : List Float) → numbers ≡ marginal_numbers g
       → Finds (found_from g.sizes factors messages keys heads 0 (entries at g.variables)) numbers r results₀ results
       → FindsPlanned g at factors messages keys heads r results₀ results
   planned_finds numbers r results e h p run = subst (λ (all : List Found). Finds all (marginal_numbers g) r results₀ results)
       (found-planned g p at factors messages keys heads run) (rw e at h)
 
   pub search_done : (results : List Float) (to k : ℕ) → At results to k → g.variables ≤ k
-      → FindsPlanned g at factors messages keys heads Done results₀ results
+      → FindsPlanned g at factors messages keys heads none results₀ results
   search_done results to k w h =
-      planned_finds (start_of g.sizes (length (entries at g.variables))) Done results (ap (start_of g.sizes) many ∙ all-numbers g f.sound)
+      planned_finds (start_of g.sizes (length (entries at g.variables))) none results (ap (start_of g.sizes) many ∙ all-numbers g f.sound)
       (walk-done g.sizes factors messages keys heads (entries at g.variables) results₀ results to k w (omega (arith, many)))
 
   module _ (results : List Float) (to k : ℕ) (w : At results to k) (l : k < g.variables) where
@@ -75,17 +74,15 @@ module _ (g : Graph) (at : List arrays.Gathered) (factors messages : List Float)
     pub turn_asked : (work : ℕ) → work ≡ work₀ → Held q × AskedAt g.sizes factors messages work keys heads k (gathered_of q) × (size_at g k ≤ max_size)
     turn_asked work e = rw e (f.held k l, f.asked k l, key-small)
 
-    pub search_on : (r : Carried) (results' : List Float) (s : ℕ) → r ≡ Done → refusal_in r ≡ missing_from k (own ∷ []) → results'
-        ≡ lay results to (marginals_in (own ∷ [])) → s ≡ size_at g k
-        → At results' (to + (s + s * s)) (k + 1)
-    search_on r results' s er et el es =
+    pub search_on : (results' : List Float) (s : ℕ) → none ≡ missing_from k (own ∷ []) → results' ≡ lay results to (marginals_in (own ∷ []))
+        → s ≡ size_at g k → At results' (to + (s + s * s)) (k + 1)
+    search_on results' s e el es =
         walk_on g.sizes factors messages keys heads (entries at g.variables) results₀ results to k (gathered_of q) w (omega (arith, many)) entry
-        results' (to + (s + s * s))
-        (sym et ∙ ap refusal_in er) el (rw es refl) turn_room
+        results' (to + (s + s * s)) (sym e) el (rw es refl) turn_room
 
-    pub search_halted : (j : ℕ) (why : Refusal) (r : Carried) (results' : List Float) → r ≡ Refused j why → refusal_in r ≡ missing_from k (own ∷ [])
-        → FindsPlanned g at factors messages keys heads r results₀ results'
-    search_halted j why r results' er e =
-        planned_finds (marginal_numbers g) r results' refl
+    pub search_halted : (u : Undone) (results' : List Float) → Err u ≡ missing_from k (own ∷ [])
+        → FindsPlanned g at factors messages keys heads (Err u) results₀ results'
+    search_halted u results' e =
+        planned_finds (marginal_numbers g) (Err u) results' refl
         (walk_halted g.sizes factors messages keys heads (entries at g.variables) results₀ results to k (gathered_of q) w (omega (arith, many))
-        entry (marginal_numbers g) j why r results' er e)
+        entry (marginal_numbers g) u results' e)

@@ -1,5 +1,5 @@
 -- Inner: the marginals as the tables and the stores of a run give them, and what their finding asks for.
-use Rattle.std.specs.Prelude.{◌≡◌, true, List, [], ◌∷◌, map, ℕ, ◌+◌, ◌≤◌, ◌<◌, Float, length, get_or, take}
+use Rattle.std.specs.Prelude.{◌≡◌, true, List, [], ◌∷◌, map, ℕ, ◌+◌, ◌≤◌, ◌<◌, Float, length, get_or, take, Ok}
 use Rattle.graph.specs.Record.{offset, valid, factor_keys}
 use Rattle.graph.specs.declared.Graph.{Graph}
 use Rattle.schedule.specs.Count.{from}
@@ -12,14 +12,15 @@ use Rattle.plan.specs.declared.gather.Gathered as arrays
 use Rattle.gaussian.specs.Elimination.{Outcome, eliminate}
 use Rattle.gaussian.specs.Answers.{views_of}
 use Rattle.gaussian.specs.Asked.{Asked}
+use Rattle.gaussian.specs.declared.marginal.MarginalFault.{MarginalFault}
+use Rattle.gaussian.specs.declared.marginal.MarginalFault.TheVariants as fault
+use Rattle.graph.specs.declared.refusal.Refusal.{Refusal}
+use Rattle.graph.specs.declared.refusal.Refusal.TheVariants.{ClearedPivot, MarginalPivot, ResultNotFinite}
 use Rattle.lists.specs.Lists.{backward_shift, gathered_numbers}
 use Rattle.messages.specs.Figure.{need}
 use Rattle.messages.specs.Tables.{Carriable, PlacedTo, Tables, Stored}
-use Rattle.messages.specs.Values.{overlaid}
-use Rattle.messages.specs.Asked.{refusal_in}
-use Rattle.messages.specs.Told.{carried_told, stop_told}
-use Rattle.messages.specs.declared.Carried.{Carried}
-use Rattle.messages.specs.declared.Carried.TheVariants.{Done}
+use Rattle.messages.specs.Values.{FirstRefusal, overlaid}
+use Rattle.messages.specs.Told.{stop_told}
 use Rattle.marginals.specs.Marginals.{marginal_numbers, Found, found_in, planned_marginals, missing_from, marginals_in}
 
 -- ---- by the tables
@@ -35,6 +36,12 @@ found_at sizes factors messages keys heads k q = found_in (get_or sizes k 0) (la
 unfoldable pub found_from : (sizes : List ℕ) (factors messages : List Float) (keys heads : List ℕ) (k : ℕ) (qs : List Gathered) → List Found
 found_from sizes factors messages keys heads k [] = []
 found_from sizes factors messages keys heads k (q ∷ qs) = found_at sizes factors messages keys heads k q ∷ found_from sizes factors messages keys heads (k + 1) qs
+
+-- why a key has no marginal
+abbrev pub refusal_of : MarginalFault → Refusal
+refusal_of fault.ClearedPivot = ClearedPivot
+refusal_of fault.Pivot = MarginalPivot
+refusal_of fault.NotFinite = ResultNotFinite
 
 -- ---- what is asked for
 
@@ -69,14 +76,14 @@ pub record PlanCarried (g : Graph) (p : schedule.Plan) (at : List arrays.Gathere
   pub enough' : need g p.forward + need g p.backward ≤ length messages
 
 -- the answer tells the first key without a marginal; where there is none, the marginals are so many numbers, and stand at the start of the results
-pub record Finds (all : List Found) (numbers : ℕ) (r : Carried) (before after : List Float) : Type 0 where
-  pub tells : refusal_in r ≡ missing_from 0 all
-  pub told : carried_told r ≡ stop_told (missing_from 0 all)
-  pub count : r ≡ Done → length (marginals_in all) ≡ numbers
-  pub stand : r ≡ Done → after ≡ overlaid before (marginals_in all)
+pub record Finds (all : List Found) (numbers : ℕ) (r : FirstRefusal) (before after : List Float) : Type 0 where
+  pub tells : r ≡ missing_from 0 all
+  pub told : stop_told r ≡ stop_told (missing_from 0 all)
+  pub count : r ≡ Ok tt → length (marginals_in all) ≡ numbers
+  pub stand : r ≡ Ok tt → after ≡ overlaid before (marginals_in all)
 
 -- `Finds` holds for every plan p whose messages stand in these tables and stores
 abbrev pub FindsPlanned : (g : Graph) (at : List arrays.Gathered) (factors messages : List Float) (keys heads : List ℕ)
-    (r : Carried) (before after : List Float) → Type 0
+    (r : FirstRefusal) (before after : List Float) → Type 0
 FindsPlanned g at factors messages keys heads r before after =
     (p : schedule.Plan) → PlanCarried g p at factors messages keys heads → Finds (planned_marginals g factors p) (marginal_numbers g) r before after

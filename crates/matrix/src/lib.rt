@@ -3,12 +3,12 @@
 #![tactic(auto)]
 
 ghost use Rattle.std.specs.Prelude.{◌≡◌, ℕ, ◌+◌, ◌*◌, ◌<◌, ◌≤◌, ◌^◌, length, set};
-ghost use Rattle.matrix.specs.Views.{place, entry, Inside, flip};
+ghost use Rattle.matrix.specs.Views.{place, entry, Inside, flip, columns};
 ghost use Rattle.matrix.specs.Sums.{dot_of, deduct_of};
 ghost use Rattle.matrix.specs.Stores.{block_column, Continued};
 ghost use Rattle.matrix.specs.Products.{updated, product_entry, product, quadform_of};
 ghost use Rattle.matrix.specs.Triangles.{filled_diagonal, filled_column, filled_upper};
-ghost use Rattle.matrix.specs.Finite.{is_finite, all_finite};
+ghost use Rattle.matrix.specs.Finite.{all_finite};
 
 // Where a matrix lies in a slice: entry (i, j) stands at + i * down + j * across. Blocks, columns and transposes are views too.
 #[derive(Clone, Copy)]
@@ -16,6 +16,19 @@ pub struct View {
     pub at: usize,
     pub down: usize,
     pub across: usize,
+}
+
+impl View {
+    // A matrix of n rows from the start of its slice, column by column.
+    pub fn columns(n: usize) -> View
+        ensures { result ≡ columns n }
+    {
+        View {
+            at: 0,
+            down: 1,
+            across: n,
+        }
+    }
 }
 
 // Entry (i, j).
@@ -103,6 +116,52 @@ pub fn updated(how: Update, old: f64, x: f64) -> f64
     }
 }
 
+// A matrix in a lent slice: where its entries stand, and how many rows and columns it has. Every entry is in the slice.
+#[derive(Clone, Copy)]
+pub struct Matrix<'a> {
+    pub s: &'a [f64],
+    pub v: View,
+    pub rows: usize,
+    pub columns: usize,
+    pub ghost inside: { Inside v rows columns (length s.now) },
+}
+
+impl<'a> Matrix<'a> {
+    // The matrix of m rows and n columns at the start of a slice, column by column.
+    pub fn new(s: &'a [f64], m: usize, n: usize) -> Matrix<'a>
+        requires { m * n ≤ length s.now }
+        ensures { (result.s.now ≡ s.now) × (result.v ≡ columns m) × (result.rows ≡ m) × (result.columns ≡ n) }
+    {
+        Matrix {
+            s,
+            v: View::columns(m),
+            rows: m,
+            columns: n,
+        }
+    }
+
+    // The matrix transposed.
+    pub fn flip(self) -> Matrix<'a>
+        ensures { (result.s.now ≡ self.entry.s.now) × (result.v ≡ flip self.entry.v) × (result.rows ≡ self.entry.columns)
+            × (result.columns ≡ self.entry.rows) }
+    {
+        Matrix {
+            s: self.s,
+            v: flip(self.v),
+            rows: self.columns,
+            columns: self.rows,
+        }
+    }
+
+    // Entry (i, j).
+    fn get(self, i: usize, j: usize) -> f64
+        requires { (i < self.rows) × (j < self.columns) }
+        ensures { result ≡ entry self.entry.s.now self.entry.v i j }
+    {
+        get(self.s, self.v, i, j)
+    }
+}
+
 // Four product sums side by side.
 #[derive(Drop)]
 pub struct Four {
@@ -113,24 +172,23 @@ pub struct Four {
 }
 
 // The product sums of rows i to i + 3 of A with column j of B. None waits for another, so a processor makes them at once.
-fn dots(a: &[f64], av: View, i: usize, b: &[f64], bv: View, j: usize, n: usize) -> Four
-    requires i_bound { (i + 3 < 2 ^ 64) × Inside av (i + 4) n (length a.now) }
-    requires by_index { (k : ℕ) → k < n → place bv k j < length b.now }
-    ensures { (result.s0 ≡ dot_of a.now av i b.now bv j n)
-        × (result.s1 ≡ dot_of a.now av (i + 1) b.now bv j n)
-        × (result.s2 ≡ dot_of a.now av (i + 2) b.now bv j n)
-        × (result.s3 ≡ dot_of a.now av (i + 3) b.now bv j n) }
+fn dots<'a>(a: Matrix<'a>, i: usize, b: Matrix<'a>, j: usize) -> Four
+    requires { (i + 3 < a.rows) × (j < b.columns) × (a.columns ≡ b.rows) }
+    ensures { (result.s0 ≡ dot_of a.entry.s.now a.entry.v i b.entry.s.now b.entry.v j a.entry.columns)
+        × (result.s1 ≡ dot_of a.entry.s.now a.entry.v (i + 1) b.entry.s.now b.entry.v j a.entry.columns)
+        × (result.s2 ≡ dot_of a.entry.s.now a.entry.v (i + 2) b.entry.s.now b.entry.v j a.entry.columns)
+        × (result.s3 ≡ dot_of a.entry.s.now a.entry.v (i + 3) b.entry.s.now b.entry.v j a.entry.columns) }
 {
     let mut s0 = 0.0;
     let mut s1 = 0.0;
     let mut s2 = 0.0;
     let mut s3 = 0.0;
-    for k in 0..n {
-        let x = get(b, bv, k, j);
-        s0 = s0 + get(a, av, i, k) * x;
-        s1 = s1 + get(a, av, i + 1, k) * x;
-        s2 = s2 + get(a, av, i + 2, k) * x;
-        s3 = s3 + get(a, av, i + 3, k) * x;
+    for k in 0..a.columns {
+        let x = b.get(k, j);
+        s0 = s0 + a.get(i, k) * x;
+        s1 = s1 + a.get(i + 1, k) * x;
+        s2 = s2 + a.get(i + 2, k) * x;
+        s3 = s3 + a.get(i + 3, k) * x;
     }
     Four { s0, s1, s2, s3 }
 }
@@ -145,170 +203,99 @@ fn meet(c: &mut [f64], cv: View, i: usize, j: usize, how: Update, x: f64)
 }
 
 // Rows i to i + 3 of column j of C: A times B.
-fn gemm_four(
+fn gemm_four<'a>(
     c: &mut [f64],
     cv: View,
     i: usize,
     j: usize,
     how: Update,
-    a: &[f64],
-    av: View,
-    b: &[f64],
-    bv: View,
-    n: usize,
+    a: Matrix<'a>,
+    b: Matrix<'a>,
 )
-    requires i_bound { (i + 3 < 2 ^ 64) × ((r : ℕ) → r < i + 4 → place cv r j < length c.old) × Inside av (i + 4) n (length a.now) }
-    requires by_index { (k : ℕ) → k < n → place bv k j < length b.now }
-    ensures { Continued cv (product_entry how a.now av b.now bv n) j c.old i c.new (i + 4) }
+    requires shape { (i + 3 < a.rows) × (j < b.columns) × (a.columns ≡ b.rows) }
+    requires by_index { (r : ℕ) → r < a.rows → place cv r j < length c.old }
+    ensures { Continued cv (product_entry how a.entry.s.now a.entry.v b.entry.s.now b.entry.v a.entry.columns) j c.old i c.new (i + 4) }
 {
-    let s = dots(a, av, i, b, bv, j, n);
+    let s = dots(a, i, b, j);
     meet(c, cv, i, j, how, s.s0);
     meet(c, cv, i + 1, j, how, s.s1);
     meet(c, cv, i + 2, j, how, s.s2);
     meet(c, cv, i + 3, j, how, s.s3);
 }
 
-// Rows of column j of C from one row on, up to row m: A times B.
-fn gemm_rows(
+// Rows of column j of C from one row on: A times B.
+fn gemm_rows<'a>(
     c: &mut [f64],
     cv: View,
     from: usize,
-    m: usize,
     j: usize,
     how: Update,
-    a: &[f64],
-    av: View,
-    b: &[f64],
-    bv: View,
-    n: usize,
+    a: Matrix<'a>,
+    b: Matrix<'a>,
 )
-    requires from_le_m { (from ≤ m) × ((i : ℕ) → i < m → place cv i j < length c.old) }
-    requires inside { Inside av m n (length a.now) }
-    requires by_index { (k : ℕ) → k < n → place bv k j < length b.now }
-    ensures { Continued cv (product_entry how a.now av b.now bv n) j c.old from c.new m }
+    requires shape { (from ≤ a.rows) × (j < b.columns) × (a.columns ≡ b.rows) }
+    requires by_index { (i : ℕ) → i < a.rows → place cv i j < length c.old }
+    ensures { Continued cv (product_entry how a.entry.s.now a.entry.v b.entry.s.now b.entry.v a.entry.columns) j c.old from c.new a.entry.rows }
 {
-    let mut i = from;
-    while i < m {
-        meet(c, cv, i, j, how, dot(a, av, i, b, bv, j, n));
-        i += 1;
+    for i in from..a.rows {
+        let x = dot(a.s, a.v, i, b.s, b.v, j, a.columns);
+        meet(c, cv, i, j, how, x);
     }
 }
 
-// Column j of C, m rows: A times B. Four rows at a time as long as there are four.
-fn gemm_column(
-    c: &mut [f64],
-    cv: View,
-    m: usize,
-    j: usize,
-    how: Update,
-    a: &[f64],
-    av: View,
-    b: &[f64],
-    bv: View,
-    n: usize,
-)
-    requires by_index { (i : ℕ) → i < m → place cv i j < length c.old }
-    requires inside { Inside av m n (length a.now) }
-    requires by_index_2 { (k : ℕ) → k < n → place bv k j < length b.now }
-    ensures { c.new ≡ block_column cv (product_entry how a.now av b.now bv n) j c.old m }
+// Column j of C: A times B. Four rows at a time as long as there are four.
+fn gemm_column<'a>(c: &mut [f64], cv: View, j: usize, how: Update, a: Matrix<'a>, b: Matrix<'a>)
+    requires shape { (j < b.columns) × (a.columns ≡ b.rows) }
+    requires by_index { (i : ℕ) → i < a.rows → place cv i j < length c.old }
+    ensures { c.new ≡ block_column cv (product_entry how a.entry.s.now a.entry.v b.entry.s.now b.entry.v a.entry.columns) j c.old a.entry.rows }
 {
-    let mut i = 0;
-    while 4 <= m - i {
-        gemm_four(c, cv, i, j, how, a, av, b, bv, n);
-        i += 4;
+    let fours = a.rows / 4;
+    for q in 0..fours {
+        gemm_four(c, cv, q * 4, j, how, a, b);
     }
-    gemm_rows(c, cv, i, m, j, how, a, av, b, bv, n);
+    gemm_rows(c, cv, fours * 4, j, how, a, b);
 }
 
-// C(m × w) with A(m × n) times B(n × w) added, subtracted or stored.
-pub fn gemm(
-    c: &mut [f64],
-    cv: View,
-    m: usize,
-    w: usize,
-    how: Update,
-    a: &[f64],
-    av: View,
-    b: &[f64],
-    bv: View,
-    n: usize,
-)
-    requires inside { Inside cv m w (length c.old) }
-    requires inside_2 { Inside av m n (length a.now) }
-    requires inside_3 { Inside bv n w (length b.now) }
-    ensures { c.new ≡ product how cv m a.now av b.now bv n c.old w }
+// A times B is added to C, subtracted from it or stored there.
+pub fn gemm<'a>(c: &mut [f64], cv: View, how: Update, a: Matrix<'a>, b: Matrix<'a>)
+    requires shape { a.columns ≡ b.rows }
+    requires inside { Inside cv a.rows b.columns (length c.old) }
+    ensures { c.new ≡ product how cv a.entry.rows a.entry.s.now a.entry.v b.entry.s.now b.entry.v a.entry.columns c.old b.entry.columns }
 {
-    for j in 0..w {
-        gemm_column(c, cv, m, j, how, a, av, b, bv, n);
+    for j in 0..b.columns {
+        gemm_column(c, cv, j, how, a, b);
     }
 }
 
-// `gemm` with A(n × m) transposed: C(m × w) with A'B added, subtracted or stored.
-pub fn gemm_tr(
-    c: &mut [f64],
-    cv: View,
-    m: usize,
-    w: usize,
-    how: Update,
-    a: &[f64],
-    av: View,
-    b: &[f64],
-    bv: View,
-    n: usize,
-)
-    requires inside { Inside cv m w (length c.old) }
-    requires inside_2 { Inside av n m (length a.now) }
-    requires inside_3 { Inside bv n w (length b.now) }
-    ensures { c.new ≡ product how cv m a.now (flip av) b.now bv n c.old w }
+// `gemm` with A transposed.
+pub fn gemm_tr<'a>(c: &mut [f64], cv: View, how: Update, a: Matrix<'a>, b: Matrix<'a>)
+    requires shape { a.rows ≡ b.rows }
+    requires inside { Inside cv a.columns b.columns (length c.old) }
+    ensures { c.new ≡ product how cv a.entry.columns a.entry.s.now (flip a.entry.v) b.entry.s.now b.entry.v a.entry.rows c.old b.entry.columns }
 {
-    gemm(c, cv, m, w, how, a, flip(av), b, bv, n);
+    gemm(c, cv, how, a.flip(), b);
 }
 
-// The vector c(m) with A(n × m) transposed times the vector b(n) added, subtracted or stored.
-pub fn gemv_tr(
-    c: &mut [f64],
-    cv: View,
-    m: usize,
-    how: Update,
-    a: &[f64],
-    av: View,
-    b: &[f64],
-    bv: View,
-    n: usize,
-)
-    requires inside { Inside cv m 1 (length c.old) }
-    requires inside_2 { Inside av n m (length a.now) }
-    requires inside_3 { Inside bv n 1 (length b.now) }
-    ensures { c.new ≡ product how cv m a.now (flip av) b.now bv n c.old 1 }
+// `gemm_tr` with a vector, a matrix of one column.
+pub fn gemv_tr<'a>(c: &mut [f64], cv: View, how: Update, a: Matrix<'a>, b: Matrix<'a>)
+    requires shape { (a.rows ≡ b.rows) × (b.columns ≡ 1) }
+    requires inside { Inside cv a.columns 1 (length c.old) }
+    ensures { c.new ≡ product how cv a.entry.columns a.entry.s.now (flip a.entry.v) b.entry.s.now b.entry.v a.entry.rows c.old 1 }
 {
-    gemm_tr(c, cv, m, 1, how, a, av, b, bv, n);
+    gemm_tr(c, cv, how, a, b);
 }
 
-// A(y × d) transposed times W(y × y) times A, added to C(d × d). The work slice takes W times A.
-pub fn quadform(
-    c: &mut [f64],
-    cv: View,
-    d: usize,
-    w: &[f64],
-    wv: View,
-    a: &[f64],
-    av: View,
-    y: usize,
-    work: &mut [f64],
-)
-    requires inside { Inside cv d d (length c.old) }
-    requires inside_2 { Inside wv y y (length w.now) }
-    requires inside_3 { Inside av y d (length a.now) }
-    requires d_in_bounds { y * d ≤ length work.old }
-    ensures { c.new ≡ quadform_of cv d w.now wv a.now av y c.old }
+// A transposed times a square W times A, added to C. The work slice takes W times A.
+pub fn quadform<'a>(c: &mut [f64], cv: View, w: Matrix<'a>, a: Matrix<'a>, work: &mut [f64])
+    requires shape { (w.rows ≡ a.rows) × (w.columns ≡ a.rows) }
+    requires inside { Inside cv a.columns a.columns (length c.old) }
+    requires in_bounds { a.rows * a.columns ≤ length work.old }
+    ensures { c.new ≡ quadform_of cv a.entry.columns w.entry.s.now w.entry.v a.entry.s.now a.entry.v a.entry.rows c.old }
 {
-    let t = View {
-        at: 0,
-        down: 1,
-        across: y,
-    };
-    gemm(work, t, y, d, Update::Store, w, wv, a, av, y);
-    gemm_tr(c, cv, d, d, Update::Add, a, av, &work[..], t, y);
+    let y = a.rows;
+    let d = a.columns;
+    gemm(work, View::columns(y), Update::Store, w, a);
+    gemm_tr(c, cv, Update::Add, a, Matrix::new(&work[..], y, d));
 }
 
 // The diagonal of C(n × n) becomes x.
@@ -343,22 +330,9 @@ pub fn fill_upper_triangle_with_lower_triangle(c: &mut [f64], v: View, n: usize)
     }
 }
 
-// Neither a NaN nor an infinity: only of those is the difference with itself no number.
-pub fn is_finite(x: f64) -> bool
-    ensures { result ≡ is_finite x }
-{
-    let d = x - x;
-    d == d
-}
-
 // All numbers of a part are finite.
 pub fn finite(s: &[f64]) -> bool
     ensures { result ≡ all_finite s.now }
 {
-    for i in 0..s.len() {
-        if !is_finite(s[i]) {
-            return false;
-        }
-    }
-    true
+    s.iter().all(|x| x.is_finite())
 }

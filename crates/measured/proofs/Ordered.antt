@@ -3,14 +3,13 @@ use mathlib.Core.Path.{◌≡◌, refl, sym, ap, subst, ◌∙◌}
 use mathlib.Core.List.{List}
 use Prim.Native.Nat.{ℕ, ◌≤◌}
 use native.Mathlib.Omega.{arith}
+use Rattle.std.specs.Prelude.{Result, Ok, Err}
 use lib.Ieee.{Float}
 use Rattle.workspace.specs.Frames.{work_numbers}
 use Rattle.graph.specs.declared.Graph.{Graph}
-use Rattle.graph.specs.declared.refusal.Refusal.{Refusal}
 use Rattle.records.specs.Records.{read_all}
 use Rattle.records.specs.declared.answer.Read.{Read}
-use Rattle.records.specs.declared.answer.Ended as records
-use Rattle.records.specs.declared.answer.Ended.TheVariants as reading
+use Rattle.records.specs.declared.answer.Rejected.{Rejected}
 use Rattle.job.specs.Job.{factor_room, zeros, reading_stage, deciding_bytes}
 use Rattle.job.proofs.Refusals.{Placed, Keyed, along-keyed}
 use Rattle.job.proofs.Longest.{read-placed}
@@ -30,9 +29,9 @@ small g order factors messages work marginals ran messages' marginals' is =
 
 module _ (bytes : List ℕ) (r : Read) (is : r ≡ (read_all bytes (zeros factor_room)).answer) where
   -- and so is the place of a refused record
-  pub place-small : (why : Refusal) (place : ℕ) → r.ended ≡ reading.Refused why place → place ≤ 0x10000
-  place-small why place e =
-      let l : Placed deciding_bytes (reading.Refused why place) = subst (Placed deciding_bytes) (sym (ap (λ (x : Read). x.ended) is) ∙ e)
+  pub place-small : (rejected : Rejected) → r.ended ≡ Err rejected → rejected.place ≤ 0x10000
+  place-small rejected e =
+      let l : Placed deciding_bytes (Err rejected) = subst (Placed deciding_bytes) (sym (ap (λ (x : Read). x.ended) is) ∙ e)
       (read-placed bytes).1 in
       omega arith
 
@@ -41,21 +40,21 @@ module _ (bytes : List ℕ) (r : Read) (is : r ≡ (read_all bytes (zeros factor
     run = run_of (read_job bytes) order s
 
     -- a job that was read is run
-    pub ran_is : (store : List Float) → store ≡ (read_all bytes (zeros factor_room)).store → r.ended ≡ reading.Done → (ran : Ran)
+    pub ran_is : (store : List Float) → store ≡ (read_all bytes (zeros factor_room)).store → (done : Unit {0}) → r.ended ≡ Ok done → (ran : Ran)
         (messages marginals : List Float) (n : ℕ)
         → run_verdict ran messages marginals ≡ run_along r.graph order store s.messages work_numbers s.marginals → n ≡ ran_number ran
         → (n ≡ ordered_number (read_job bytes).answer.ended run) × (stores messages marginals ≡ ordered_stores (read_job bytes).answer.ended run s)
     unfolding run_of
-    ran_is store stored e ran messages marginals n v en =
+    ran_is store stored done e ran messages marginals n v en =
         let w : run_verdict ran messages marginals ≡ run = v ∙ rw (is, stored) refl in
-        let d : reading.Done ≡ (read_job bytes).answer.ended = sym e ∙ ap (λ (x : Read). x.ended) is in (
-          en ∙ ap (λ (x : RunVerdict). ran_number x.answer) w ∙ ap (λ (x : records.Ended). ordered_number x run) d,
-          ap stores_in w ∙ ap (λ (x : records.Ended). ordered_stores x run s) d,
+        let d : Ok done ≡ (read_job bytes).answer.ended = sym e ∙ ap (λ (x : Read). x.ended) is in (
+          en ∙ ap (λ (x : RunVerdict). ran_number x.answer) w ∙ ap (λ (x : Result (Unit {0}) Rejected). ordered_number x run) d,
+          ap stores_in w ∙ ap (λ (x : Result (Unit {0}) Rejected). ordered_stores x run s) d,
         )
 
     -- one that was refused isn't
-    pub refused-is : (why : Refusal) (place n : ℕ) → r.ended ≡ reading.Refused why place → n ≡ marked why reading_stage place
+    pub refused-is : (rejected : Rejected) (n : ℕ) → r.ended ≡ Err rejected → n ≡ marked rejected.why reading_stage rejected.place
         → (n ≡ ordered_number (read_job bytes).answer.ended run) × (s ≡ ordered_stores (read_job bytes).answer.ended run s)
-    refused-is why place n e en =
-        let d : reading.Refused why place ≡ (read_job bytes).answer.ended = sym e ∙ ap (λ (x : Read). x.ended) is in
-        (en ∙ ap (λ (x : records.Ended). ordered_number x run) d, ap (λ (x : records.Ended). ordered_stores x run s) d)
+    refused-is rejected n e en =
+        let d : Err rejected ≡ (read_job bytes).answer.ended = sym e ∙ ap (λ (x : Read). x.ended) is in
+        (en ∙ ap (λ (x : Result (Unit {0}) Rejected). ordered_number x run) d, ap (λ (x : Result (Unit {0}) Rejected). ordered_stores x run s) d)

@@ -3,12 +3,9 @@ use mathlib.Core.Path.{◌≡◌, refl, ap, ◌∙◌, sym}
 use mathlib.Core.List.{List}
 use Prim.Native.Nat.{ℕ, ◌+◌, ◌≤◌}
 use native.Mathlib.Numerals.{add-one}
+use Rattle.std.specs.Prelude.{Result, Ok, Err}
 use lib.Ieee.{Float}
 use lib.ListN.{length, get_or}
-use Rattle.matrix.specs.Sums.{plus_zero}
-use Rattle.root.specs.Root.{root_of}
-use Rattle.root.specs.declared.Pivot.{Pivot}
-use Rattle.root.specs.declared.Pivot.TheVariants as pivot
 use Rattle.workspace.specs.Frames.{work_numbers}
 use Rattle.factor.specs.Told.{Told, value, refusal}
 use Rattle.graph.specs.Refusals.{refusal_number}
@@ -20,16 +17,14 @@ use Rattle.records.specs.Records.{read_all}
 use Rattle.records.specs.declared.answer.Read.{Read}
 use Rattle.direct.specs.Direct.{direct_verdict, direct_answer, direct_store}
 use Rattle.direct.specs.Told.{direct_told}
-use Rattle.direct.specs.declared.Direct.{Direct}
-use Rattle.direct.specs.declared.Direct.TheVariants.{Rows, Refused}
 use Rattle.plan.specs.Plan.{plan_in}
 use Rattle.plan.proofs.Sending.{messages-length}
-use Rattle.solver.specs.Plan.{Answer, planned}
+use Rattle.solver.specs.Plan.{planned}
 use Rattle.solver.specs.declared.Arranged.{Arranged}
 use Rattle.solver.specs.Run as solver
 use Rattle.solver.specs.Stages as stages
 use Rattle.solver.specs.declared.run.Ran.{Ran}
-use Rattle.measured.specs.Measured.{read_job, refused_mark, number_in, eliminated, Stores, stores, stores_in, again, repeated, replanned, root_in}
+use Rattle.measured.specs.Measured.{read_job, refused_mark, number_in, eliminated, Stores, stores, stores_in, again, repeated, forward_messages, replanned}
 use Rattle.solver.specs.Run.{run_verdict}
 use Rattle.solver.specs.Stages.{read}
 
@@ -42,10 +37,10 @@ abbrev marked : Told → ℕ
 marked (value values) = get_or values 0 0
 marked (refusal number values) = refused_mark + number
 
-pub number-tells : (d : Direct) → number_in d ≡ marked (direct_told d)
+pub number-tells : (d : Result ℕ Refusal) → number_in d ≡ marked (direct_told d)
 unfolding direct_told
-number-tells (Rows rows) = refl
-number-tells (Refused why) = refl
+number-tells (Ok rows) = refl
+number-tells (Err why) = refl
 
 pub no_run : (g : Graph) (factors : List Float) (s : Stores) → s ≡ again g factors s 0
 unfolding again
@@ -64,7 +59,7 @@ one-run g factors s n messages marginals work r messages' marginals' ew es e =
 pub all_runs : (g : Graph) (factors : List Float) (s : Stores) (times n : ℕ) (t : Stores) → n ≡ times → t ≡ again g factors s n → t ≡ again g factors s times
 all_runs g factors s times n t en es = es ∙ ap (again g factors s) en
 
-pub eliminated-is : (bytes slots kept cleared : List ℕ) (messages : List Float) (read : Read) (factors messages' : List Float) (d : Direct) (r : ℕ)
+pub eliminated-is : (bytes slots kept cleared : List ℕ) (messages : List Float) (read : Read) (factors messages' : List Float) (d : Result ℕ Refusal) (r : ℕ)
     → read ≡ (read_all bytes (zeros factor_room)).answer
     → factors ≡ (read_all bytes (zeros factor_room)).store → d ≡ direct_answer
     (direct_verdict read.graph slots kept cleared factors (length messages) work_numbers)
@@ -86,14 +81,11 @@ unfolding replanned
 no_plan_lem g = refl
 
 -- the arrays' count is the number of forward messages
-pub one-plan : (g : Graph) (made : Arranged) (n : ℕ) → read made ≡ planned g → made.plan.forward.count ≡ replanned g (n + 1)
+pub one-plan : (g : Graph) (made : Arranged) (n : ℕ) → read (Ok made) ≡ planned g → made.plan.forward.count ≡ replanned g (n + 1)
 unfolding replanned read plan_in
-one-plan g made n e = rw (add-one n) (sym (messages-length made.plan.forward) ∙ ap (λ (a : Answer). length a.plan.forward) e)
+one-plan g made n e = rw (add-one n) (sym (messages-length made.plan.forward) ∙ ap forward_messages e)
 
--- ---- roots
-
-pub root-given : (v r : Float) (p : Pivot) → p ≡ root_of v → p ≡ pivot.Root r → r ≡ root_in (root_of v)
-root-given v r p e told = ap root_in (sym told ∙ e)
-
-pub root-refused : (v : Float) (p : Pivot) → p ≡ root_of v → p ≡ pivot.Refused → plus_zero ≡ root_in (root_of v)
-root-refused v p e told = ap root_in (sym told ∙ e)
+-- a refused plan has none
+pub none-made : (g : Graph) (why : Refusal) (n : ℕ) → read (Err why) ≡ planned g → 0 ≡ replanned g (n + 1)
+unfolding replanned read
+none-made g why n e = rw (add-one n) (ap forward_messages e)

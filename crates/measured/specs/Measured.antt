@@ -1,27 +1,19 @@
 -- Inner: a job's factors, eliminated directly; a job's graph, run several times or along an order; roots and lookups as numbers.
-use Rattle.std.specs.Prelude.{ℕ, zero, suc, ◌+◌, ◌*◌, List, Float, length, take}
+use Rattle.std.specs.Prelude.{ℕ, zero, suc, ◌+◌, ◌*◌, List, Option, Some, None, Result, Ok, Err, Float, length, take}
 use Rattle.matrix.specs.Sums.{plus_zero}
-use Rattle.root.specs.declared.Pivot.{Pivot}
-use Rattle.root.specs.declared.Pivot.TheVariants as pivot
 use Rattle.workspace.specs.Frames.{work_numbers}
 use Rattle.factor.specs.Factor.{lookup}
-use Rattle.factor.specs.declared.lists.Place.{Place}
-use Rattle.factor.specs.declared.lists.Place.TheVariants.{At, Nowhere}
 use Rattle.graph.specs.Refusals.{refusal_number}
 use Rattle.graph.specs.declared.Graph.{Graph}
 use Rattle.graph.specs.declared.refusal.Refusal.{Refusal}
 use Rattle.records.specs.Records.{Reading, read_all}
-use Rattle.records.specs.declared.answer.Ended as records
-use Rattle.records.specs.declared.answer.Ended.TheVariants as reading
+use Rattle.records.specs.declared.answer.Rejected.{Rejected}
 use Rattle.job.specs.Job.{factor_room, zeros, reading_stage}
 use Rattle.direct.specs.Direct.{DirectVerdict, direct_verdict}
-use Rattle.direct.specs.declared.Direct.{Direct}
-use Rattle.direct.specs.declared.Direct.TheVariants.{Rows, Refused}
-use Rattle.solver.specs.Plan.{planned}
+use Rattle.solver.specs.Plan.{Answer, planned}
 use Rattle.solver.specs.Run as solver
-use Rattle.solver.specs.declared.run.Ended as solver-ended
-use Rattle.solver.specs.declared.run.Ended.TheVariants as ending
 use Rattle.solver.specs.declared.run.Ran.{Ran}
+use Rattle.solver.specs.declared.run.Stopped.{Stopped}
 
 -- what a job registers, in the factor store that `job` lends
 abbrev pub read_job : List ℕ → Reading
@@ -31,9 +23,9 @@ read_job bytes = read_all bytes (zeros factor_room)
 abbrev pub refused_mark : ℕ
 refused_mark = 0x10000
 
-abbrev pub number_in : Direct → ℕ
-number_in (Rows rows) = rows
-number_in (Refused why) = refused_mark + refusal_number why
+abbrev pub number_in : Result ℕ Refusal → ℕ
+number_in (Ok rows) = rows
+number_in (Err why) = refused_mark + refusal_number why
 
 -- a direct elimination of some of its factors
 unfoldable pub eliminated : (r : Reading) (slots kept cleared : List ℕ) (room : ℕ) → DirectVerdict
@@ -65,9 +57,9 @@ repeated r s n = again r.answer.graph r.store s n
 abbrev pub marked : (why : Refusal) (stage place : ℕ) → ℕ
 marked why stage place = 0x1000000 + refusal_number why * 0x10000 + stage * 0x100 + place
 
-abbrev pub ended_number : solver-ended.Ended → ℕ
-ended_number ending.Done = 0
-ended_number (ending.Refused why stage key) = marked why stage key
+abbrev pub ended_number : Result (Unit {0}) Stopped → ℕ
+ended_number (Ok done) = 0
+ended_number (Err stopped) = marked stopped.why stopped.stage stopped.key
 
 -- the figure 2^32 times, and how the run ended
 abbrev pub ran_number : Ran → ℕ
@@ -78,30 +70,35 @@ unfoldable pub run_of : Reading → (order : List ℕ) → Stores → solver.Run
 run_of r order s = solver.run_along r.answer.graph order r.store s.messages work_numbers s.marginals
 
 -- a job that is refused in reading isn't run: its number has figure 0, and the stores stay
-abbrev pub ordered_number : records.Ended → solver.RunVerdict → ℕ
-ordered_number reading.Done v = ran_number v.answer
-ordered_number (reading.Refused why place) v = marked why reading_stage place
+abbrev pub ordered_number : Result (Unit {0}) Rejected → solver.RunVerdict → ℕ
+ordered_number (Ok done) v = ran_number v.answer
+ordered_number (Err rejected) v = marked rejected.why reading_stage rejected.place
 
-abbrev pub ordered_stores : records.Ended → solver.RunVerdict → Stores → Stores
-ordered_stores reading.Done v s = stores_in v
-ordered_stores (reading.Refused why place) v s = s
+abbrev pub ordered_stores : Result (Unit {0}) Rejected → solver.RunVerdict → Stores → Stores
+ordered_stores (Ok done) v s = stores_in v
+ordered_stores (Err rejected) v s = s
 
 -- ---- plans, roots, lookups
 
--- the forward messages of a graph's plan, made n times; none where it is made no time
+-- the forward messages of a plan; none where it is refused
+abbrev pub forward_messages : Result Answer Refusal → ℕ
+forward_messages (Ok made) = length made.plan.forward
+forward_messages (Err why) = 0
+
+-- those of a graph's plan, made n times; none where it is made no time
 unfoldable pub replanned : Graph → ℕ → ℕ
 replanned g zero = 0
-replanned g (suc n) = length (planned g).plan.forward
+replanned g (suc n) = forward_messages (planned g)
 
 -- the number of a root
-abbrev pub root_in : Pivot → Float
-root_in (pivot.Root r) = r
-root_in pivot.Refused = plus_zero
+abbrev pub root_in : Option Float → Float
+root_in (Some r) = r
+root_in None = plus_zero
 
 -- the number of a place, and 255 for none
-abbrev pub place_number : Place → ℕ
-place_number (At j) = j
-place_number Nowhere = 255
+abbrev pub place_number : Option ℕ → ℕ
+place_number (Some j) = j
+place_number None = 255
 
 -- bytes that rise are no more than this
 abbrev pub most_rising : ℕ

@@ -13,14 +13,12 @@ ghost use Rattle.plan_text.specs.Shown.{show_along_text};
 ghost use Rattle.direct.specs.Direct.{direct_answer, direct_store};
 ghost use Rattle.measured.specs.Measured as spec;
 
-use direct::Direct;
-use factor::lists::{Place, least, lookup};
+use factor::lists::lookup;
 use graph::Graph;
 use graph::refusal::{Refusal, code};
 use job::{FACTOR_ROOM, READING};
 use lines::length_of;
-use root::Pivot;
-use solver::run::{Ended, Ran, run, run_along};
+use solver::run::{Ran, run, run_along};
 use workspace::WORK;
 
 // The numbers of a job's factors, at the start of the lent store. The rest of the store is as it was.
@@ -63,12 +61,12 @@ pub fn strips_repeat(bytes: &[u8], times: usize, messages: &mut [f64], marginals
 // Marks a refusal in an answer of `strips_eliminate`. No message has as many rows.
 const REFUSED: usize = 0x10000;
 
-fn number_in(answer: Direct) -> usize
+fn number_in(answer: Result<usize, Refusal>) -> usize
     ensures { result ≡ spec.number_in answer }
 {
     match answer {
-        Direct::Rows(rows) => rows,
-        Direct::Refused(why) => REFUSED + code(why),
+        Ok(rows) => rows,
+        Err(why) => REFUSED + code(why),
     }
 }
 
@@ -102,10 +100,10 @@ fn replan(g: Graph, times: usize) -> usize
 {
     let mut count = 0;
     for _ in 0..times {
-        let made = solver::arrange(g);
-        let p = made.plan;
-        let fw = p.forward;
-        count = fw.count;
+        count = match solver::arrange(g) {
+            Ok(made) => made.plan.forward.count,
+            Err(_) => 0,
+        };
     }
     count
 }
@@ -151,10 +149,9 @@ fn ran_number(ran: Ran) -> usize
     ensures { result ≡ spec.ran_number ran }
 {
     let figure = ran.figure * 0x100000000;
-    let ended = ran.ended;
-    match ended {
-        Ended::Done => figure,
-        Ended::Refused(why, stage, key) => figure + marked(why, stage, key),
+    match ran.ended {
+        Ok(()) => figure,
+        Err(stopped) => figure + marked(stopped.why, stopped.stage, stopped.key),
     }
 }
 
@@ -176,12 +173,9 @@ pub fn strips_ordered_run(
     let mut work = [0.0; WORK];
     let read = records::read(job, &mut factors);
     let g = read.graph;
-    let ended = read.ended;
-    match ended {
-        records::answer::Ended::Done => ran_number(run_along(
-            g, order, &factors, messages, &mut work, marginals,
-        )),
-        records::answer::Ended::Refused(why, place) => marked(why, READING, place),
+    match read.ended {
+        Ok(()) => ran_number(run_along(g, order, &factors, messages, &mut work, marginals)),
+        Err(rejected) => marked(rejected.why, READING, rejected.place),
     }
 }
 
@@ -189,10 +183,7 @@ pub fn strips_ordered_run(
 pub fn strips_root(pivot: f64) -> f64
     ensures { result ≡ spec.root_in (root_of pivot) }
 {
-    match root::root(pivot) {
-        Pivot::Root(r) => r,
-        Pivot::Refused => 0.0,
-    }
+    root::root(pivot).unwrap_or(0.0)
 }
 
 // No list of bytes that rises is longer.
@@ -203,11 +194,6 @@ const MOST_RISING: usize = 256;
 pub fn strips_lookup(keys: &[u8], key: usize) -> usize
     ensures { result ≡ spec.lookup_number keys.now key }
 {
-    let looked = lookup(&keys[0..least(MOST_RISING, keys.len())], key);
-    let read = 256 * looked.read;
-    let stands = looked.place;
-    match stands {
-        Place::At(place) => read + place,
-        Place::Nowhere => read + 255,
-    }
+    let looked = lookup(&keys[0..keys.len().min(MOST_RISING)], key);
+    256 * looked.read + looked.place.unwrap_or(255)
 }

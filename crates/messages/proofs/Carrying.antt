@@ -25,8 +25,9 @@ use Rattle.slots.specs.Tables.{head_of, read_view, rows_by_all}
 use Rattle.gaussian.specs.Elimination.{Outcome, pivot, not_finite, message, eliminate, numbers_in}
 use Rattle.gaussian.specs.Answers.{eliminated_as, message_stored, views_of}
 use Rattle.gaussian.specs.Asked.{Asked, Roomy, Sized}
-use Rattle.gaussian.specs.declared.Eliminated.{Eliminated}
-use Rattle.gaussian.specs.declared.Eliminated.TheVariants.{Rows, Pivot, NotFinite}
+use Rattle.cholesky.specs.declared.Fault.{Fault}
+use Rattle.cholesky.specs.declared.Fault.TheVariants.{Pivot, NotFinite}
+use Rattle.std.proofs.Common.{Result, Ok, Err}
 use Rattle.gaussian.proofs.Outcomes.{Came, at-pivot, at_unbounded, at_rows, asked_sized, whole_length}
 use Rattle.slots.specs.declared.Head.{Head}
 use Rattle.lists.specs.Lists.{backward_shift, slot_number, message_number, Holds}
@@ -34,9 +35,7 @@ use Rattle.lists.specs.declared.Lists.{Lists}
 use Rattle.messages.specs.Values.{slot_view, message_made, values_to, value_at, values, none, refused_at, refusal_from, finished_numbers}
 use Rattle.messages.specs.Figure.{rows_at, width_at, need_to, need}
 use Rattle.messages.specs.Tables.{Carriable, PlacedTo, Tables, Stored, AllStored}
-use Rattle.messages.specs.Asked.{kept_of, cleared_of, listed_slots, refusal_in}
-use Rattle.messages.specs.declared.Carried.{Carried}
-use Rattle.messages.specs.declared.Carried.TheVariants.{Done, Refused}
+use Rattle.messages.specs.Asked.{kept_of, cleared_of, listed_slots, refusal_of}
 use Rattle.messages.proofs.Slots.{need-more, need_rises, message-kept, message-cleared, message-total, message-rows-most}
 use Rattle.messages.proofs.Rows.{products}
 use Rattle.messages.proofs.Placing.{known, fits, headed, rows_are}
@@ -220,9 +219,9 @@ module _ (g : Graph) (factors : List Float) (ms : List ClosedFactor) (c : Carria
   abbrev outcome : Outcome
   outcome = eliminate (views_of factors messages keys heads (listed_slots lists)) (kept_of lists) (cleared_of lists) g.sizes
 
-  module _ (told : Eliminated) (messages' : List Float) (et : told ≡ eliminated_as outcome) (em : messages' ≡ message_stored messages to outcome) where
+  module _ (told : Result ℕ Fault) (messages' : List Float) (et : told ≡ eliminated_as outcome) (em : messages' ≡ message_stored messages to outcome) where
     -- a message was made
-    module _ (r : ℕ) (er : told ≡ Rows r) where
+    module _ (r : ℕ) (er : told ≡ Ok r) where
       came : Came (value_at g factors ms j) r
       came = at_rows (value_at g factors ms j) r (ap eliminated_as (sym value-is) ∙ sym et ∙ er)
 
@@ -308,7 +307,7 @@ module _ (g : Graph) (factors : List Float) (ms : List ClosedFactor) (c : Carria
     module _ (why : Refusal) (o : Outcome) (eo : value_at g factors ms j ≡ o)
         (stops : (i : ℕ) (rest : List Outcome) → refusal_from i (o ∷ rest) ≡ refused_at i why)
         (None-more : (rest : List Outcome) → finished_numbers (o ∷ rest) ≡ []) (keeps : message_stored messages to o ≡ messages) where
-      refused : (refusal_in (Refused j why) ≡ refusal_from 0 (values g factors ms)) × (messages' ≡ lay store start (finished_numbers (values g factors ms)))
+      refused : (refused_at j why ≡ refusal_from 0 (values g factors ms)) × (messages' ≡ lay store start (finished_numbers (values g factors ms)))
       unfolding values
       refused =
           let r = values-split g factors ms j (length ms) l in
@@ -323,16 +322,12 @@ module _ (g : Graph) (factors : List Float) (ms : List ClosedFactor) (c : Carria
             em ∙ ap (message_stored messages to) (value-is ∙ eo) ∙ keeps ∙ p.lies ∙ ap (lay store start) (sym (ap finished_numbers e ∙ f)),
           )
 
-    pub refused-pivot : told ≡ Pivot → (refusal_in (Refused j ClearedPivot) ≡ refusal_from 0 (values g factors ms)) ×
+    pub refused_for : (fault : Fault) → told ≡ Err fault → (refused_at j (refusal_of fault) ≡ refusal_from 0 (values g factors ms)) ×
         (messages' ≡ lay store start (finished_numbers (values g factors ms)))
     unfolding refusal_from finished_numbers message_stored
-    refused-pivot e = refused ClearedPivot pivot (at-pivot (value_at g factors ms j) (ap eliminated_as (sym value-is) ∙ sym et ∙ e)) (λ i rest. refl)
+    refused_for Pivot e = refused ClearedPivot pivot (at-pivot (value_at g factors ms j) (ap eliminated_as (sym value-is) ∙ sym et ∙ e)) (λ i rest. refl)
         (λ rest. refl) refl
-
-    pub refused_unbounded : told ≡ NotFinite → (refusal_in (Refused j ResultNotFinite) ≡ refusal_from 0 (values g factors ms)) ×
-        (messages' ≡ lay store start (finished_numbers (values g factors ms)))
-    unfolding refusal_from finished_numbers message_stored
-    refused_unbounded e = refused ResultNotFinite not_finite (at_unbounded (value_at g factors ms j) (ap eliminated_as (sym value-is) ∙ sym et ∙ e))
+    refused_for NotFinite e = refused ResultNotFinite not_finite (at_unbounded (value_at g factors ms j) (ap eliminated_as (sym value-is) ∙ sym et ∙ e))
         (λ i rest. refl) (λ rest. refl) refl
 
 -- ---- the whole pass
@@ -346,7 +341,7 @@ no_stop i (message r a xi w ∷ vs) h = no_stop (i + 1) vs h
 
 pub carried : (g : Graph) (factors : List Float) (ms : List ClosedFactor) (start : ℕ) (store messages : List Float) (to j : ℕ)
     → Carrying g factors ms start store messages to j → j ≡ length ms
-    → (refusal_in Done ≡ refusal_from 0 (values g factors ms)) × (messages ≡ lay store start (finished_numbers (values g factors ms))) × AllStored g factors ms
+    → (none ≡ refusal_from 0 (values g factors ms)) × (messages ≡ lay store start (finished_numbers (values g factors ms))) × AllStored g factors ms
     start messages
 unfolding values need
 carried g factors ms start store messages to j p e =
@@ -368,11 +363,3 @@ head-tells g ms c shift start j keys heads h l placed e =
 pub next-told : (g : Graph) (ms : List ClosedFactor) (to r d j : ℕ) → r ≡ rows_at g ms j → d ≡ width_at g ms j → to + (r * d + r + r * r)
     ≡ to + factor_numbers (rows_at g ms j) (width_at g ms j)
 next-told g ms to r d j er ed = rw (er, ed) refl
-
--- a pass that was halted is not through
-abbrev halts : Carried → ℕ
-halts Done = 0
-halts (Refused j why) = 1
-
-pub halted_through : (j : ℕ) (why : Refusal) → Refused j why ≡ Done → ⊥
-halted_through j why e = let z : halts (Refused j why) ≡ halts Done = ap halts e in omega arith

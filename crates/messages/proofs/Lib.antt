@@ -2,8 +2,7 @@
 pub mod Rows
 pub mod Members
 pub mod Slots
-pub mod Listed
 pub mod Placing
 pub mod Reading
 pub mod Carrying
-pub mod Telling
+pub mod Listed

@@ -25,7 +25,7 @@ use Rattle.schedule.proofs.Sums.{sum-table, sum-from_snoc, from-mem}
 use Rattle.schedule.proofs.Runs.{msgs_in, from-lt}
 use Rattle.plan.specs.Limits.{pass_slots}
 use Rattle.slots.specs.Limits.{max_slots}
-use Rattle.slots.specs.Layouts.{member, layout_of}
+use Rattle.slots.specs.Layouts.{member, layout_of, dim_of}
 use Rattle.slots.specs.Tables.{head_of, numbered_slot, slot_store, rows_by, rows_by_all}
 use Rattle.slots.specs.Fitting.{Counted}
 use Rattle.slots.specs.declared.layout.Layout.{Layout}
@@ -43,7 +43,6 @@ use Rattle.messages.specs.Tables.{Carriable, first_key, Placed, PlacedTo, Tables
 use Rattle.messages.specs.Asked as asked
 use Rattle.messages.specs.Asked.{kept_of, cleared_of, listed_slots, Placeable}
 use Rattle.messages.proofs.Rows.{products}
-use Rattle.messages.proofs.Listed.{PlacedBy}
 use Rattle.messages.proofs.Members.{at_mem, at_map}
 use Rattle.messages.proofs.Slots.{need-more, message-kept, message-cleared, message-few, message-rows-most, Known, slot_fits}
 use Rattle.slots.specs.Views.{factor_numbers}
@@ -230,6 +229,14 @@ module _ (g : Graph) (ms : List ClosedFactor) (c : Carriable g ms) (shift start 
               head = rw (eh, ← slot_is) (head-put heads (message_number shift j) false _ _ _ _ _ long);
               key = λ k q. rw ek (lay_in keys m.kept (first_key shift j) room 0 k q);
             })
+
+-- what the placing comes to
+abbrev pub PlacedBy : (sizes keys heads : List ℕ) (number start r : ℕ) (keys' heads' kept cleared slots : List ℕ) → Type 0
+PlacedBy sizes keys heads number start r keys' heads' kept cleared slots =
+    (r ≡ start + factor_numbers (asked.message_rows_by kept cleared slots sizes keys heads) (dim_of sizes kept))
+    × ((keys' ≡ lay keys (asked.keys_from number) kept)
+    × (heads' ≡ with_head heads number false start (asked.message_rows_by kept cleared slots sizes keys heads) (dim_of sizes kept) (asked.keys_from number)
+    (length kept)))
 
 -- ---- the whole pass
 

@@ -1,15 +1,16 @@
 -- Inner: what the functions of this crate ask for, and what they answer.
 use Rattle.std.specs.Prelude.{List, ℕ, ◌+◌, ◌-◌, ◌*◌, ◌≤◌, ◌<◌, length, take}
 use Rattle.factor.specs.Limits.{max_variables, max_factors, max_keys}
-use Rattle.slots.specs.Limits.{numbers_per_head, max_slots}
+use Rattle.slots.specs.Limits.{numbers_per_head}
 use Rattle.slots.specs.Layouts.{dim_of, layout_of, Listed}
 use Rattle.slots.specs.Tables.{rows_by_all}
 use Rattle.slots.specs.Fitting.{Counted}
 use Rattle.gaussian.specs.Elimination.{message_rows}
 use Rattle.lists.specs.declared.Lists.{Lists}
-use Rattle.messages.specs.Values.{FirstRefusal, none, refused_at}
-use Rattle.messages.specs.declared.Carried.{Carried}
-use Rattle.messages.specs.declared.Carried.TheVariants.{Done, Refused}
+use Rattle.graph.specs.declared.refusal.Refusal.{Refusal}
+use Rattle.graph.specs.declared.refusal.Refusal.TheVariants.{ClearedPivot, ResultNotFinite}
+use Rattle.cholesky.specs.declared.Fault.{Fault}
+use Rattle.cholesky.specs.declared.Fault.TheVariants.{Pivot, NotFinite}
 
 -- no store of numbers is longer than this in any run, so that places fit a machine word
 abbrev pub most_places : ℕ
@@ -47,13 +48,7 @@ pub record Placeable (kept cleared slots sizes keys heads : List ℕ) (number st
   pub room : keys_from number + length kept ≤ length keys
   pub low : start ≤ most_places
 
--- the counts are within the arrays
-pub record ListsWithin (l : Lists) : Type 0 where
-  pub kept : l.keeps ≤ max_variables
-  pub cleared : l.clears ≤ max_variables
-  pub slots : l.count ≤ max_slots
-
--- where a pass was stopped
-abbrev pub refusal_in : Carried → FirstRefusal
-refusal_in Done = none
-refusal_in (Refused j why) = refused_at j why
+-- why a message is refused
+abbrev pub refusal_of : Fault → Refusal
+refusal_of Pivot = ClearedPivot
+refusal_of NotFinite = ResultNotFinite

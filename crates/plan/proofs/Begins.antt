@@ -9,14 +9,14 @@ use native.Mathlib.Decide.{dec_lt}
 use native.Mathlib.Omega.{arith}
 use borrow.Author.Tests.{lt-ltb}
 use lib.Dec.{T}
-use lib.ListN.{length, length-append, get_or, take, drop, replicate, length-replicate, get_or-replicate, get_or-eq_default, length-reverse}
+use lib.ListN.{length, get_or, take, replicate, length-replicate, get_or-replicate, get_or-eq_default, length-reverse}
 use lib.Seq.{take_at, drop_at, get_or-take, take-suc, length-take-le}
 use Rattle.factor.specs.Limits.{max_variables, max_factors}
 use Rattle.schedule.specs.Count.{mem, from}
 use Rattle.schedule.specs.Pass.{Slot, original, closed, slot_keys, state_after, step, full_pass}
 use Rattle.plan.specs.Limits.{pass_slots}
 use Rattle.plan.specs.Mask.{has}
-use Rattle.plan.specs.Pass.{pick_slot, pass_slot, mask_at, messages_of, PassReady, Means, Steps, original_masks, LiveFirst, Live, Order, Agrees}
+use Rattle.plan.specs.Pass.{pick_slot, pass_slot, mask_at, messages_of, Means, Steps, Live, Order, Agrees}
 use Rattle.plan.specs.Pass.{Begins, Passes}
 use Rattle.plan.specs.declared.pass.Pass.{Pass}
 use Rattle.plan.proofs.Digits.{has-zero}
@@ -50,41 +50,17 @@ begun masks slots count = record {
   board = record { slots = slots; used = count; content = replicate pass_slots 0; filled = 0 };
 }
 
-module _ (keys live masks slots : List ℕ) (count : ℕ) (long : length keys ≡ max_factors) (long' : length live ≡ max_factors) (lv : Live live count)
-    (lm : masks ≡ original_masks keys) (ls : LiveFirst live count slots) where
-  low : (i : ℕ) → i < count → get_or slots i 0 < pass_slots
-  low i h =
-      omega (arith, lv.low i h, sym (get_or-take count slots i 0 h) ∙ ap (λ (l : List ℕ). get_or l i 0) ls.first ∙ get_or-take count live i 0 h)
-
-  pub begin-ready : PassReady 0 (begun masks slots count)
-  unfolding original_masks
-  begin-ready = record {
-    room = record {
-      active = record { long = ls.long; few = omega (arith, lv.few); low = low };
-      contents = record { long = refl; few = omega arith; low = λ i h. absurd (omega arith) };
-      room = omega (arith, lv.few);
-    };
-    total = omega (arith, lv.few);
-    few = omega arith;
-    masks = ap length lm ∙ laid-long;
-    cleared = refl;
-    steps = refl;
-    starts = refl;
-    ends = refl;
-    closed = λ j h. absurd (omega arith);
-    ordered = λ j h. absurd (omega arith);
-  }
-    where
-      laid-long : length (keys ++ replicate max_variables 0) ≡ pass_slots
-      laid-long = length-append keys (replicate max_variables 0) ∙ omega (arith, long)
+module _ (keys live slots : List ℕ) (count : ℕ) (long : length keys ≡ max_factors) (long' : length live ≡ max_factors) (lv : Live live count)
+    (first : take count slots ≡ take count live) where
+  -- the masks of the originals, and none yet of a message
+  abbrev masks : List ℕ
+  masks = keys ++ replicate max_variables 0
 
   masks-are : (K : ℕ → List ℕ) → Agrees keys K → (s : Slot) (j : ℕ) → has j (mask_at masks s) ≡ mem j (slot_keys K [] s)
-  unfolding mask_at slot_keys original_masks
-  masks-are K h (original i) j = ap (λ (m : List ℕ). has j (get_or (take max_factors m) i 0)) lm
-      ∙ ap (λ (l : List ℕ). has j (get_or l i 0)) (take_at keys (replicate max_variables 0) max_factors long) ∙ h i j
+  unfolding mask_at slot_keys
+  masks-are K h (original i) j = ap (λ (l : List ℕ). has j (get_or l i 0)) (take_at keys (replicate max_variables 0) max_factors long) ∙ h i j
   masks-are K h (closed i) j =
-      ap (λ (m : List ℕ). has j (get_or (drop max_factors m) i 0)) lm
-      ∙ ap (λ (l : List ℕ). has j (get_or l i 0)) (drop_at keys (replicate max_variables 0) max_factors long)
+      ap (λ (l : List ℕ). has j (get_or l i 0)) (drop_at keys (replicate max_variables 0) max_factors long)
       ∙ ap (has j) (zero-at max_variables i) ∙ has-zero j ∙ sym (mem-nil j)
 
   pub begins : Begins keys live count (begun masks slots count)
@@ -93,7 +69,7 @@ module _ (keys live masks slots : List ℕ) (count : ℕ) (long : length keys �
     few = f;
     keys = λ j. has-zero j ∙ sym (mem-nil j);
     below = λ j t. absurd (subst T (has-zero j) t);
-    slots = sym (map-take pass_slot count slots) ∙ ap (map pass_slot) ls.first
+    slots = sym (map-take pass_slot count slots) ∙ ap (map pass_slot) first
         ∙ originals (take count live) (λ i k. let l : i < count = omega (arith, length-take-le count live (omega (arith, lv.few))) in rw
         (get_or-take count live i 0 l) (lv.low i l));
     messages = refl;

@@ -1,14 +1,13 @@
 -- The sets of the factors' keys.
 -- Assumes nothing.
-use mathlib.Core.Path.{◌≡◌, refl, sym, ap, subst, ◌∙◌}
+use mathlib.Core.Path.{◌≡◌, refl, sym, ap, ◌∙◌}
 use mathlib.Core.Bool.{Bool, cond}
 use mathlib.Core.List.{List, []}
-use Prim.Native.Nat.{ℕ, ◌+◌, ◌≤◌, ◌<◌}
-use native.Mathlib.Decide.{ℕ_discrete, dec_lt}
+use Prim.Native.Nat.{ℕ, ◌≤◌, ◌<◌}
+use native.Mathlib.Decide.{dec_lt}
 use native.Mathlib.Omega.{arith}
 use borrow.Author.Tests.{lt-ltb, le-ltb}
-use lib.ListN.{length, get_or, set, length-set, replicate}
-use lib.Seq.{get_or-set_same, get_or-set_other}
+use lib.ListN.{length, get_or, replicate}
 use Rattle.factor.specs.Limits.{max_factors}
 use Rattle.schedule.specs.Count.{mem}
 use Rattle.plan.specs.Mask.{has, Set}
@@ -26,20 +25,6 @@ pub record MaskedTo (factors : List Factor) (r : List ℕ) (i : ℕ) : Type 0 wh
 
 pub masked_none : (factors : List Factor) → MaskedTo factors (replicate max_factors 0) 0
 masked_none factors = record { long = refl; done = λ k h. absurd (omega arith); rest = λ k h. zero-at max_factors k }
-
-pub masked_more : (factors : List Factor) (r : List ℕ) (i m : ℕ) → i < max_factors → MaskedTo factors r i → Set (touched_keys (get_or factors i absent)) m
-    → MaskedTo factors (set r i m) (i + 1)
-masked_more factors r i m h t s = record {
-  long = length-set r i m ∙ t.long;
-  done = λ k l. done k l (ℕ_discrete k i);
-  rest = λ k l. get_or-set_other r i k m 0 (λ e. omega arith) ∙ t.rest k (omega arith);
-}
-  where
-    done : (k : ℕ) → k < i + 1 → Dec (k ≡ i) → Set (touched_keys (get_or factors k absent)) (get_or (set r i m) k 0)
-    done k l (yes e) =
-        subst (λ (n : ℕ). Set (touched_keys (get_or factors n absent)) (get_or (set r i m) n 0)) (sym e)
-        (subst (λ (x : ℕ). Set (touched_keys (get_or factors i absent)) x) (sym (get_or-set_same r i m 0 (omega (arith, t.long)))) s)
-    done k l (no e) = subst (λ (x : ℕ). Set (touched_keys (get_or factors k absent)) x) (sym (get_or-set_other r i k m 0 e)) (t.done k (omega arith))
 
 pub masked_done : (factors : List Factor) (r : List ℕ) (number i : ℕ) → MaskedTo factors r i → i ≡ number → Masked factors number r
 masked_done factors r number i t e k j = go (dec_lt k number)

@@ -10,7 +10,7 @@ use lib.Bits.{bit_and, bit_or, bit_xor}
 use lib.Dec.{T, eqb, not_T}
 use lib.ListN.{length, get_or, take, drop, length-append}
 use lib.Seq.{drop_at}
-use Rattle.factor.specs.Limits.{max_variables, max_factors}
+use Rattle.factor.specs.Limits.{max_variables}
 use Rattle.schedule.specs.Count.{mem, any, keep, joined}
 use Rattle.schedule.specs.Pass.{at}
 use Rattle.schedule.specs.Gather.{alive_messages, leaves, keys_last, uncovered, gathering, gather_at}
@@ -18,7 +18,7 @@ use Rattle.schedule.specs.Gather as schedule
 use Rattle.schedule.proofs.Counts.{or_e, and_l, any_some, rising-same}
 use Rattle.plan.specs.Mask.{has, keys_in, Union}
 use Rattle.plan.specs.Pass.{messages_of, Agrees}
-use Rattle.plan.specs.Gather.{Alive, items_of, Space, Coverable, others, OthersListed, Listable, SetListed, Kept, Gatherable, gathered_of, Keyed}
+use Rattle.plan.specs.Gather.{Alive, items_of, others, OthersListed, SetListed, Kept, Gatherable, gathered_of, Keyed}
 use Rattle.plan.specs.declared.pass.Pass.{Pass}
 use Rattle.plan.specs.declared.gather.Listing.{Listing}
 use Rattle.plan.specs.declared.gather.Gathered.{Gathered}
@@ -57,7 +57,7 @@ low-append n a b j f g t = go (or_e (mem j a) (mem j b) (subst T (mem-append j a
     go (inr q) = g q
 
 module _ (fw bw : Pass) (live : List ℕ) (count r s : ℕ) (pre : Gatherable fw bw live count r s) (f g : ℕ) (af : Alive r fw f) (ag : Alive s bw g)
-    (e : Listing) (none : e.count ≡ 0) (es : Space e) where
+    (e : Listing) (none : e.count ≡ 0) where
   abbrev A : List ℕ
   A = joined (leaves (messages_of fw)) (alive_messages r (messages_of fw))
 
@@ -67,30 +67,12 @@ module _ (fw bw : Pass) (live : List ℕ) (count r s : ℕ) (pre : Gatherable fw
   abbrev U : List ℕ
   U = keep (λ i. not (mem i (A ++ B))) (take count live)
 
-  total : length A + length B + length U ≤ max_factors
-  total = omega (arith, pre.room, length-append (A ++ B) U, length-append A B)
-
-  pub listable : Listable fw f e
-  listable = record {
-    forest = pre.forest;
-    low = af.low;
-    room = omega
-        (arith, total, ap (λ (l : List ℕ). length (joined (leaves (messages_of fw)) l)) af.is);
-  }
-
   module _ (one : Listing) (o1 : SetListed fw f e one) where
     empty : items_of e ≡ []
     empty = ap (λ (n : ℕ). take n e.items) none
 
     one-items : items_of one ≡ A
     one-items = o1.items ∙ ap₂ (λ (x y : List ℕ). x ++ joined (leaves (messages_of fw)) y) empty af.is
-
-    pub listable' : Listable bw g one
-    listable' = record {
-      forest = pre.forest';
-      low = ag.low;
-      room = omega (arith, total, items-length one o1.space, ap length one-items, ap (λ (l : List ℕ). length (joined (leaves (messages_of bw)) l)) ag.is);
-    }
 
     module _ (two : Listing) (o2 : SetListed bw g one two) where
       two_items : items_of two ≡ A ++ B
@@ -101,9 +83,6 @@ module _ (fw bw : Pass) (live : List ℕ) (count r s : ℕ) (pre : Gatherable fw
 
       two-count : two.count ≡ length A + length B
       two-count = sym (items-length two o2.space) ∙ ap length two_items ∙ length-append A B
-
-      pub coverable : Coverable live count two
-      coverable = omega (arith, total, two-count, ap length others-are)
 
       module _ (all : Listing) (o3 : OthersListed live count two all) where
         all-items : items_of all ≡ (A ++ B) ++ U

@@ -1,17 +1,21 @@
--- The order reversed, the place of a key, and the plan key by key.
+-- The place of a key, and the plan key by key.
 -- Assumes nothing.
 use mathlib.Core.Path.{◌≡◌, refl, sym, ap, ap₂, subst, ◌∙◌}
-use mathlib.Core.Bool.{true, false}
-use mathlib.Core.List.{List, [], ◌∷◌, ◌++◌, map, reverse, reverse-cons}
+use mathlib.Core.Bool.{true, false, not}
+use mathlib.Core.List.{List, [], ◌∷◌, ◌++◌, map, reverse}
 use Prim.Native.Nat.{ℕ, suc, ◌+◌, ◌-◌, ◌≤◌, ◌<◌}
 use native.Mathlib.Numerals.{add-one}
 use native.Mathlib.Nat.{zero-add}
 use native.Mathlib.Omega.{arith}
-use native.Mathlib.Decide.{ℕ_discrete}
-use borrow.Author.Tests.{eq-eqb, ne_eqb}
+use native.Mathlib.Decide.{ℕ_discrete, dec_lt}
+use borrow.Author.Tests.{eq-eqb, ne_eqb, lt-ltb, le-ltb}
+use Rattle.std.proofs.Common.{Option, position}
+use Rattle.std.specs.Option.{unwrap_or}
+use Rattle.std.specs.List.{position_or_len}
+use Rattle.std.proofs.lemmas.List.Sums.{prefix_len-le-length}
 use lib.Dec.{T, eqb, lt→ltb}
-use lib.ListN.{length, get_or, take, drop, set, length-set, length-append, length-reverse}
-use lib.Seq.{take-suc-set, drop-cons, get_or-take, length-take-le, get_or-set_same, get_or-set_other}
+use lib.ListN.{length, get_or, take, set, length-set, length-append, length-reverse}
+use lib.Seq.{take-suc-set, get_or-take, length-take-le, get_or-set_same, get_or-set_other}
 use Rattle.factor.specs.Limits.{max_variables, max_factors}
 use Rattle.schedule.specs.Count.{count, In, from}
 use Rattle.schedule.specs.Pass.{full_pass}
@@ -26,35 +30,12 @@ use Rattle.schedule.proofs.Sums.{from_snoc}
 use Rattle.plan.specs.Mask.{keys_in}
 use Rattle.plan.specs.Pass.{messages_of, PassReady, Order, Agrees, Passes}
 use Rattle.plan.specs.Gather.{Gatherable, Gathers, gathered_of, Held}
-use Rattle.plan.specs.Plan.{Sound, plan_in, Plans, no_gathered, Bounded}
+use Rattle.plan.specs.Plan.{Sound, plan_in, Plans, no_gathered}
 use Rattle.plan.specs.declared.pass.Pass.{Pass}
 use Rattle.plan.specs.declared.gather.Gathered.{Gathered}
-use Rattle.plan.proofs.Prefixes.{drop-none, map-append}
+use Rattle.plan.proofs.Prefixes.{map-append}
 use Rattle.plan.proofs.Sending.{keys_in-mem}
 use Rattle.plan.proofs.Gatherable.{gatherable, keyed}
-
--- ---- reversed
-abbrev pub Back : List ℕ → ℕ → List ℕ → ℕ → Type 0
-Back order n r i = take i r ≡ reverse (drop (n - i) (take n order))
-
-pub back_none : (order r : List ℕ) (n : ℕ) → Back order n r 0
-back_none order r n = ap reverse (sym (drop-none (n - 0) n order (omega arith)))
-
-pub back_more : (order r : List ℕ) (n i : ℕ) → n ≤ length order → i < n → i < length r → Back order n r i
-    → Back order n (set r i (get_or order (n - 1 - i) 0)) (i + 1)
-back_more order r n i f h l inv =
-    let e : suc (n - (i + 1)) ≡ n - i = omega arith in
-    let d : n - (i + 1) ≡ n - 1 - i = omega arith in
-    ap (λ (k : ℕ). take k (set r i (get_or order (n - 1 - i) 0))) (add-one i) ∙ take-suc-set r i (get_or order (n - 1 - i) 0) l
-    ∙ ap₂ (λ (x : List ℕ) (y : ℕ). x ++ (y ∷ [])) inv (ap (λ (k : ℕ). get_or order k 0) (sym d) ∙ sym (get_or-take n order (n - (i + 1)) 0 (omega arith)))
-    ∙ sym (reverse-cons (get_or (take n order) (n - (i + 1)) 0) (drop (n - i) (take n order)))
-    ∙ ap (λ (k : ℕ). reverse (get_or (take n order) (n - (i + 1)) 0 ∷ drop k (take n order))) (sym e)
-    ∙ ap reverse (sym (drop-cons (take n order) (n - (i + 1)) 0 (omega (arith, length-take-le n order f))))
-
-pub back_done : (order r : List ℕ) (n i : ℕ) → i ≡ n → Back order n r i → take n r ≡ reverse (take n order)
-back_done order r n i e inv =
-    let z : n - n ≡ 0 = omega arith in
-    subst (λ (k : ℕ). take k r ≡ reverse (drop (n - k) (take n order))) e inv ∙ ap (λ (k : ℕ). reverse (drop k (take n order))) z
 
 -- ---- the place of a key
 place_here : (k x : ℕ) (l : List ℕ) → eqb k x ≡ true → place_in k (x ∷ l) ≡ 0
@@ -65,37 +46,25 @@ place_on : (k x : ℕ) (l : List ℕ) → eqb k x ≡ false → place_in k (x �
 unfolding place_in
 place_on k x l e = rw e
 
-place-nil : (k : ℕ) → place_in k [] ≡ 0
+-- the first place at which the key stands, or the length
+place_first : (k : ℕ) (l : List ℕ) → position_or_len (λ x. eqb x k) l ≡ place_in k l
 unfolding place_in
-place-nil k = refl
+place_first k [] = refl
+place_first k (x ∷ l) = go (ℕ_discrete x k) (place_first k l)
+  where
+    go : Dec (x ≡ k) → position_or_len (λ x. eqb x k) l ≡ place_in k l → position_or_len (λ x. eqb x k) (x ∷ l) ≡ place_in k (x ∷ l)
+    go (yes e) h = rw (eq-eqb x k e) (sym (place_here k x l (eq-eqb k x (sym e))))
+    go (no e) h = rw (ne_eqb x k e) (omega (arith, h, place_on k x l (ne_eqb k x (λ q. e (sym q)))))
 
-abbrev pub Sought : ℕ → List ℕ → ℕ → ℕ → Type 0
-Sought k order n i = i + place_in k (drop i (take n order)) ≡ place_in k (take n order)
+pub place-found : (k n : ℕ) (l : List ℕ) (r : Option ℕ) → length l ≡ n → r ≡ position (λ x. eqb x k) l → unwrap_or r n ≡ place_in k l
+place-found k n l r long e = go (dec_lt first (length l))
+  where
+    first : ℕ
+    first = position_or_len (λ x. eqb x k) l
 
-rest_cons : (order : List ℕ) (n i : ℕ) → n ≤ length order → i < n → drop i (take n order) ≡ get_or order i 0 ∷ drop (suc i) (take n order)
-rest_cons order n i f h =
-    drop-cons (take n order) i 0 (omega (arith, length-take-le n order f)) ∙ ap (λ (x : ℕ). x ∷ drop (suc i) (take n order)) (get_or-take n order i 0 h)
-
-pub sought_here : (k : ℕ) (order : List ℕ) (n i : ℕ) → n ≤ length order → i < n → Sought k order n i → get_or order i 0 ≡ k → i ≡ place_in k (take n order)
-sought_here k order n i f h inv e =
-    omega (
-      arith,
-      inv,
-      ap (place_in k) (rest_cons order n i f h) ∙ place_here k (get_or order i 0) (drop (suc i) (take n order))
-          (eq-eqb k (get_or order i 0) (sym e)),
-    )
-
-pub sought_on : (k : ℕ) (order : List ℕ) (n i : ℕ) → n ≤ length order → i < n → Sought k order n i → (get_or order i 0 ≡ k → ⊥) → Sought k order n (i + 1)
-sought_on k order n i f h inv e =
-    omega (
-      arith,
-      inv,
-      ap (place_in k) (rest_cons order n i f h) ∙ place_on k (get_or order i 0) (drop (suc i) (take n order)) (ne_eqb k (get_or order i 0) (λ q. e (sym q))),
-      ap (λ (m : ℕ). place_in k (drop m (take n order))) (add-one i),
-    )
-
-pub sought_none : (k : ℕ) (order : List ℕ) (n i : ℕ) → n ≤ i → Sought k order n i → i ≡ place_in k (take n order)
-sought_none k order n i h inv = omega (arith, inv, ap (place_in k) (drop-none i n order h), place-nil k)
+    go : Dec (first < length l) → unwrap_or r n ≡ place_in k l
+    go (yes h) = rw (e, lt-ltb first (length l) h) (place_first k l)
+    go (no h) = rw (e, le-ltb first (length l) (omega arith)) (omega (arith, place_first k l, prefix_len-le-length (λ x. not (eqb x k)) l))
 
 -- ---- the plan
 
@@ -145,25 +114,12 @@ pub record Both (keys live order : List ℕ) (number n : ℕ) (fw bw : Pass) : T
   pub forward : Passes keys (take number live) (take n order) n fw
   pub backward : Passes keys (take number live) (reverse (take n order)) n bw
 
-module _ (keys live order : List ℕ) (number n : ℕ) (fw bw : Pass) (both : Both keys live order number n fw bw) where
+module _ (keys live order : List ℕ) (number n : ℕ) where
   abbrev N : List ℕ
   N = take number live
 
   abbrev along : List ℕ
   along = take n order
-
-  -- what the gathering of the key k asks holds
-  pub may_gather : (k r s : ℕ) → k < n → r ≡ place_in k along → s ≡ n - 1 - r → Gatherable fw bw live number r s
-  may_gather k r s h e d =
-      subst (λ (x : ℕ). Gatherable fw bw live number r x) (sym (d ∙ ap (λ (x : ℕ). n - 1 - x) e))
-      (subst (λ (x : ℕ). Gatherable fw bw live number x (n - 1 - place_in k along)) (sym e)
-      (gatherable fw bw live number n (own keys) along (both.forward (own keys) agreed) (both.backward (own keys) agreed) both.long
-      both.sound.ordered.originals both.sound.few
-      both.ready both.ready' both.sound.ordered.distinct (below keys live order number n both.sound (own keys) agreed)
-      both.sound.ordered.each k h))
-    where
-      agreed : Agrees keys (own keys)
-      agreed = agrees keys live order number n both.sound
 
   -- the gathering of the definition at the key k
   abbrev wanted : (ℕ → List ℕ) → ℕ → schedule.Gathered
@@ -180,45 +136,55 @@ module _ (keys live order : List ℕ) (number n : ℕ) (fw bw : Pass) (both : Bo
   unfolding from
   start at l = record { here = omega arith; size = l; is = λ K ag. refl; held = λ i h. absurd (omega arith) }
 
-  got : (k r s : ℕ) (g : Gathered) (K : ℕ → List ℕ) → Agrees keys K → r ≡ place_in k along → s ≡ n - 1 - r → Gathers fw bw keys N r s k g → gathered_of g
-      ≡ wanted K k
-  unfolding gather
-  got k r s g K ag e d h =
-      h n K ag
-      (keyed fw bw live number n K along (both.forward K ag) (both.backward K ag) both.long both.sound.ordered.originals both.sound.few
-      both.ready both.ready' both.sound.ordered.distinct
-      (below keys live order number n both.sound K ag) both.sound.ordered.each)
-      ∙ ap₂ (λ (x y : ℕ). gather_at n K N (messages_of fw) (messages_of bw) x y k) e (d ∙ ap (λ (x : ℕ). n - 1 - x) e)
-      ∙ ap₂ (λ (x y : List _). gather_at n K N x y (place_in k along) (n - 1 - place_in k along) k) (both.forward K ag) (both.backward K ag)
+  module _ (fw bw : Pass) (both : Both keys live order number n fw bw) where
+    -- what the gathering of the key k asks holds
+    pub may_gather : (k r s : ℕ) → k < n → r ≡ place_in k along → s ≡ n - 1 - r → Gatherable fw bw live number r s
+    may_gather k r s h e d =
+        subst (λ (x : ℕ). Gatherable fw bw live number r x) (sym (d ∙ ap (λ (x : ℕ). n - 1 - x) e))
+        (subst (λ (x : ℕ). Gatherable fw bw live number x (n - 1 - place_in k along)) (sym e)
+        (gatherable fw bw live number n (own keys) along (both.forward (own keys) agreed) (both.backward (own keys) agreed) both.long
+        both.sound.ordered.originals both.sound.few
+        both.ready both.ready' both.sound.ordered.distinct (below keys live order number n both.sound (own keys) agreed)
+        both.sound.ordered.each k h))
+      where
+        agreed : Agrees keys (own keys)
+        agreed = agrees keys live order number n both.sound
 
-  pub more : (at : List Gathered) (k r s : ℕ) (g : Gathered) → Planning at k → k < n → r ≡ place_in k along → s ≡ n - 1 - r
-      → Gathers fw bw keys N r s k g → Held g → Planning (set at k g) (k + 1)
-  more at k r s g t h e d q v = record {
-    here = omega arith;
-    size = length-set at k g ∙ t.size;
-    is = λ K ag.
-        ap (λ (m : ℕ). map gathered_of (take m (set at k g))) (add-one k) ∙ ap (map gathered_of) (take-suc-set at k g (omega (arith, t.size, both.sound.few)))
-        ∙ map-append gathered_of (take k at) (g ∷ []) ∙ ap₂ (λ (x : List schedule.Gathered) (y : schedule.Gathered). x ++ (y ∷ [])) (t.is K ag)
-        (got k r s g K ag e d q)
-        ∙ sym (ap (λ (m : ℕ). map (wanted K) (from 0 m)) (add-one k) ∙ ap (map (wanted K)) (from_snoc 0 k)
-        ∙ map-append (wanted K) (from 0 k) ((0 + k) ∷ []) ∙ ap (λ (m : ℕ). map (wanted K) (from 0 k) ++ (wanted K m ∷ [])) (zero-add k));
-    held = λ i l. holds i l (ℕ_discrete i k);
-  }
-    where
-      holds : (i : ℕ) → i < k + 1 → Dec (i ≡ k) → Held (get_or (set at k g) i no_gathered)
-      holds i l (yes q) =
-          subst (λ (x : ℕ). Held (get_or (set at k g) x no_gathered)) (sym q)
-          (subst Held (sym (get_or-set_same at k g no_gathered (omega (arith, t.size, both.sound.few)))) v)
-      holds i l (no q) = subst Held (sym (get_or-set_other at k i g no_gathered q)) (t.held i (omega arith))
+    got : (k r s : ℕ) (g : Gathered) (K : ℕ → List ℕ) → Agrees keys K → r ≡ place_in k along → s ≡ n - 1 - r → Gathers fw bw keys N r s k g → gathered_of g
+        ≡ wanted K k
+    unfolding gather
+    got k r s g K ag e d h =
+        h n K ag
+        (keyed fw bw live number n K along (both.forward K ag) (both.backward K ag) both.long both.sound.ordered.originals both.sound.few
+        both.ready both.ready' both.sound.ordered.distinct
+        (below keys live order number n both.sound K ag) both.sound.ordered.each)
+        ∙ ap₂ (λ (x y : ℕ). gather_at n K N (messages_of fw) (messages_of bw) x y k) e (d ∙ ap (λ (x : ℕ). n - 1 - x) e)
+        ∙ ap₂ (λ (x y : List _). gather_at n K N x y (place_in k along) (n - 1 - place_in k along) k) (both.forward K ag) (both.backward K ag)
 
-  pub done : (at : List Gathered) (k : ℕ) → Planning at k → n ≤ k → Plans keys N along n (record { forward = fw; backward = bw; at = at })
-  unfolding plan_in plan.plan
-  done at k t h K ag =
-      let e : k ≡ n = omega (arith, t.here) in
-      ap₂ (λ (x y : List _). record { forward = x; backward = y; at_key = map gathered_of (take n at) }) (both.forward K ag) (both.backward K ag)
-      ∙ ap (λ (l : List schedule.Gathered). record { forward = full_pass n K N along; backward = full_pass n K N (reverse along); at_key = l })
-      (subst (λ (m : ℕ). map gathered_of (take m at) ≡ map (wanted K) (from 0 m)) e (t.is K ag))
+    pub more : (at : List Gathered) (k r s : ℕ) (g : Gathered) → Planning at k → k < n → r ≡ place_in k along → s ≡ n - 1 - r
+        → Gathers fw bw keys N r s k g → Held g → Planning (set at k g) (k + 1)
+    more at k r s g t h e d q v = record {
+      here = omega arith;
+      size = length-set at k g ∙ t.size;
+      is = λ K ag.
+          ap (λ (m : ℕ). map gathered_of (take m (set at k g))) (add-one k) ∙ ap (map gathered_of) (take-suc-set at k g (omega (arith, t.size, both.sound.few)))
+          ∙ map-append gathered_of (take k at) (g ∷ []) ∙ ap₂ (λ (x : List schedule.Gathered) (y : schedule.Gathered). x ++ (y ∷ [])) (t.is K ag)
+          (got k r s g K ag e d q)
+          ∙ sym (ap (λ (m : ℕ). map (wanted K) (from 0 m)) (add-one k) ∙ ap (map (wanted K)) (from_snoc 0 k)
+          ∙ map-append (wanted K) (from 0 k) ((0 + k) ∷ []) ∙ ap (λ (m : ℕ). map (wanted K) (from 0 k) ++ (wanted K m ∷ [])) (zero-add k));
+      held = λ i l. holds i l (ℕ_discrete i k);
+    }
+      where
+        holds : (i : ℕ) → i < k + 1 → Dec (i ≡ k) → Held (get_or (set at k g) i no_gathered)
+        holds i l (yes q) =
+            subst (λ (x : ℕ). Held (get_or (set at k g) x no_gathered)) (sym q)
+            (subst Held (sym (get_or-set_same at k g no_gathered (omega (arith, t.size, both.sound.few)))) v)
+        holds i l (no q) = subst Held (sym (get_or-set_other at k i g no_gathered q)) (t.held i (omega arith))
 
-  -- the arrays hold what their counts say
-  pub bounded : (at : List Gathered) (k : ℕ) → Planning at k → n ≤ k → Bounded n (record { forward = fw; backward = bw; at = at })
-  bounded at k t h = record { forward = both.ready; backward = both.ready'; long = t.size; held = λ i l. t.held i (omega arith) }
+    pub done : (at : List Gathered) (k : ℕ) → Planning at k → n ≤ k → Plans keys N along n (record { forward = fw; backward = bw; at = at })
+    unfolding plan_in plan.plan
+    done at k t h K ag =
+        let e : k ≡ n = omega (arith, t.here) in
+        ap₂ (λ (x y : List _). record { forward = x; backward = y; at_key = map gathered_of (take n at) }) (both.forward K ag) (both.backward K ag)
+        ∙ ap (λ (l : List schedule.Gathered). record { forward = full_pass n K N along; backward = full_pass n K N (reverse along); at_key = l })
+        (subst (λ (m : ℕ). map gathered_of (take m at) ≡ map (wanted K) (from 0 m)) e (t.is K ag))

@@ -1,12 +1,12 @@
 -- A listing: an original is listed, a message pushed; the loop of `visit`.
 -- Assumes nothing.
-use mathlib.Core.Path.{◌≡◌, refl, sym, ap, ap₂, ◌∙◌}
+use mathlib.Core.Path.{◌≡◌, sym, ap, ◌∙◌}
 use mathlib.Core.List.{List, [], ◌∷◌, ◌++◌, map, reverse, reverse_aux, append-nil}
 use Prim.Native.Nat.{ℕ, ◌+◌, ◌-◌, ◌≤◌, ◌<◌}
 use native.Mathlib.Numerals.{add-one}
 use native.Mathlib.Omega.{arith}
-use lib.ListN.{length, get_or, take, set, length-set, length-append, length-reverse, length-reverse_aux}
-use lib.Seq.{length-take-le, take-suc-set, drop-cons, get_or-take, append_snoc}
+use lib.ListN.{length, get_or, take, drop, set, length-set, length-append, length-take, length-reverse, length-reverse_aux, drop_of_length-le}
+use lib.Seq.{length-take-le, take-suc-set, drop-cons, get_or-take, get_or-drop, append_snoc}
 use Rattle.factor.specs.Limits.{max_variables, max_factors}
 use Rattle.schedule.specs.Pass.{Slot, original, closed}
 use Rattle.schedule.specs.Gather.{originals_in, messages_in}
@@ -15,7 +15,7 @@ use Rattle.plan.specs.Pass.{pass_slot}
 use Rattle.plan.specs.Gather.{content_part, items_of, stack_of, Space, Visitable, Visited}
 use Rattle.plan.specs.declared.gather.Listing.{Listing}
 use Rattle.plan.proofs.Begins.{reverse_on}
-use Rattle.plan.proofs.Prefixes.{drop-none}
+use Rattle.plan.proofs.Prefixes.{part-is}
 use Rattle.plan.proofs.WalkTurns.{low-set}
 use Rattle.plan.proofs.Unions.{slot_low, slot_high}
 
@@ -61,95 +61,100 @@ items-length l s = length-take-le l.count l.items (omega (arith, s.items.long, s
 pub stack-length : (l : Listing) → Space l → length (stack_of l) ≡ l.top
 stack-length l s = length-reverse (take l.top l.stack) ∙ length-take-le l.top l.stack (omega (arith, s.long, s.few))
 
-part-cons : (content : List ℕ) (i b : ℕ) → i < b → b ≤ length content → content_part i b content ≡ pass_slot (get_or content i 0) ∷ content_part (i + 1) b content
-part-cons content i b h k =
-    ap (map pass_slot) (drop-cons (take b content) i 0 (omega (arith, length-take-le b content k)))
-    ∙ ap₂ (λ (x n : ℕ). pass_slot x ∷ content_part n b content) (get_or-take b content i 0 h) (sym (add-one i))
+-- the slots from a place on
+abbrev pub rest : (codes : List ℕ) (i : ℕ) → List Slot
+rest codes i = map pass_slot (drop i codes)
+
+-- From l₀ to l, with i slots opened: what is listed, ahead of the originals of the rest, is the same, and so with the stack.
+pub record Visiting (codes : List ℕ) (l₀ l : Listing) (i : ℕ) : Type 0 where
+  pub space : Space l
+  pub items : items_of l ++ originals_in (rest codes i) ≡ items_of l₀ ++ originals_in (rest codes 0)
+  pub stack : reverse_aux (messages_in (rest codes i)) (stack_of l) ≡ reverse_aux (messages_in (rest codes 0)) (stack_of l₀)
 
 module _ (content : List ℕ) (a b : ℕ) (l₀ : Listing) (v : Visitable content a b l₀) where
-  pub record Visiting (l : Listing) (i : ℕ) : Type 0 where
-    pub after : a ≤ i
-    pub here : i ≤ b
-    pub space : Space l
-    pub items : items_of l ++ originals_in (content_part i b content) ≡ items_of l₀ ++ originals_in (content_part a b content)
-    pub stack : reverse_aux (messages_in (content_part i b content)) (stack_of l) ≡ reverse_aux (messages_in (content_part a b content)) (stack_of l₀)
+  abbrev codes : List ℕ
+  codes = take (b - a) (drop a content)
 
-  pub start : Visiting l₀ a
-  start = record { after = omega arith; here = v.ordered; space = v.space; items = refl; stack = refl }
+  -- the slots are those of the content from a to b
+  whole : (f : List Slot → List ℕ) → f (rest codes 0) ≡ f (content_part a b content)
+  whole f = ap (λ (l : List ℕ). f (map pass_slot l)) (part-is a b content v.ordered)
 
-  module _ (l : Listing) (i : ℕ) (t : Visiting l i) (h : i < b) where
+  low : (i : ℕ) → i < length codes → get_or codes i 0 < pass_slots
+  low i h =
+      let k : i < b - a = omega (arith, length-take (b - a) (drop a content)) in
+      let e : get_or codes i 0 ≡ get_or content (a + i) 0 = get_or-take (b - a) (drop a content) i 0 k ∙ get_or-drop a content i 0 in
+      omega (arith, e, v.codes.low (a + i) (omega arith))
+
+  module _ (l : Listing) (i : ℕ) (t : Visiting codes l₀ l i) (h : i < length codes) where
     abbrev x : ℕ
-    x = get_or content i 0
+    x = get_or codes i 0
 
-    low : x < pass_slots
-    low = v.codes.low i h
+    cons : rest codes i ≡ pass_slot x ∷ rest codes (i + 1)
+    cons = rw (add-one i) (ap (map pass_slot) (drop-cons codes i 0 h))
 
-    cons : content_part i b content ≡ pass_slot x ∷ content_part (i + 1) b content
-    cons = part-cons content i b h (omega (arith, v.codes.few, v.codes.long))
+    module _ (y : ℕ) (is : y ≡ x) where
+      module _ (k : y < max_factors) where
+        cons_orig : rest codes i ≡ original x ∷ rest codes (i + 1)
+        cons_orig = cons ∙ ap (λ (s : Slot). s ∷ rest codes (i + 1)) (slot_low x (omega arith))
 
-    module _ (k : x < max_factors) where
-      cons_orig : content_part i b content ≡ original x ∷ content_part (i + 1) b content
-      cons_orig = cons ∙ ap (λ (s : Slot). s ∷ content_part (i + 1) b content) (slot_low x k)
+        pub orig_room : l.count < max_factors
+        orig_room =
+            omega (
+              arith,
+              v.room,
+              ap length t.items,
+              ap length (whole originals_in),
+              length-append (items_of l) (originals_in (rest codes i)),
+              length-append (items_of l₀) (originals_in (rest codes 0)),
+              items-length l t.space,
+              items-length l₀ v.space,
+              ap (λ (s : List Slot). length (originals_in s)) cons_orig,
+            )
 
-      pub orig_room : l.count < max_factors
-      orig_room =
-          omega (
-            arith,
-            v.room,
-            ap length t.items,
-            length-append (items_of l) (originals_in (content_part i b content)),
-            length-append (items_of l₀) (originals_in (content_part a b content)),
-            items-length l t.space,
-            items-length l₀ v.space,
-            ap (λ (s : List Slot). length (originals_in s)) cons_orig,
-          )
+        pub visit_orig : Visiting codes l₀ (with_item l x) (i + 1)
+        visit_orig = record {
+          space = item_space l x t.space orig_room (omega arith);
+          items =
+              ap (λ (r : List ℕ). r ++ originals_in (rest codes (i + 1))) (item_items l x t.space orig_room)
+              ∙ append_snoc (items_of l) x (originals_in (rest codes (i + 1)))
+              ∙ ap (λ (s : List Slot). items_of l ++ originals_in s) (sym cons_orig) ∙ t.items;
+          stack = ap (λ (s : List Slot). reverse_aux (messages_in s) (stack_of l)) (sym cons_orig) ∙ t.stack;
+        }
 
-      pub visit_orig : Visiting (with_item l x) (i + 1)
-      visit_orig = record {
-        after = omega (arith, t.after);
-        here = omega arith;
-        space = item_space l x t.space orig_room k;
-        items =
-            ap (λ (r : List ℕ). r ++ originals_in (content_part (i + 1) b content)) (item_items l x t.space orig_room)
-            ∙ append_snoc (items_of l) x (originals_in (content_part (i + 1) b content))
-            ∙ ap (λ (s : List Slot). items_of l ++ originals_in s) (sym cons_orig) ∙ t.items;
-        stack = ap (λ (s : List Slot). reverse_aux (messages_in s) (stack_of l)) (sym cons_orig) ∙ t.stack;
+      module _ (k : max_factors ≤ y) where
+        cons_msg : rest codes i ≡ closed (x - max_factors) ∷ rest codes (i + 1)
+        cons_msg = cons ∙ ap (λ (s : Slot). s ∷ rest codes (i + 1)) (slot_high x (omega arith))
+
+        pub msg_room : l.top < max_variables
+        msg_room =
+            omega (
+              arith,
+              v.stack,
+              ap length t.stack,
+              ap length (whole messages_in),
+              length-reverse_aux (messages_in (rest codes i)) (stack_of l),
+              length-reverse_aux (messages_in (rest codes 0)) (stack_of l₀),
+              stack-length l t.space,
+              stack-length l₀ v.space,
+              ap (λ (s : List Slot). length (messages_in s)) cons_msg,
+            )
+
+        pub visit_msg : Visiting codes l₀ (with_message l (y - max_factors)) (i + 1)
+        visit_msg = rw is (record {
+          space = message-space l (x - max_factors) t.space msg_room (omega (arith, low i h));
+          items = ap (λ (s : List Slot). items_of l ++ originals_in s) (sym cons_msg) ∙ t.items;
+          stack =
+              ap (reverse_aux (messages_in (rest codes (i + 1)))) (message-stack l (x - max_factors) t.space msg_room)
+              ∙ ap (λ (s : List Slot). reverse_aux (messages_in s) (stack_of l)) (sym cons_msg) ∙ t.stack;
+        })
+
+  pub done : (l : Listing) (i : ℕ) → Visiting codes l₀ l i → length codes ≤ i → Visited content a b l₀ l
+  done l i t h =
+      let none : rest codes i ≡ [] = ap (map pass_slot) (drop_of_length-le codes {i = i} h) in
+      record {
+        space = t.space;
+        items = sym (append-nil (items_of l)) ∙ ap (λ (s : List Slot). items_of l ++ originals_in s) (sym none) ∙ t.items
+            ∙ whole (λ s. items_of l₀ ++ originals_in s);
+        stack = ap (λ (s : List Slot). reverse_aux (messages_in s) (stack_of l)) (sym none) ∙ t.stack
+            ∙ whole (λ s. reverse_aux (messages_in s) (stack_of l₀));
       }
-
-    module _ (k : max_factors ≤ x) where
-      cons_msg : content_part i b content ≡ closed (x - max_factors) ∷ content_part (i + 1) b content
-      cons_msg = cons ∙ ap (λ (s : Slot). s ∷ content_part (i + 1) b content) (slot_high x k)
-
-      pub msg_room : l.top < max_variables
-      msg_room =
-          omega (
-            arith,
-            v.stack,
-            ap length t.stack,
-            length-reverse_aux (messages_in (content_part i b content)) (stack_of l),
-            length-reverse_aux (messages_in (content_part a b content)) (stack_of l₀),
-            stack-length l t.space,
-            stack-length l₀ v.space,
-            ap (λ (s : List Slot). length (messages_in s)) cons_msg,
-          )
-
-      pub visit_msg : Visiting (with_message l (x - max_factors)) (i + 1)
-      visit_msg = record {
-        after = omega (arith, t.after);
-        here = omega arith;
-        space = message-space l (x - max_factors) t.space msg_room (omega (arith, low));
-        items = ap (λ (s : List Slot). items_of l ++ originals_in s) (sym cons_msg) ∙ t.items;
-        stack =
-            ap (reverse_aux (messages_in (content_part (i + 1) b content))) (message-stack l (x - max_factors) t.space msg_room)
-            ∙ ap (λ (s : List Slot). reverse_aux (messages_in s) (stack_of l)) (sym cons_msg) ∙ t.stack;
-      }
-
-  none : (i : ℕ) → b ≤ i → content_part i b content ≡ []
-  none i h = ap (map pass_slot) (drop-none i b content h)
-
-  pub done : (l : Listing) (i : ℕ) → Visiting l i → b ≤ i → Visited content a b l₀ l
-  done l i t h = record {
-    space = t.space;
-    items = sym (append-nil (items_of l)) ∙ ap (λ (s : List Slot). items_of l ++ originals_in s) (sym (none i h)) ∙ t.items;
-    stack = ap (λ (s : List Slot). reverse_aux (messages_in s) (stack_of l)) (sym (none i h)) ∙ t.stack;
-  }

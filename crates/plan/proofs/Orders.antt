@@ -1,17 +1,16 @@
--- A lent order, key by key: the keys met so far as a set, and the places copied so far. Assumes nothing.
-use mathlib.Core.Path.{◌≡◌, sym, ap, subst, ◌∙◌, refl}
+-- A lent order, key by key: the keys met so far as a set. Assumes nothing.
+use mathlib.Core.Path.{◌≡◌, sym, ap, subst, ◌∙◌}
 use mathlib.Core.Bool.{true, false}
 use mathlib.Core.Logic.{⊎_elim}
-use mathlib.Core.List.{List, [], ◌∷◌, ◌++◌}
+use mathlib.Core.List.{List, [], ◌∷◌}
 use Prim.Native.Nat.{ℕ, suc, ◌+◌, ◌^◌, ◌≤◌, ◌<◌}
 use native.Mathlib.Numerals.{add-one}
 use native.Mathlib.Omega.{arith}
 use native.Mathlib.Decide.{dec_lt}
 use lib.Bits.{bit_and, bit_or}
 use lib.Dec.{T, not_T, lt→ltb, ltb→lt}
-use lib.ListN.{length, get_or, take, drop, set, length-set}
-use lib.Seq.{split_at, take_all, take-suc, take-suc-set}
-use Rattle.factor.specs.Limits.{max_variables}
+use lib.ListN.{length, get_or, take, drop}
+use lib.Seq.{split_at, take_all, take-suc}
 use Rattle.schedule.specs.Count.{hit, count, In, each_once}
 use Rattle.schedule.proofs.Counts.{hit-cases, hit_same, count-cons, count-nil, count-append}
 use Rattle.schedule.proofs.Demand3.{from_once}
@@ -93,23 +92,3 @@ module _ (n : ℕ) (order : List ℕ) where
       let e : take i order ≡ order = take_all i order (omega arith) in
       sym (sure_true (each_once n order) (counts_each n order (few-each n order long
       (λ x s. m.low x (omega (arith, ap (count x) e, s))) (λ x. omega (arith, ap (count x) e, m.once x)))))
-
--- ---- the array
-
-pub record Copied (order r : List ℕ) (i : ℕ) : Type 0 where
-  pub long : length r ≡ max_variables
-  pub is : take i r ≡ take i order
-
-pub copied_none : (order r : List ℕ) → length r ≡ max_variables → Copied order r 0
-copied_none order r l = record { long = l; is = refl }
-
-pub copied_more : (order r : List ℕ) (i : ℕ) → i < length order → i < max_variables → Copied order r i → Copied order (set r i (get_or order i 0)) (i + 1)
-copied_more order r i l h c = record {
-  long = length-set r i (get_or order i 0) ∙ c.long;
-  is =
-      ap (λ (m : ℕ). take m (set r i (get_or order i 0))) (add-one i) ∙ take-suc-set r i (get_or order i 0) (omega (arith, c.long))
-      ∙ ap (λ (t : List ℕ). t ++ (get_or order i 0 ∷ [])) c.is ∙ sym (take-suc order i 0 l) ∙ ap (λ (m : ℕ). take m order) (sym (add-one i));
-}
-
-pub copied_done : (order r : List ℕ) (i : ℕ) → i ≡ length order → Copied order r i → take (length order) r ≡ order
-copied_done order r i e c = ap (λ (m : ℕ). take m r) (sym e) ∙ c.is ∙ take_all i order (omega arith)

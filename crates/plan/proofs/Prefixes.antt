@@ -3,11 +3,12 @@
 use mathlib.Core.Path.{◌≡◌, refl, sym, ap, ◌∙◌}
 use mathlib.Core.Bool.{Bool, true, false, ◌||◌}
 use mathlib.Core.List.{List, [], ◌∷◌, ◌++◌, map}
-use Prim.Native.Nat.{ℕ, zero, suc, ◌+◌, ◌≤◌, ◌<◌}
+use Prim.Native.Nat.{ℕ, zero, suc, ◌+◌, ◌-◌, ◌≤◌, ◌<◌}
 use native.Mathlib.Numerals.{add-one}
 use native.Mathlib.Omega.{arith}
 use lib.ListN.{length, get_or, take, drop, set}
-use lib.Seq.{take-suc, length-take-le, drop-append-le}
+use lib.Seq.{take-suc, take_all, length-take-le, drop-append-le}
+use Rattle.std.proofs.lemmas.List.{drop-take}
 use Rattle.schedule.specs.Count.{any}
 
 pub or_assoc : (a b c : Bool) → (a || b) || c ≡ a || (b || c)
@@ -35,10 +36,12 @@ module _ {A : Type 0} where
   part_snoc l a i d h k =
       ap (drop a) (take-suc l i d k) ∙ drop-append-le a (take i l) (get_or l i d ∷ []) (omega (arith, length-take-le i l (omega arith)))
 
-  pub any_part : (p : A → Bool) (l : List A) (a i : ℕ) (d : A) → a ≤ i → i < length l
-      → any p (drop a (take (i + 1) l)) ≡ any p (drop a (take i l)) || p (get_or l i d)
-  any_part p l a i d h k =
-      ap (λ (n : ℕ). any p (drop a (take n l))) (add-one i) ∙ ap (any p) (part_snoc l a i d h k) ∙ any_snoc p (drop a (take i l)) (get_or l i d)
+  -- a slice from a to b, and its first places
+  pub part-is : (a b : ℕ) (l : List A) → a ≤ b → take (b - a) (drop a l) ≡ drop a (take b l)
+  part-is a b l h = let e : a + (b - a) ≡ b = omega arith in sym (drop-take a (b - a) l) ∙ ap (λ (n : ℕ). drop a (take n l)) e
+
+  pub part_whole : (a b i : ℕ) (l : List A) → a ≤ b → length (take (b - a) (drop a l)) ≤ i → take i (take (b - a) (drop a l)) ≡ drop a (take b l)
+  part_whole a b i l h k = take_all i (take (b - a) (drop a l)) k ∙ part-is a b l h
 
   pub drop-none : (a i : ℕ) (l : List A) → i ≤ a → drop a (take i l) ≡ []
   drop-none zero zero l h = refl

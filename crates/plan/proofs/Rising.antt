@@ -11,7 +11,7 @@ use native.Mathlib.Decide.{dec_lt}
 use borrow.Author.Tests.{lt-ltb, le-ltb}
 use lib.Dec.{T, ltb, ltb→lt}
 use lib.ListN.{length, get_or, take, set, length-set}
-use lib.Seq.{take_all, take-suc-set, get_or-set_same, get_or-set_other}
+use lib.Seq.{take-suc-set, get_or-set_same, get_or-set_other}
 use Rattle.factor.specs.Limits.{max_factors}
 use Rattle.schedule.specs.Count.{count, In, put_if, from}
 use Rattle.schedule.proofs.Counts.{count-nil, rising_once}
@@ -33,28 +33,10 @@ take-from a zero (suc n) h = absurd (omega arith)
 take-from a (suc m) (suc n) h = ap (λ (l : List ℕ). a ∷ l) (take-from (suc a) m n (omega arith))
 
 -- ---- an array that a loop fills with the numbers of its places
-pub record Filled (size : ℕ) (r : List ℕ) (i : ℕ) : Type 0 where
-  pub here : i ≤ size
-  pub long : length r ≡ size
-  pub is : take i r ≡ from 0 i
-
-pub filled_none : (size : ℕ) (r : List ℕ) → length r ≡ size → Filled size r 0
-unfolding from
-filled_none size r l = record { here = omega arith; long = l; is = refl }
-
-pub filled_more : (size : ℕ) (r : List ℕ) (i : ℕ) → i < size → Filled size r i → Filled size (set r i i) (i + 1)
-filled_more size r i h t = record {
-  here = omega arith;
-  long = length-set r i i ∙ t.long;
-  is =
-      ap (λ (m : ℕ). take m (set r i i)) (add-one i) ∙ take-suc-set r i i (omega (arith, t.long))
-      ∙ ap₂ (λ (l : List ℕ) (x : ℕ). l ++ (x ∷ [])) t.is (sym (zero-add i)) ∙ sym (from_snoc 0 i) ∙ ap (from 0) (sym (add-one i));
-}
-
-pub filled-done : (size : ℕ) (r : List ℕ) (i : ℕ) → Filled size r i → size ≤ i → r ≡ from 0 size
-filled-done size r i t h =
-    let e : i ≡ size = omega (arith, t.here) in
-    sym (take_all size r (omega (arith, t.long))) ∙ subst (λ (m : ℕ). take m r ≡ from 0 m) e t.is
+pub rise_more : (r : List ℕ) (i : ℕ) → i < length r → take i r ≡ from 0 i → take (i + 1) (set r i i) ≡ from 0 (i + 1)
+rise_more r i h e =
+    ap (λ (m : ℕ). take m (set r i i)) (add-one i) ∙ take-suc-set r i i h ∙ ap₂ (λ (l : List ℕ) (x : ℕ). l ++ (x ∷ [])) e (sym (zero-add i))
+    ∙ sym (from_snoc 0 i) ∙ ap (from 0) (sym (add-one i))
 
 -- ---- an array that a loop fills with the numbers of the live factors
 module _ (factors : List Factor) where

@@ -11,7 +11,7 @@ use native.Mathlib.Omega.{arith}
 use borrow.Author.Tests.{le-ltb}
 use lib.Bits.{bit_and}
 use lib.Dec.{T, not_T}
-use lib.ListN.{length, get_or, take, drop, set, length-map, length-set, length-drop, get_or-append, get_or-eq_default, length-append}
+use lib.ListN.{length, get_or, take, drop, set, length-map, length-drop, get_or-append, get_or-eq_default, length-append}
 use lib.Seq.{get_or-set_same, get_or-set_other, take-set-le, drop-set-add, take-suc-set, take-take, get_or_at}
 use Rattle.factor.specs.Limits.{max_variables, max_factors}
 use Rattle.schedule.specs.Count.{mem, any, joined, from, rising_where}
@@ -28,7 +28,6 @@ use Rattle.plan.proofs.Sets.{meets-touches}
 use Rattle.plan.proofs.Prefixes.{map-set, map-take, map-drop, map-append}
 use Rattle.plan.proofs.Membership.{mem-joined, any_same, any-map, mem-rising, rising_on, sure_false, map-from}
 use Rattle.plan.proofs.Walking.{mask_at_lem}
-use Rattle.plan.proofs.WalkTurns.{low-set}
 
 pub slot_msg : (c : ℕ) → pass_slot (max_factors + c) ≡ closed c
 unfolding pass_slot
@@ -75,50 +74,6 @@ module _ (p : Pass) (w : Board) (ks cleared t : ℕ) (ready : PassReady t p) (lo
 
   space : w.used < pass_slots
   space = omega (arith, ready.few, ready.total, split.sum)
-
-  pub readied : PassReady (t + 1) r
-  readied = record {
-    room = record {
-      active = record {
-        long = length-set w.slots w.used (max_factors + c) ∙ split.room.active.long;
-        few = omega (arith, space);
-        low = λ k l. low-set w.slots w.used (max_factors + c) k pass_slots (omega (arith, space, split.room.active.long))
-            (omega (arith, few)) (λ q. split.room.active.low k (omega arith));
-      };
-      contents = split.room.contents;
-      room = omega (arith, few, ready.total, split.sum);
-    };
-    total = omega (arith, ready.total, split.sum);
-    few = omega (arith, ready.few);
-    masks = length-set p.masks (max_factors + c) (bit_and p.active ks) ∙ ready.masks;
-    cleared = length-set p.cleared c cleared ∙ ready.cleared;
-    steps = length-set p.steps c t ∙ ready.steps;
-    starts = length-set p.starts c p.board.filled ∙ ready.starts;
-    ends = length-set p.ends c w.filled ∙ ready.ends;
-    closed = λ j h. closed j h (ℕ_discrete j c);
-    ordered = λ j h. ordered j h (ℕ_discrete j c);
-  }
-    where
-      ordered : (j : ℕ) → j < c + 1 → Dec (j ≡ c) → get_or (set p.starts c p.board.filled) j 0 ≤ get_or (set p.ends c w.filled) j 0
-      ordered j h (yes e) =
-          omega (
-            arith,
-            ap (λ (i : ℕ). get_or (set p.ends c w.filled) i 0) e,
-            get_or-set_same p.ends c w.filled 0 (omega (arith, few, ready.ends)),
-            ap (λ (i : ℕ). get_or (set p.starts c p.board.filled) i 0) e,
-            get_or-set_same p.starts c p.board.filled 0 (omega (arith, few, ready.starts)),
-            split.more,
-          )
-      ordered j h (no e) =
-          omega (arith, get_or-set_other p.ends c j w.filled 0 e, get_or-set_other p.starts c j p.board.filled 0 e, ready.ordered j (omega arith))
-
-      closed : (j : ℕ) → j < c + 1 → Dec (j ≡ c) → get_or (set p.ends c w.filled) j 0 ≤ w.filled
-      closed j h (yes e) = omega (
-        arith,
-        ap (λ (i : ℕ). get_or (set p.ends c w.filled) i 0) e,
-        get_or-set_same p.ends c w.filled 0 (omega (arith, few, ready.ends)),
-      )
-      closed j h (no e) = omega (arith, get_or-set_other p.ends c j w.filled 0 e, ready.closed j (omega arith), split.more)
 
   -- the mask of a message
   new-mask : get_or (drop max_factors r.masks) c 0 ≡ bit_and p.active ks

@@ -10,7 +10,7 @@ use native.Mathlib.Omega.{arith}
 use borrow.Author.Tests.{lt-ltb, le-ltb}
 use lib.Bits.{bit_and, bit_or}
 use lib.Dec.{T, eqb, eqb→eq, eqb_refl, not_T}
-use lib.ListN.{length, get_or, take, drop}
+use lib.ListN.{length, get_or, take}
 use lib.Seq.{take-suc, get_or-drop}
 use Rattle.factor.specs.Limits.{max_variables, max_factors}
 use Rattle.schedule.specs.Count.{mem, any, put_if, keep, from, joined, rising_where}
@@ -21,23 +21,22 @@ use Rattle.schedule.proofs.Runs.{msgs_append}
 use Rattle.schedule.proofs.Sums.{joined-append, from_snoc}
 use Rattle.plan.specs.Mask.{has, keys_in, Union, Set}
 use Rattle.plan.specs.Pass.{pick_slot, pass_slot, msg_at, messages_of}
-use Rattle.plan.specs.Gather.{content_part}
 use Rattle.plan.specs.declared.pass.Pass.{Pass}
 use Rattle.plan.proofs.Digits.{has-and, has-or, has-zero, has-single, some-has}
-use Rattle.plan.proofs.Prefixes.{or-false, any_part, part_snoc, drop-none, map-append}
+use Rattle.plan.proofs.Prefixes.{or-false, any-take, map-append}
 use Rattle.plan.proofs.Membership.{sure_true, sure_false, mem-nil, mem-cons, mem-append, mem-rising, rising_on}
 
 -- ---- of masks
-pub union_more : (masks content : List ℕ) (a i r : ℕ) → a ≤ i → i < length content → Union masks a i content r
-    → Union masks a (i + 1) content (bit_or r (get_or masks (get_or content i 0) 0))
-union_more masks content a i r l h inv j =
-    has-or j r (get_or masks (get_or content i 0) 0)
-    ∙ ap (λ (t : Bool). t || has j (get_or masks (get_or content i 0) 0)) (inv j)
-    ∙ sym (any_part (λ x. has j (get_or masks x 0)) content a i 0 l h)
+pub union_more : (masks numbers : List ℕ) (i r : ℕ) → i < length numbers → Union masks 0 i numbers r
+    → Union masks 0 (i + 1) numbers (bit_or r (get_or masks (get_or numbers i 0) 0))
+union_more masks numbers i r h inv j =
+    has-or j r (get_or masks (get_or numbers i 0) 0)
+    ∙ ap (λ (t : Bool). t || has j (get_or masks (get_or numbers i 0) 0)) (inv j)
+    ∙ sym (any-take (λ x. has j (get_or masks x 0)) numbers i 0 h)
 
-pub union-none : (masks content : List ℕ) (a i : ℕ) → i ≤ a → Union masks a i content 0
+pub union-none : (masks numbers : List ℕ) → Union masks 0 0 numbers 0
 unfolding any
-union-none masks content a i h j = has-zero j ∙ ap (any (λ x. has j (get_or masks x 0))) (sym (drop-none a i content h))
+union-none masks numbers j = has-zero j
 
 -- ---- of numbers
 pub set-none : Set [] 0
@@ -45,6 +44,10 @@ set-none j = has-zero j ∙ sym (mem-nil j)
 
 pub set-append : (a b : List ℕ) (r s : ℕ) → Set a r → Set b s → Set (a ++ b) (bit_or r s)
 set-append a b r s h k j = has-or j r s ∙ ap₂ (λ (x y : Bool). x || y) (h j) (k j) ∙ sym (mem-append j a b)
+
+-- a one, shifted by a number that was read from x
+pub bit : {s x y : ℕ} → s ≡ 2 ^ y → y ≡ x → s ≡ 2 ^ x
+bit e h = e ∙ ap (λ (k : ℕ). 2 ^ k) h
 
 set-one : (x r : ℕ) → r ≡ 2 ^ x → Set (x ∷ []) r
 set-one x r e j = ap (has j) e ∙ has-single j x ∙ sym (or-false (eqb j x)) ∙ ap (λ (t : Bool). eqb j x || t) (sym (mem-nil j)) ∙ sym (mem-cons j x [])
@@ -63,33 +66,26 @@ pub slot_high : (x : ℕ) → max_factors ≤ x → pass_slot x ≡ closed (x - 
 unfolding pass_slot
 slot_high x h = ap (λ (b : Bool). pick_slot b x) (le-ltb x max_factors h)
 
-part-more : (content : List ℕ) (a i : ℕ) → a ≤ i → i < length content → content_part a (i + 1) content
-    ≡ content_part a i content ++ (pass_slot (get_or content i 0) ∷ [])
-part-more content a i h l =
-    ap (λ (n : ℕ). content_part a n content) (add-one i) ∙ ap (map pass_slot) (part_snoc content a i 0 h l)
-    ∙ map-append pass_slot (drop a (take i content)) (get_or content i 0 ∷ [])
-
--- the messages among the slots
-module _ (content : List ℕ) (a i r : ℕ) (h : a ≤ i) (l : i < length content) (inv : Set (messages_in (content_part a i content)) r) where
+-- the messages among the first slots
+module _ (codes : List ℕ) (i r : ℕ) (l : i < length codes) (inv : Set (messages_in (map pass_slot (take i codes))) r) where
   abbrev x : ℕ
-  x = get_or content i 0
+  x = get_or codes i 0
 
-  messages : messages_in (content_part a (i + 1) content) ≡ messages_in (content_part a i content) ++ messages_in (pass_slot x ∷ [])
-  messages = ap messages_in (part-more content a i h l) ∙ msgs_append (content_part a i content) (pass_slot x ∷ [])
+  messages : messages_in (map pass_slot (take (i + 1) codes)) ≡ messages_in (map pass_slot (take i codes)) ++ messages_in (pass_slot x ∷ [])
+  messages =
+      ap (λ (n : ℕ). messages_in (map pass_slot (take n codes))) (add-one i) ∙ ap (λ (t : List ℕ). messages_in (map pass_slot t)) (take-suc codes i 0 l)
+      ∙ ap messages_in (map-append pass_slot (take i codes) (x ∷ [])) ∙ msgs_append (map pass_slot (take i codes)) (pass_slot x ∷ [])
 
-  pub inner_msg : (s : ℕ) → max_factors ≤ x → s ≡ 2 ^ (x - max_factors) → Set (messages_in (content_part a (i + 1) content)) (bit_or r s)
+  pub inner_msg : (s : ℕ) → max_factors ≤ x → s ≡ 2 ^ (x - max_factors) → Set (messages_in (map pass_slot (take (i + 1) codes))) (bit_or r s)
   inner_msg s k e =
-      subst (λ (t : List ℕ). Set t (bit_or r s)) (sym (messages ∙ ap (λ (t : Slot). messages_in (content_part a i content) ++ messages_in (t ∷ []))
+      subst (λ (t : List ℕ). Set t (bit_or r s)) (sym (messages ∙ ap (λ (t : Slot). messages_in (map pass_slot (take i codes)) ++ messages_in (t ∷ []))
       (slot_high x k)))
-      (set-append (messages_in (content_part a i content)) ((x - max_factors) ∷ []) r s inv (set-one (x - max_factors) s e))
+      (set-append (messages_in (map pass_slot (take i codes))) ((x - max_factors) ∷ []) r s inv (set-one (x - max_factors) s e))
 
-  pub inner_orig : x < max_factors → Set (messages_in (content_part a (i + 1) content)) r
+  pub inner_orig : x < max_factors → Set (messages_in (map pass_slot (take (i + 1) codes))) r
   inner_orig k =
-      subst (λ (t : List ℕ). Set t r) (sym (messages ∙ ap (λ (t : Slot). messages_in (content_part a i content) ++ messages_in (t ∷ [])) (slot_low x k)
-      ∙ append-nil (messages_in (content_part a i content)))) inv
-
-pub inner-none : (content : List ℕ) (a : ℕ) → Set (messages_in (content_part a a content)) 0
-inner-none content a = subst (λ (l : List ℕ). Set (messages_in (map pass_slot l)) 0) (sym (drop-none a a content (omega arith))) set-none
+      subst (λ (t : List ℕ). Set t r) (sym (messages ∙ ap (λ (t : Slot). messages_in (map pass_slot (take i codes)) ++ messages_in (t ∷ [])) (slot_low x k)
+      ∙ append-nil (messages_in (map pass_slot (take i codes))))) inv
 
 -- ---- a loop over the numbers of a set
 pub in_set : (set j s : ℕ) → s ≡ 2 ^ j → (bit_and set s ≡ 0 → ⊥) → has j set ≡ true

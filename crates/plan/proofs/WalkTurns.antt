@@ -1,6 +1,6 @@
 -- A turn of the loop over a board: the invariant of `walk`.
 -- Assumes nothing.
-use mathlib.Core.Path.{◌≡◌, refl, sym, ap, ap₂, subst, ◌∙◌}
+use mathlib.Core.Path.{◌≡◌, sym, ap, ap₂, subst, ◌∙◌}
 use mathlib.Core.Bool.{Bool, not}
 use mathlib.Core.Logic.{◌≢◌}
 use mathlib.Core.List.{List, [], map, append-nil}
@@ -40,16 +40,6 @@ module _ (masks : List ℕ) (cleared : ℕ) where
     pub more : b₀.filled ≤ b.filled
     pub sum : b.used + b.filled ≡ b₀.used + b₀.filled
     pub room : BoardRoom b
-
-  pub start : (b : Board) → BoardRoom b → Turned b b 0
-  start b r = record {
-    here = omega arith;
-    whole = ap (λ (t : List Slot). ahead t [] (walking masks cleared b)) (drop-none b.filled b.filled (map pass_slot b.content) (omega arith));
-    before = refl;
-    more = omega arith;
-    sum = refl;
-    room = r;
-  }
 
   abbrev pub moved : Board → ℕ → Board
   moved b i = record {

@@ -1,7 +1,7 @@
 -- Inner: what the arrays of a pass mean. Two things are kept apart: bounds (`Codes`, `BoardRoom`, `PassReady`), which the code requires, and
 -- meaning (`Means` and what is said with it), which the code ensures for every table K of keys that the masks agree with.
 -- Assumes nothing.
-use Rattle.std.specs.Prelude.{◌≡◌, Bool, true, false, ◌&&◌, List, [], ◌++◌, map, ℕ, ◌+◌, ◌-◌, ◌≤◌, ◌<◌, T, ltb, length, get_or, take, drop, replicate}
+use Rattle.std.specs.Prelude.{◌≡◌, Bool, true, false, ◌&&◌, List, [], map, ℕ, ◌+◌, ◌-◌, ◌≤◌, ◌<◌, T, ltb, length, get_or, take, drop}
 use Rattle.factor.specs.Limits.{max_variables, max_factors}
 use Rattle.schedule.specs.Count.{any, from, mem}
 use Rattle.schedule.specs.Pass.{Slot, original, closed, ClosedFactor, State, slot_keys, touches, Walked, walk, append, step, state_after, full_pass}
@@ -110,15 +110,6 @@ abbrev pub Steps : (k t : ℕ) (p r : Pass) → Type 0
 Steps k t p r = (n : ℕ) (K : ℕ → List ℕ) (st : State) → k < n → Means n K p st → Means n K r (step n K t k st)
 
 -- ---- The whole pass
--- the masks of the originals, and none yet of a message
-unfoldable pub original_masks : (keys : List ℕ) → List ℕ
-original_masks keys = keys ++ replicate max_variables 0
-
--- the live originals stand first
-pub record LiveFirst (live : List ℕ) (count : ℕ) (r : List ℕ) : Type 0 where
-  pub long : length r ≡ pass_slots
-  pub first : take count r ≡ take count live
-
 -- the first `count` are numbers of originals
 pub record Live (live : List ℕ) (count : ℕ) : Type 0 where
   pub few : count ≤ max_factors

@@ -5,8 +5,8 @@ ghost use Rattle.plan.specs.Mask.{Set};
 ghost use Rattle.plan.specs.Factors as spec;
 
 use crate::masks::single;
+use factor::Factor;
 use factor::limits::FACTORS;
-use factor::{Factor, wide};
 
 // The numbers of live factors, in the first `count` places.
 #[derive(Drop)]
@@ -20,13 +20,10 @@ pub fn mask_of(f: Factor) -> u32
     requires { spec.Fits f }
     ensures { Set (spec.touched_keys f) result }
 {
-    let n = wide(f.touched);
+    let n = usize::from(f.touched);
     let mut r = 0u32;
-    let mut i = 0;
-    while i < n {
-        let k = wide(f.keys[i]);
-        r |= single(k);
-        i += 1;
+    for &k in &f.keys[..n] {
+        r |= single(usize::from(k));
     }
     r
 }
@@ -38,11 +35,8 @@ pub fn masks_of(factors: [Factor; FACTORS], count: usize) -> [u32; FACTORS]
     ensures { spec.Masked factors count result }
 {
     let mut r = [0u32; FACTORS];
-    let mut i = 0;
-    while i < count {
-        let f = factors[i];
-        r[i] = mask_of(f);
-        i += 1;
+    for i in 0..count {
+        r[i] = mask_of(factors[i]);
     }
     r
 }
@@ -54,14 +48,12 @@ pub fn live_of(factors: [Factor; FACTORS], count: usize) -> Lives
 {
     let mut numbers = [0u8; FACTORS];
     let mut lives = 0;
-    let mut i = 0;
-    while i < count {
+    for i in 0..count {
         let f = factors[i];
         if f.live {
             numbers[lives] = i as u8;
             lives += 1;
         }
-        i += 1;
     }
     Lives {
         numbers: numbers,

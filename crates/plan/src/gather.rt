@@ -39,13 +39,11 @@ fn messages_in(content: &[u8; PASS_SLOTS], from: usize, to: usize) -> u32
     ensures { spec.Inner from to content.now result }
 {
     let mut r = 0u32;
-    let mut i = from;
-    while i < to {
-        let s = content[i] as usize;
+    for &s in &content[from..to] {
+        let s = usize::from(s);
         if FACTORS <= s {
             r |= single(s - FACTORS);
         }
-        i += 1;
     }
     r
 }
@@ -55,21 +53,16 @@ fn alive_messages(messages: Pass, t: usize) -> u32
     requires { pass.PassReady max_variables messages }
     ensures { spec.Alive t messages result }
 {
-    let b = messages.board;
-    let content = b.content;
-    let n = messages.count;
     let mut upto = 0u32;
     let mut within = 0u32;
-    let mut i = 0;
-    while i < n {
-        let at = messages.steps[i] as usize;
+    for i in 0..messages.count {
+        let at = usize::from(messages.steps[i]);
         if at <= t {
             upto |= single(i);
-            let from = messages.starts[i] as usize;
-            let to = messages.ends[i] as usize;
-            within |= messages_in(&content, from, to);
+            let from = usize::from(messages.starts[i]);
+            let to = usize::from(messages.ends[i]);
+            within |= messages_in(&messages.board.content, from, to);
         }
-        i += 1;
     }
     upto ^ (upto & within)
 }
@@ -80,18 +73,14 @@ fn visit(content: &[u8; PASS_SLOTS], from: usize, to: usize, listing: Listing) -
     ensures { spec.Visited content.now from to listing result }
 {
     let mut l = listing;
-    let mut i = from;
-    while i < to {
-        let s = content[i] as usize;
-        i += 1;
+    for &code in &content[from..to] {
+        let s = usize::from(code);
         if s < FACTORS {
-            let c = l.count;
-            l.items[c] = s as u8;
-            l.count = c + 1;
+            l.items[l.count] = code;
+            l.count += 1;
         } else {
-            let t = l.top;
-            l.stack[t] = (s - FACTORS) as u8;
-            l.top = t + 1;
+            l.stack[l.top] = (s - FACTORS) as u8;
+            l.top += 1;
         }
     }
     l
@@ -104,18 +93,15 @@ fn mark_leaves(messages: Pass, root: usize, listing: Listing) -> Listing
     requires openable { spec.Openable messages root listing }
     ensures { spec.Opened messages root listing result }
 {
-    let b = messages.board;
-    let content = b.content;
     let mut l = listing;
     l.stack[0] = root as u8;
     l.top = 1;
     while 0 < l.top {
-        let t = l.top - 1;
-        let m = l.stack[t] as usize;
-        l.top = t;
-        let from = messages.starts[m] as usize;
-        let to = messages.ends[m] as usize;
-        l = visit(&content, from, to, l);
+        l.top -= 1;
+        let m = usize::from(l.stack[l.top]);
+        let from = usize::from(messages.starts[m]);
+        let to = usize::from(messages.ends[m]);
+        l = visit(&messages.board.content, from, to, l);
     }
     l
 }
@@ -127,14 +113,11 @@ fn leaves_of(messages: Pass, set: u32, listing: Listing) -> Listing
     requires listable { spec.Listable messages set listing }
     ensures { spec.SetListed messages set listing result }
 {
-    let n = messages.count;
     let mut l = listing;
-    let mut j = 0;
-    while j < n {
+    for j in 0..messages.count {
         if set & single(j) != 0 {
             l = mark_leaves(messages, j, l);
         }
-        j += 1;
     }
     l
 }
@@ -145,11 +128,8 @@ fn items_set(items: &[u8; FACTORS], count: usize) -> u64
     ensures { Set (take count items.now) result }
 {
     let mut r = 0u64;
-    let mut i = 0;
-    while i < count {
-        let x = items[i] as usize;
-        r |= single64(x);
-        i += 1;
+    for &x in &items[..count] {
+        r |= single64(usize::from(x));
     }
     r
 }
@@ -162,16 +142,11 @@ fn uncovered(live: [u8; FACTORS], count: usize, listing: Listing) -> Listing
     ensures { spec.OthersListed live count listing result }
 {
     let mut l = listing;
-    let items = l.items;
-    let covered = items_set(&items, l.count);
-    let mut i = 0;
-    while i < count {
-        let x = live[i] as usize;
-        i += 1;
-        if covered & single64(x) == 0 {
-            let c = l.count;
-            l.items[c] = x as u8;
-            l.count = c + 1;
+    let covered = items_set(&l.items, l.count);
+    for &x in &live[..count] {
+        if covered & single64(usize::from(x)) == 0 {
+            l.items[l.count] = x;
+            l.count += 1;
         }
     }
     l
@@ -182,15 +157,11 @@ fn kept_keys(messages: Pass, set: u32) -> u32
     requires { pass.PassReady max_variables messages }
     ensures { spec.Kept messages set result }
 {
-    let n = messages.count;
     let mut r = 0u32;
-    let mut j = 0;
-    while j < n {
+    for j in 0..messages.count {
         if set & single(j) != 0 {
-            let m = messages.masks[FACTORS + j];
-            r |= m;
+            r |= messages.masks[FACTORS + j];
         }
-        j += 1;
     }
     r
 }
@@ -214,31 +185,27 @@ pub fn gather(
 {
     let forward = alive_messages(fw, r);
     let backward = alive_messages(bw, s);
-    let none = [0u8; FACTORS];
-    let stack = [0u8; VARIABLES];
     let empty = Listing {
-        items: none,
+        items: [0; FACTORS],
         count: 0,
-        stack: stack,
+        stack: [0; VARIABLES],
         top: 0,
     };
     let one = leaves_of(fw, forward, empty);
     let two = leaves_of(bw, backward, one);
     let covered = two.count;
     let all = uncovered(live, count, two);
-    let items = all.items;
-    let total = all.count;
     let fk = kept_keys(fw, forward);
     let bk = kept_keys(bw, backward);
-    let uk = union(&keys, &items, covered, total);
+    let uk = union(&keys, &all.items, covered, all.count);
     let touched = (fk | bk) | uk;
     let own = single(k);
     Gathered {
         forward: forward,
         backward: backward,
-        items: items,
+        items: all.items,
         covered: covered,
-        count: total,
+        count: all.count,
         last: touched ^ (touched & own),
     }
 }

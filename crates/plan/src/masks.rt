@@ -25,12 +25,8 @@ pub fn union<'a>(sets: &'a [u32], numbers: &'a [u8], from: usize, to: usize) -> 
     ensures { spec.Union sets.now from to numbers.now result }
 {
     let mut r = 0u32;
-    let mut i = from;
-    while i < to {
-        let s = numbers[i] as usize;
-        let m = sets[s];
-        r |= m;
-        i += 1;
+    for &n in &numbers[from..to] {
+        r |= sets[usize::from(n)];
     }
     r
 }

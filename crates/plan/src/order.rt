@@ -5,7 +5,6 @@ ghost use Rattle.schedule.specs.Count.{each_once};
 
 use crate::masks::single;
 use factor::limits::VARIABLES;
-use factor::wide;
 
 // Whether the order is each of the keys below n exactly once: as many keys as there are, each below n, and none met before.
 pub fn is_order(order: &[u8], n: usize) -> bool
@@ -16,9 +15,8 @@ pub fn is_order(order: &[u8], n: usize) -> bool
         return false;
     }
     let mut met = 0u32;
-    let mut i = 0;
-    while i < n {
-        let k = wide(order[i]);
+    for &k in order {
+        let k = usize::from(k);
         if n <= k {
             return false;
         }
@@ -27,7 +25,6 @@ pub fn is_order(order: &[u8], n: usize) -> bool
             return false;
         }
         met |= key;
-        i += 1;
     }
     true
 }
@@ -37,12 +34,7 @@ pub fn in_array(order: &[u8]) -> [u8; VARIABLES]
     requires { length order.now ≤ max_variables }
     ensures { take (length order.now) result ≡ order.now }
 {
-    let n = order.len();
     let mut r = [0u8; VARIABLES];
-    let mut i = 0;
-    while i < n {
-        r[i] = order[i];
-        i += 1;
-    }
+    r[..order.len()].copy_from_slice(order);
     r
 }

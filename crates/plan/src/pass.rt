@@ -42,14 +42,11 @@ fn coupled<'a>(
     ensures { spec.Coupled masks.now active (take used slots.now) result }
 {
     let mut r = 0u32;
-    let mut i = 0;
-    while i < used {
-        let s = slots[i] as usize;
-        let m = masks[s];
+    for &s in &slots[..used] {
+        let m = masks[usize::from(s)];
         if m & active != m {
             r |= m;
         }
-        i += 1;
     }
     r
 }
@@ -64,8 +61,7 @@ fn walk(masks: &[u32; PASS_SLOTS], board: Board, cleared: u32) -> Board
     let mut i = 0;
     while i < b.used {
         let code = b.slots[i];
-        let s = code as usize;
-        let m = masks[s];
+        let m = masks[usize::from(code)];
         if m & cleared != 0 {
             let f = b.filled;
             b.content[f] = code;
@@ -81,41 +77,17 @@ fn walk(masks: &[u32; PASS_SLOTS], board: Board, cleared: u32) -> Board
     b
 }
 
-// The masks of the originals, and none yet of a message.
-fn laid_masks(keys: [u32; FACTORS]) -> [u32; PASS_SLOTS]
-    ensures { result ≡ spec.original_masks keys }
-{
-    let mut r = [0u32; PASS_SLOTS];
-    let mut i = 0;
-    while i < FACTORS {
-        r[i] = keys[i];
-        i += 1;
-    }
-    r
-}
-
-// The live originals in the first places: a pass starts with them as its active slots.
-fn laid_slots(live: [u8; FACTORS], count: usize) -> [u8; PASS_SLOTS]
-    requires { count ≤ max_factors }
-    ensures { spec.LiveFirst live count result }
-{
-    let mut r = [0u8; PASS_SLOTS];
-    let mut i = 0;
-    while i < count {
-        r[i] = live[i];
-        i += 1;
-    }
-    r
-}
-
-// The pass before its first step: no key is active, and there is no message.
+// The pass before its first step: no key is active, and there is no message. The active slots are the live originals, and only
+// originals have masks.
 fn begin(keys: [u32; FACTORS], live: [u8; FACTORS], count: usize) -> Pass
     requires { spec.Live live count }
     ensures pass_ready { spec.PassReady 0 result }
     ensures begins { spec.Begins keys live count result }
 {
-    let masks = laid_masks(keys);
-    let slots = laid_slots(live, count);
+    let mut masks = [0u32; PASS_SLOTS];
+    masks[..FACTORS].copy_from_slice(&keys);
+    let mut slots = [0u8; PASS_SLOTS];
+    slots[..count].copy_from_slice(&live[..count]);
     let content = [0u8; PASS_SLOTS];
     let cleared = [0u32; VARIABLES];
     let zeros = [0u8; VARIABLES];
@@ -146,16 +118,13 @@ impl Pass {
         ensures sends { spec.Sends cleared t self result }
     {
         let c = self.count;
-        let b = self.board;
-        let start = b.filled;
-        let mut w = walk(&self.masks, b, cleared);
-        let content = w.content;
+        let start = self.board.filled;
+        let mut w = walk(&self.masks, self.board, cleared);
         let stop = w.filled;
-        let keys = union(&self.masks, &content, start, stop);
-        let u = w.used;
+        let keys = union(&self.masks, &w.content, start, stop);
         let s = FACTORS + c;
-        w.slots[u] = s as u8;
-        w.used = u + 1;
+        w.slots[w.used] = s as u8;
+        w.used += 1;
         self.masks[s] = self.active & keys;
         self.cleared[c] = cleared;
         self.steps[c] = t as u8;
@@ -177,10 +146,7 @@ impl Pass {
     {
         let one = single(k);
         let active = one | self.active;
-        let b = self.board;
-        let slots = b.slots;
-        let used = b.used;
-        let cp = coupled(&self.masks, &slots, used, active);
+        let cp = coupled(&self.masks, &self.board.slots, self.board.used, active);
         let left = (one | cp) & active;
         let cleared = active ^ left;
         self.active = left;
@@ -205,11 +171,8 @@ pub fn full_pass(
     ensures passes { spec.Passes keys (take count live) (take n order) n result }
 {
     let mut p = begin(keys, live, count);
-    let mut t = 0;
-    while t < n {
-        let k = order[t] as usize;
-        p = p.step(k, t);
-        t += 1;
+    for t in 0..n {
+        p = p.step(usize::from(order[t]), t);
     }
     p
 }

@@ -25,12 +25,8 @@ fn reversed(order: [u8; VARIABLES], n: usize) -> [u8; VARIABLES]
     requires { n ≤ max_variables }
     ensures { take n result ≡ reverse (take n order) }
 {
-    let mut r = [0u8; VARIABLES];
-    let mut i = 0;
-    while i < n {
-        r[i] = order[n - 1 - i];
-        i += 1;
-    }
+    let mut r = order;
+    r[..n].reverse();
     r
 }
 
@@ -39,15 +35,10 @@ fn place(order: [u8; VARIABLES], n: usize, k: usize) -> usize
     requires { n ≤ max_variables }
     ensures { result ≡ spec.key_place k (take n order) }
 {
-    let mut i = 0;
-    while i < n {
-        let x = order[i] as usize;
-        if x == k {
-            return i;
-        }
-        i += 1;
-    }
-    i
+    order[..n]
+        .iter()
+        .position(|x| usize::from(*x) == k)
+        .unwrap_or(n)
 }
 
 // The plan for n keys along an order, over the first `count` of the live originals, from the key sets of the originals. What is
@@ -66,22 +57,19 @@ fn make_plan(
     let fw = full_pass(keys, live, count, order, n);
     let back = reversed(order, n);
     let bw = full_pass(keys, live, count, back, n);
-    let none = [0u8; FACTORS];
     let blank = Gathered {
         forward: 0,
         backward: 0,
-        items: none,
+        items: [0; FACTORS],
         covered: 0,
         count: 0,
         last: 0,
     };
     let mut at = [blank; VARIABLES];
-    let mut k = 0;
-    while k < n {
+    for k in 0..n {
         let r = place(order, n, k);
         let s = n - 1 - r;
         at[k] = gather(fw, bw, keys, live, count, r, s, k);
-        k += 1;
     }
     Plan {
         forward: fw,
@@ -113,10 +101,7 @@ pub fn rise(list: &mut [u8])
     requires { length list.old ≤ 256 }
     ensures { list.new ≡ from 0 (length list.old) }
 {
-    let n = list.len();
-    let mut i = 0;
-    while i < n {
+    for i in 0..list.len() {
         list[i] = i as u8;
-        i += 1;
     }
 }

@@ -17,6 +17,7 @@ use Rattle.plan.specs.Plan.{plan_in, no_gathered}
 use Rattle.plan.specs.declared.pass.Pass.{Pass}
 use Rattle.plan.specs.declared.gather.Gathered.{Gathered}
 use Rattle.plan.specs.declared.plan.Plan as arrays
+use Rattle.plan.proofs.Prefixes.{part-is}
 use Rattle.plan.proofs.Unions.{at_msg}
 use Rattle.plan.proofs.Sending.{messages-length}
 use Rattle.plan_answer.specs.Answer as spec
@@ -41,19 +42,18 @@ codes [] = refl
 codes (x ∷ l) = rw (code_slot x, codes l) refl
 
 -- the message j of a pass, from its laid content and its masks
-pub message-is : (p : Pass) (j : ℕ) (content : List ℕ) (kept cleared : ℕ) → PassReady max_variables p → j < p.count
-    → content ≡ drop (get_or p.starts j 0) (take (get_or p.ends j 0) p.board.content) ++ drop (get_or p.ends j 0 - get_or p.starts j 0)
-    (replicate pass_slots 0)
-    → kept ≡ get_or p.masks (max_factors + j) 0 → kept < 2 ^ 32 → cleared ≡ get_or p.cleared j 0 → cleared < 2 ^ 32
+pub message-is : (p : Pass) (j : ℕ) → PassReady max_variables p → j < p.count
+    → get_or p.masks (max_factors + j) 0 < 2 ^ 32 → get_or p.cleared j 0 < 2 ^ 32
     → ◌≡◌ {A = Message} (record {
       step = get_or p.steps j 0;
-      content = content;
+      content = take (get_or p.ends j 0 - get_or p.starts j 0) (drop (get_or p.starts j 0) p.board.content)
+          ++ drop (get_or p.ends j 0 - get_or p.starts j 0) (replicate pass_slots 0);
       slots = get_or p.ends j 0 - get_or p.starts j 0;
-      kept = kept;
-      cleared = cleared;
+      kept = get_or p.masks (max_factors + j) 0;
+      cleared = get_or p.cleared j 0;
     }) (message_of (at (messages_of p) j))
 unfolding message_of msg_at
-message-is p j content kept cleared ready h e ek hk ec hc =
+message-is p j ready h hk hc =
     let a = get_or p.starts j 0 in
     let b = get_or p.ends j 0 in
     let l = drop a (take b p.board.content) in
@@ -61,37 +61,32 @@ message-is p j content kept cleared ready h e ek hk ec hc =
     (omega (arith, ready.closed j h, ready.room.contents.few, ready.room.contents.long)) in
     rw (
       at_msg p j h,
-      e,
+      part-is a b p.board.content (ready.ordered j h),
       padded-is 0 pass_slots (b - a) l n,
       codes l,
       length-map l pass_slot,
       n,
       get_or-drop max_factors p.masks j 0,
-      ← ek,
-      ← ec,
-      set_members kept hk,
-      set_members cleared hc,
+      set_members (get_or p.masks (max_factors + j) 0) hk,
+      set_members (get_or p.cleared j 0) hc,
     )
 
 -- what a key gathers, from its laid leaves
-pub key-plan-is : (q : Gathered) (leaves : List ℕ) → Held q → q.forward < 2 ^ 32 → q.backward < 2 ^ 32 → q.last < 2 ^ 32
-    → leaves ≡ drop 0 (take q.count q.items) ++ drop (q.count - 0) (replicate max_factors 0)
+pub key-plan-is : (q : Gathered) → Held q → q.forward < 2 ^ 32 → q.backward < 2 ^ 32 → q.last < 2 ^ 32
     → ◌≡◌ {A = KeyPlan} (record {
       forward = q.forward;
       backward = q.backward;
-      leaves = leaves;
+      leaves = take q.count q.items ++ drop q.count (replicate max_factors 0);
       covered = q.covered;
       count = q.count;
-      last =
-          q.last;
+      last = q.last;
     }) (key_plan_of (gathered_of q))
 unfolding key_plan_of gathered_of
-key-plan-is q leaves held f b l e =
-    let z : q.count - 0 ≡ q.count = omega arith in
+key-plan-is q held f b l =
     let all = take q.count q.items in
     let n : length all ≡ q.count = length-take-le q.count q.items (omega (arith, held.items.few, held.items.long)) in
     let m : length all - length (drop q.covered all) ≡ q.covered = omega (arith, length-drop q.covered all, held.covered) in
-    rw (e, z, padded-is 0 max_factors q.count all n, m, n, set_members q.forward f, set_members q.backward b, set_members q.last l)
+    rw (padded-is 0 max_factors q.count all n, m, n, set_members q.forward f, set_members q.backward b, set_members q.last l)
 
 -- what the first n keys gather
 pub keys_length : (at : List Gathered) (n : ℕ) → n ≤ length at → length (map gathered_of (take n at)) ≡ n

@@ -1,12 +1,12 @@
 -- Arrays filled from the first place on: after i turns the first i places hold a list, the others what they held before. Assumes nothing.
 use mathlib.Core.Path.{◌≡◌, refl, sym, ◌∙◌}
 use mathlib.Core.List.{List, [], ◌∷◌, ◌++◌, map}
-use Prim.Native.Nat.{ℕ, zero, suc, ◌+◌, ◌-◌, ◌≤◌, ◌<◌}
+use Prim.Native.Nat.{ℕ, zero, suc, ◌+◌, ◌-◌, ◌<◌}
 use native.Mathlib.Numerals.{add-one}
 use native.Mathlib.Omega.{arith}
 use lib.ListN.{length, get_or, take, drop, set, replicate, length-map}
-use lib.Seq.{take-suc, take_all, drop-cons, set_at, append_snoc, length-take-le, slice_empty, length-slice}
-use Rattle.plan.proofs.Prefixes.{map-append, part_snoc}
+use lib.Seq.{take-suc, take_all, drop-cons, set_at, append_snoc, length-take-le}
+use Rattle.plan.proofs.Prefixes.{map-append}
 use Rattle.plan_answer.specs.Answer.{padded}
 
 module _ {A : Type 0} where
@@ -15,19 +15,6 @@ module _ {A : Type 0} where
       ≡ done ++ (x ∷ []) ++ drop (i + 1) before
   grown done before i x e h = rw (add-one i, drop-cons before i x h)
       (set_at done (get_or before i x) (drop (suc i) before) x i e ∙ sym (append_snoc done x (drop (suc i) before)))
-
-  -- no turn yet
-  pub part_none : (source before : List A) (from : ℕ) → before ≡ drop from (take from source) ++ drop (from - from) before
-  part_none source before from = let z : from - from ≡ 0 = omega arith in rw (slice_empty from source, z) refl
-
-  -- one turn more, from the place `from` of the source on
-  pub part-more : (source before array : List A) (from i : ℕ) (d : A) → from ≤ i → i < length source → i - from < length before
-      → array ≡ drop from (take i source) ++ drop (i - from) before → set array (i - from) (get_or source i d)
-      ≡ drop from (take (i + 1) source) ++ drop (i + 1 - from) before
-  part-more source before array from i d l h r e =
-      let n : i + 1 - from ≡ i - from + 1 = omega arith in
-      rw (e, n, add-one i, part_snoc source from i d l h)
-      (grown (drop from (take i source)) before (i - from) (get_or source i d) (length-slice from i source (omega arith)) r)
 
   drop-replicate : (i n : ℕ) (blank : A) → drop i (replicate n blank) ≡ replicate (n - i) blank
   drop-replicate zero n blank = let e : n - 0 ≡ n = omega arith in rw e refl

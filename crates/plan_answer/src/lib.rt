@@ -2,7 +2,7 @@
 // A set of keys, or of messages, is a mask whose bit j says whether j is in it. Unused places hold zeros.
 #![tactic(auto)]
 
-ghost use Rattle.std.specs.Prelude.{◌≡◌, ◌++◌, map, ℕ, ◌-◌, ◌≤◌, ◌<◌, length, get_or, take, drop};
+ghost use Rattle.std.specs.Prelude.{◌≡◌, map, ℕ, ◌≤◌, ◌<◌, get_or, take};
 ghost use Rattle.factor.specs.Limits.{max_variables};
 ghost use Rattle.schedule.specs.Pass.{at};
 ghost use Rattle.plan.specs.Pass.{PassReady, messages_of};
@@ -51,41 +51,22 @@ pub struct Plan {
     pub at: [KeyPlan; VARIABLES],
 }
 
-// The numbers from one place to another go to the first places of a list.
-fn lay(list: &mut [u8], source: &[u8], from: usize, to: usize)
-    requires { (from ≤ to) × (to ≤ length source.now) × (to - from ≤ length list.old) }
-    ensures { list.new ≡ drop from (take to source.now) ++ drop (to - from) list.old }
-{
-    for i in from..to {
-        let place = i - from;
-        list[place] = source[i];
-    }
-}
-
-// A set as it is. What a call answers is known to have no more bits than its type; of an array's element that isn't said.
-fn mask(m: u32) -> u32
-    ensures { result ≡ m }
-{
-    m
-}
-
 // The message j of a pass.
 fn message_of(p: Pass, j: usize) -> Message
     requires { PassReady max_variables p × (j < p.count) }
     ensures { result ≡ spec.message_of (at (messages_of p) j) }
 {
-    let board = p.board;
-    let contents = board.content;
-    let from = p.starts[j] as usize;
-    let to = p.ends[j] as usize;
+    let from = usize::from(p.starts[j]);
+    let to = usize::from(p.ends[j]);
+    let slots = to - from;
     let mut content = [0u8; PASS_SLOTS];
-    lay(&mut content, &contents, from, to);
+    content[..slots].copy_from_slice(&p.board.content[from..to]);
     Message {
-        step: p.steps[j] as usize,
+        step: usize::from(p.steps[j]),
         content: content,
-        slots: to - from,
-        kept: mask(p.masks[FACTORS + j]),
-        cleared: mask(p.cleared[j]),
+        slots: slots,
+        kept: p.masks[FACTORS + j],
+        cleared: p.cleared[j],
     }
 }
 
@@ -102,8 +83,7 @@ fn message_table(p: Pass) -> [Message; VARIABLES]
         cleared: 0,
     };
     let mut messages = [blank; VARIABLES];
-    let n = p.count;
-    for j in 0..n {
+    for j in 0..p.count {
         messages[j] = message_of(p, j);
     }
     messages
@@ -114,16 +94,14 @@ fn key_plan_of(q: Gathered) -> KeyPlan
     requires { Held q }
     ensures { result ≡ spec.key_plan_of (gathered_of q) }
 {
-    let items = q.items;
-    let count = q.count;
     let mut leaves = [0u8; FACTORS];
-    lay(&mut leaves, &items, 0, count);
+    leaves[..q.count].copy_from_slice(&q.items[..q.count]);
     KeyPlan {
         forward: q.forward,
         backward: q.backward,
         leaves: leaves,
         covered: q.covered,
-        count: count,
+        count: q.count,
         last: q.last,
     }
 }
@@ -143,8 +121,7 @@ fn key_table(at: [Gathered; VARIABLES], n: usize) -> [KeyPlan; VARIABLES]
     };
     let mut keys = [blank; VARIABLES];
     for k in 0..n {
-        let q = at[k];
-        keys[k] = key_plan_of(q);
+        keys[k] = key_plan_of(at[k]);
     }
     keys
 }
@@ -154,14 +131,11 @@ pub fn copy_out(p: plan::plan::Plan, n: usize) -> Plan
     requires { (n ≤ max_variables) × Bounded n p }
     ensures { result ≡ spec.answer_of (plan_in n p) }
 {
-    let fw = p.forward;
-    let bw = p.backward;
-    let at = p.at;
     Plan {
-        forward: message_table(fw),
-        forwards: fw.count,
-        backward: message_table(bw),
-        backwards: bw.count,
-        at: key_table(at, n),
+        forward: message_table(p.forward),
+        forwards: p.forward.count,
+        backward: message_table(p.backward),
+        backwards: p.backward.count,
+        at: key_table(p.at, n),
     }
 }

@@ -2,41 +2,22 @@
 // for the job. A job stands behind the count of its bytes.
 #![tactic(auto)]
 
-use lines::Written;
 use plan_text::TEXT_ROOM;
-use streams::{COUNTED, read_counted, write_all, write_decimal};
+use streams::{each_counted, print_numbered};
 
 // More jobs aren't read.
 const JOBS: usize = 256;
 
 fn main(rt: HostRuntime) {
-    for number in 0..JOBS {
-        if !print_next(&rt, number as u64) {
-            return;
-        }
-    }
-}
-
-// The next job; or there is none.
-fn print_next(rt: &HostRuntime, number: u64) -> bool {
-    let mut input = [0u8; COUNTED];
-    let n = read_counted(&mut rt.stdin(), &mut input);
-    if n == COUNTED {
-        return false;
-    }
-    write_decimal(&mut rt.stdout(), number);
-    write_all(&mut rt.stdout(), b"\n");
-    print_plan(rt, &input[0..n]);
-    true
+    each_counted(&mut rt.stdin(), JOBS, |number, bytes| {
+        print_plan(&rt, number, bytes);
+        Some(())
+    });
 }
 
 // The text is never longer than its room.
-fn print_plan(rt: &HostRuntime, bytes: &[u8]) {
+fn print_plan(rt: &HostRuntime, number: usize, bytes: &[u8]) {
     let mut text = [0u8; TEXT_ROOM];
-    match plan_text::show(bytes, &mut text) {
-        Written::Length(n) => {
-            write_all(&mut rt.stdout(), &text[0..n]);
-        }
-        Written::Short => check::expect(false),
-    }
+    let n = plan_text::show(bytes, &mut text).unwrap();
+    let _ = print_numbered(&mut rt.stdout(), number, &text[0..n]);
 }

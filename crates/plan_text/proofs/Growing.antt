@@ -1,5 +1,5 @@
 -- How the text of a list grows by a member. Assumes nothing.
-use Prim.Native.Nat.{ℕ, suc, ◌+◌, ◌≤◌, ◌<◌}
+use Prim.Native.Nat.{ℕ, suc, ◌+◌, ◌-◌, ◌≤◌, ◌<◌}
 use mathlib.Core.Path.{◌≡◌, refl, sym, ap, ◌∙◌}
 use mathlib.Core.Bool.{Bool}
 use mathlib.Core.List.{List, [], ◌∷◌, ◌++◌, map, append-nil, append_assoc}
@@ -8,6 +8,7 @@ use native.Mathlib.Nat.{zero-add}
 use native.Mathlib.Numerals.{add-one}
 use lib.ListN.{length, get_or, take, drop, length-map}
 use lib.Seq.{take-suc, length-take-le}
+use Rattle.std.proofs.lemmas.List.{take_more, drop-take}
 use Rattle.schedule.specs.Count.{joined, put_if, from, rising_where}
 use Rattle.schedule.proofs.Sums.{joined-append, length_from, from_snoc}
 use Rattle.plan.proofs.Prefixes.{part_snoc, drop-none, map-append}
@@ -29,6 +30,13 @@ unfolding joined
 joined-map f g [] = refl
 joined-map f g (x ∷ l) = ap (λ (t : List ℕ). f (g x) ++ t) (joined-map f g l)
 
+-- the first members of a list
+pub joined-more : (f : ℕ → List ℕ) (l : List ℕ) (i x : ℕ) → i < length l → x ≡ get_or l i 0 → joined f (take i l) ++ f x ≡ joined f (take (i + 1) l)
+joined-more f l i x h e =
+    sym (ap (joined f) (take_more l i 0 h)
+    ∙ joined-append f (take i l) (get_or l i 0 ∷ [])
+    ∙ ap (λ (t : List ℕ). joined f (take i l) ++ t) (joined-one f (get_or l i 0) ∙ ap f (sym e)))
+
 -- the members of a set below k, and k if it is one
 pub member-more : (f : ℕ → List ℕ) (p : ℕ → Bool) (k : ℕ) → joined f (rising_where k p) ++ joined f (put_if (p k) k []) ≡ joined f (rising_where (k + 1) p)
 member-more f p k = sym (ap (joined f) (rising-more p k) ∙ joined-append f (rising_where k p) (put_if (p k) k []))
@@ -44,6 +52,10 @@ module _ (f : ℕ → List ℕ) (l : List ℕ) where
       ∙ ap (joined f) (part_snoc l a i 0 h k)
       ∙ joined-append f (drop a (take i l)) (get_or l i 0 ∷ [])
       ∙ ap (λ (t : List ℕ). joined f (drop a (take i l)) ++ t) (joined-one f (get_or l i 0)))
+
+-- a part of an array, as a slice has it
+pub slice_part : (a b : ℕ) (l : List ℕ) → a ≤ b → take (b - a) (drop a l) ≡ drop a (take b l)
+slice_part a b l h = let e : b ≡ a + (b - a) = omega arith in sym (ap (λ (n : ℕ). drop a (take n l)) e ∙ drop-take a (b - a) l)
 
 -- ---- numbered lines
 

@@ -7,6 +7,7 @@ use native.Mathlib.Omega.{arith}
 use native.Mathlib.Numerals.{add-one}
 use borrow.Author.Tests.{ltb-true, ltb-false}
 use lib.Dec.{ltb}
+use Rattle.std.specs.Prelude.{Result, Ok, Err, IfOk}
 use lib.ListN.{length, get_or, take, drop, length-append, length-map}
 use Rattle.factor.specs.Limits.{max_variables, max_factors}
 use Rattle.graph.specs.Record.{valid}
@@ -34,17 +35,15 @@ use Rattle.solver.proofs.Answers.{made_of}
 use Rattle.solver.proofs.Carriable.{along-runnable}
 use Rattle.solver.proofs.Rising.{rising-plan}
 use Rattle.solver.specs.declared.Arranged.{Arranged}
-use Rattle.solver.specs.declared.Outcome.TheVariants.{Done}
 use Rattle.text.specs.Decimals.{space, field_text}
 use Rattle.lines.specs.Lines.{refusal_text, written, laid_in}
-use Rattle.lines.specs.declared.Written.{Written}
+use Rattle.lines.specs.declared.TooShort.{TooShort}
 use Rattle.lines.proofs.Longest.{refusal-most}
 use Rattle.text.proofs.Decimals.{few_digits, field_length}
-use Rattle.job.proofs.Endings.{Lays}
-use Rattle.plan_text.specs.Shown.{text_room}
+use Rattle.plan_text.specs.Lent.{Shows}
+use Rattle.plan_text.specs.Shown.{text_room, made_text}
 use Rattle.plan_text.specs.Text.{forward_word, backward_word, key_word, step_word, content_word, kept_word, cleared_word, originals_word, leaves_word}
 use Rattle.plan_text.specs.Text.{last_word, slot_text, named_text, list_text, content_text, message_text, key_text, numbered, plan_text}
-use Rattle.plan_text.proofs.Answers.{arrays_text}
 use Rattle.plan_text.proofs.Growing.{joined-nil, joined-one, joined-map, member-more, part_none, part-more, given-none, given-more, taken_none}
 use Rattle.plan_text.proofs.Growing.{taken_more}
 use Rattle.solver.specs.Stages.{read}
@@ -201,31 +200,49 @@ low-steps p ms most e few low j l =
     let s : (at ms j).step ≡ get_or p.steps j 0 = sym (ap (λ x. (at x j).step) e) ∙ ap (λ (m : ClosedFactor). m.step) (at_msg p j l) in
     omega (arith, low j (omega arith))
 
-pub arranged_most : (g : Graph) (order : List ℕ) (made : Arranged) → read made ≡ planned_along g order → Bounded made.keys made.plan
-    → made.outcome ≡ Done → length (arrays_text made) ≤ text_room
+-- what an arranging answers
+abbrev Holds : Result Arranged Refusal → Type 0
+Holds made = IfOk made (λ a. (a.keys ≤ max_variables) × Bounded a.keys a.plan)
+
+same_answer : (x y : Answer) → ◌≡◌ {A = Result Answer Refusal} (Ok x) (Ok y) → x ≡ y
+same_answer x y e = cc
+
+arranged_most : (g : Graph) (order : List ℕ) (made : Arranged) → read (Ok made) ≡ planned_along g order → Bounded made.keys made.plan
+    → length (plan_text (plan_in made.keys made.plan)) ≤ text_room
 unfolding read plan_in planned_along
-arranged_most g order made is b e =
+arranged_most g order made is b =
     let n = g.variables in
-    let of = made_of g order made is e in
+    let of = made_of g order made is in
     let few : n ≤ max_variables = valid-variables g of.0 in
-    let a : read made ≡ plans.made g (plan_along g order) = is ∙ rw (of.0, of.1) refl in
+    let a : _ ≡ _ = same_answer (record { keys = made.keys; plan = plan_in made.keys made.plan }) (record { keys = n; plan = plan_along g order })
+    (is ∙ rw (of.0, of.1) refl) in
     let k : made.keys ≡ n = ap (λ (x : Answer). x.keys) a in
     let can = along-runnable g order of.0 of.1 in
     plan-most made.keys made.plan (omega arith) b
     (low-steps made.plan.forward _ n (ap (λ (x : Answer). x.plan.forward) a) few can.forward_steps)
     (low-steps made.plan.backward _ n (ap (λ (x : Answer). x.plan.backward) a) few can.backward_steps)
 
-pub rising-most : (g : Graph) (made : Arranged) → read made ≡ planned g → valid g ≡ true → Bounded made.keys made.plan
-    → length (arrays_text made) ≤ text_room
-unfolding read planned
-rising-most g made is v b = arranged_most g (from 0 g.variables) made (is ∙ sym (rising-plan g)) b (ap (λ (x : Answer). x.outcome) is ∙ rw v)
-
--- ---- what a job shows
-
 pub refusal-within : (why : Refusal) (stage place : ℕ) → stage < 2 ^ 64 → place < 2 ^ 64 → length (refusal_text (refusal_number why) stage place) ≤ text_room
 refusal-within why stage place k l = omega (arith, refusal-most (refusal_number why) stage place (omega (arith, number-most why)) k l)
 
+-- made or refused
+along-most : (g : Graph) (order : List ℕ) (r : Result Arranged Refusal) → read r ≡ planned_along g order → Holds r → length (made_text (read r)) ≤ text_room
+unfolding read
+along-most g order (Ok made) is b = arranged_most g order made is b.1
+along-most g order (Err why) is b = refusal-within why 1 0 (omega arith) (omega arith)
+
+-- ---- what is laid
+
 -- an equal text is laid alike, and is as long
-pub all_same : (out s t : List ℕ) (r : Written) (after : List ℕ) → s ≡ t → Lays out s r after → length s ≤ text_room
-    → (r ≡ written out t) × ((after ≡ laid_in out t) × (length t ≤ text_room))
-all_same out s t r after e p l = rw (← e) (p.0, (p.1, l))
+pub shows_same : (s t out after : List ℕ) (r : Result ℕ TooShort) → s ≡ t → Shows s out after r → Shows t out after r
+shows_same s t out after r e p = rw e at p
+
+-- the text of a plan that was asked for, or of its refusal
+module _ (g : Graph) (made : Result Arranged Refusal) (held : Holds made) (out after : List ℕ) (r : Result ℕ TooShort) (value : r ≡ written out (made_text (read made)))
+    (left : after ≡ laid_in out (made_text (read made))) where
+  pub along-shows : (order : List ℕ) → read made ≡ planned_along g order → Shows (made_text (planned_along g order)) out after r
+  along-shows order is =
+      shows_same _ _ out after r (ap made_text is) (record { value = value; out_after = left; within = along-most g order made is held })
+
+  pub rising-shows : read made ≡ planned g → Shows (made_text (planned g)) out after r
+  rising-shows is = shows_same _ _ out after r (ap made_text (rising-plan g)) (along-shows (from 0 g.variables) (is ∙ sym (rising-plan g)))

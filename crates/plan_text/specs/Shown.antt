@@ -1,51 +1,47 @@
 -- What the calls answer and leave in the buffer. Definitions only.
-use Rattle.std.specs.Prelude.{List, ℕ}
+use Rattle.std.specs.Prelude.{List, Result, Ok, Err, ℕ}
 use Rattle.graph.specs.Refusals.{refusal_number}
 use Rattle.graph.specs.declared.Graph.{Graph}
+use Rattle.graph.specs.declared.refusal.Refusal.{Refusal}
 use Rattle.records.specs.Records.{read_all}
 use Rattle.solver.specs.Plan.{Answer, planned, planned_along, graph_plan}
-use Rattle.solver.specs.declared.Outcome.{Outcome}
-use Rattle.solver.specs.declared.Outcome.TheVariants as outcome
 use Rattle.lines.specs.Lines.{refusal_text, written, laid_in}
-use Rattle.lines.specs.declared.Written.{Written}
-use Rattle.lines.specs.declared.Written.TheVariants as laying
+use Rattle.lines.specs.declared.TooShort.{TooShort}
 use Rattle.job.specs.Job.{factor_room, zeros, reading_text}
 use Rattle.plan_text.specs.Text.{plan_text}
-use Rattle.plan_text.specs.declared.Shown.{Shown}
-use Rattle.plan_text.specs.declared.Shown.TheVariants.{Length, Short, Refused}
+use Rattle.plan_text.specs.declared.ShowError as show
+use Rattle.plan_text.specs.declared.ShowError.TheVariants as error
 
 -- ---- the plan of a graph
 
--- the plan's own refusal, or how the laying of its text ended
-abbrev pub shown_as : Outcome → Written → Shown
-shown_as outcome.Done (laying.Length n) = Length n
-shown_as outcome.Done laying.Short = Short
-shown_as (outcome.Refused why) w = Refused why
+-- how the laying of its text ended
+abbrev pub shown_as : Result ℕ TooShort → Result ℕ show.ShowError
+shown_as (Ok n) = Ok n
+shown_as (Err short) = Err error.TooShort
+
+-- or the plan's own refusal
+abbrev pub shown_of : Result Answer Refusal → List ℕ → Result ℕ show.ShowError
+shown_of (Ok a) out = shown_as (written out (plan_text a.plan))
+shown_of (Err why) out = Err (error.Refused why)
 
 -- a refused plan leaves the buffer as it was
-abbrev pub left_as : Outcome → (out after : List ℕ) → List ℕ
-left_as outcome.Done out after = after
-left_as (outcome.Refused why) out after = out
+abbrev pub left_of : Result Answer Refusal → List ℕ → List ℕ
+left_of (Ok a) out = laid_in out (plan_text a.plan)
+left_of (Err why) out = out
 
-abbrev pub shown_of : Answer → List ℕ → Shown
-shown_of a out = shown_as a.outcome (written out (plan_text a.plan))
-
-abbrev pub left_of : Answer → List ℕ → List ℕ
-left_of a out = left_as a.outcome out (laid_in out (plan_text a.plan))
-
-unfoldable pub shown : Graph → List ℕ → Shown
+unfoldable pub shown : Graph → List ℕ → Result ℕ show.ShowError
 shown g out = shown_of (planned g) out
 
 unfoldable pub shown_in : Graph → List ℕ → List ℕ
 shown_in g out = left_of (planned g) out
 
 -- along a lent order: the plan's text, or the line of its refusal, which has stage 1 and key 0 as in the run
-abbrev pub outcome_text : Outcome → (text : List ℕ) → List ℕ
-outcome_text outcome.Done text = text
-outcome_text (outcome.Refused why) text = refusal_text (refusal_number why) 1 0
+abbrev pub made_text : Result Answer Refusal → List ℕ
+made_text (Ok a) = plan_text a.plan
+made_text (Err why) = refusal_text (refusal_number why) 1 0
 
 unfoldable pub along_text : Graph → (order : List ℕ) → List ℕ
-along_text g order = outcome_text (planned_along g order).outcome (plan_text (planned_along g order).plan)
+along_text g order = made_text (planned_along g order)
 
 -- ---- the plan of a job
 

@@ -6,41 +6,41 @@
 // The text goes twice through the same functions, first to find its length, then to lay it where it fits: see `text`.
 #![tactic(auto)]
 
-ghost use Rattle.std.specs.Prelude.{◌≡◌, [], map, ◌≤◌, ◌<◌, length, take, drop};
-ghost use Rattle.factor.specs.Limits.{max_variables, max_factors};
+ghost use Rattle.std.specs.Prelude.{◌≡◌, [], map, ◌≤◌, ◌<◌, IfOk, length, take};
+ghost use Rattle.factor.specs.Limits.{max_variables};
 ghost use Rattle.text.specs.Decimals.{field_text};
 ghost use Rattle.text.specs.Putting.{Puts};
 ghost use Rattle.lines.specs.Lines.{written, laid_in};
 ghost use Rattle.schedule.specs.Count.{joined, put_if};
-ghost use Rattle.plan.specs.Limits.{pass_slots};
 ghost use Rattle.plan.specs.Mask.{has, keys_in};
 ghost use Rattle.plan.specs.Pass.{PassReady, pass_slot, msg_at, messages_of};
 ghost use Rattle.plan.specs.Gather.{Held, gathered_of};
 ghost use Rattle.plan.specs.Plan.{Bounded, plan_in};
+ghost use Rattle.solver.specs.Plan.{planned};
+ghost use Rattle.solver.specs.Stages.{read};
+ghost use Rattle.plan_text.specs.Lent as lent;
 ghost use Rattle.plan_text.specs.Text as spec;
-ghost use Rattle.plan_text.specs.Shown.{shown, shown_in, along_text, show_text, show_along_text, text_room};
+ghost use Rattle.plan_text.specs.Shown.{shown, shown_in, made_text, along_text, show_text, show_along_text, text_room};
 
 use factor::limits::{FACTORS, VARIABLES};
 use graph::Graph;
 use graph::refusal::Refusal;
 use job::{FACTOR_ROOM, READING};
-use lines::{Written, lay_refusal};
-use plan::PASS_SLOTS;
+use lines::{TooShort, lay_refusal};
 use plan::gather::Gathered;
 use plan::masks::single;
 use plan::pass::Pass;
 use plan::plan::Plan;
-use solver::Outcome;
+use solver::Arranged;
 use text::{put, put_decimal, put_field, put_word};
 
 // Room for the text of any job's plan.
 pub const TEXT_ROOM: usize = 65536;
 
-// What came of showing a graph's plan: the length of its text, a buffer that is too short for it, or a graph that has no plan.
-#[derive(Drop)]
-pub enum Shown {
-    Length(usize),
-    Short,
+// Why a graph's plan is not shown: a buffer that is too short for its text, or a graph that has no plan.
+#[derive(Clone, Copy)]
+pub enum ShowError {
+    TooShort,
     Refused(Refusal),
 }
 
@@ -85,41 +85,19 @@ fn put_set(out: &mut [u8], at: usize, name: &[u8], set: u32) -> usize
     to
 }
 
-// The slots of a content, from one place to another.
-fn put_content(
+// The numbers of a list, each put in the way that is lent.
+fn put_each<F: Fn(&mut [u8], usize, usize) -> usize>(
     out: &mut [u8],
     at: usize,
-    content: [u8; PASS_SLOTS],
-    from: usize,
-    end: usize,
+    numbers: &[u8],
+    put_one: F,
 ) -> usize
-    requires { (from ≤ end) × (end ≤ pass_slots) }
-    ensures { Puts out.old out.new at result (spec.content_text (map pass_slot (drop from (take end content)))) }
+    requires { F.IsAlwaysCallable put_one }
+    ensures { (text : lent.NumberText) → lent.PutsAs (F.post put_one) text → Puts out.old out.new at result (joined text numbers.now) }
 {
-    let mut to = put_word(out, at, b" content");
-    for i in from..end {
-        let s = content[i] as usize;
-        to = put_slot(out, to, s);
-    }
-    to
-}
-
-// A word and the originals that are listed from one place to another.
-fn put_items(
-    out: &mut [u8],
-    at: usize,
-    name: &[u8],
-    items: [u8; FACTORS],
-    from: usize,
-    end: usize,
-) -> usize
-    requires { (from ≤ end) × (end ≤ max_factors) }
-    ensures { Puts out.old out.new at result (spec.list_text name.now (drop from (take end items))) }
-{
-    let mut to = put_word(out, at, name);
-    for i in from..end {
-        let x = items[i] as usize;
-        to = put_field(out, to, x);
+    let mut to = at;
+    for &x in numbers {
+        to = put_one(out, to, usize::from(x));
     }
     to
 }
@@ -132,14 +110,15 @@ fn put_message(out: &mut [u8], at: usize, name: &[u8], messages: Pass, j: usize)
 {
     let b = messages.board;
     let content = b.content;
-    let step = messages.steps[j] as usize;
-    let from = messages.starts[j] as usize;
-    let end = messages.ends[j] as usize;
+    let step = usize::from(messages.steps[j]);
+    let from = usize::from(messages.starts[j]);
+    let end = usize::from(messages.ends[j]);
     let kept = messages.masks[FACTORS + j];
     let cleared = messages.cleared[j];
     let mut to = put_named(out, at, name, j);
     to = put_named(out, to, b" step", step);
-    to = put_content(out, to, content, from, end);
+    to = put_word(out, to, b" content");
+    to = put_each(out, to, &content[from..end], put_slot);
     to = put_set(out, to, b" kept", kept);
     to = put_set(out, to, b" cleared", cleared);
     put(out, to, b'\n')
@@ -168,8 +147,10 @@ fn put_key(out: &mut [u8], at: usize, k: usize, q: Gathered) -> usize
     let mut to = put_named(out, at, b"key", k);
     to = put_set(out, to, b" forward", q.forward);
     to = put_set(out, to, b" backward", q.backward);
-    to = put_items(out, to, b" originals", items, covered, count);
-    to = put_items(out, to, b" leaves", items, 0, count);
+    to = put_word(out, to, b" originals");
+    to = put_each(out, to, &items[covered..count], put_field);
+    to = put_word(out, to, b" leaves");
+    to = put_each(out, to, &items[0..count], put_field);
     to = put_set(out, to, b" last", q.last);
     put(out, to, b'\n')
 }
@@ -200,7 +181,7 @@ fn put_plan(out: &mut [u8], plan: Plan, n: usize) -> usize
 }
 
 // The text of a plan at the buffer's start, where it fits. The first run is into one byte that nobody reads: it finds the length.
-fn lay_arrays(plan: Plan, n: usize, out: &mut [u8]) -> Written
+fn lay_arrays(plan: Plan, n: usize, out: &mut [u8]) -> Result<usize, TooShort>
     requires { (n ≤ max_variables) × Bounded n plan }
     ensures value { result ≡ written out.old (spec.plan_text (plan_in n plan)) }
     ensures out_after { out.new ≡ laid_in out.old (spec.plan_text (plan_in n plan)) }
@@ -208,79 +189,88 @@ fn lay_arrays(plan: Plan, n: usize, out: &mut [u8]) -> Written
     let mut nowhere = [0u8; 1];
     let length = put_plan(&mut nowhere, plan, n);
     if out.len() < length {
-        return Written::Short;
+        return Err(TooShort);
     }
     put_plan(out, plan, n);
-    Written::Length(length)
+    Ok(length)
 }
 
 // The text of a graph's plan, at the start of a lent buffer, and its length. A buffer that is too short for it is left as it was, and so
 // is that of a refused graph.
-pub fn lay_plan(g: Graph, out: &mut [u8]) -> Shown
+pub fn lay_plan(g: Graph, out: &mut [u8]) -> Result<usize, ShowError>
     ensures value { result ≡ shown g out.old }
     ensures out_after { out.new ≡ shown_in g out.old }
 {
-    let made = solver::arrange(g);
-    let p = made.plan;
-    let outcome = made.outcome;
-    match outcome {
-        Outcome::Done => match lay_arrays(p, made.keys, out) {
-            Written::Length(n) => Shown::Length(n),
-            Written::Short => Shown::Short,
+    match solver::arrange(g) {
+        Ok(made) => match lay_arrays(made.plan, made.keys, out) {
+            Ok(n) => Ok(n),
+            Err(TooShort) => Err(ShowError::TooShort),
         },
-        Outcome::Refused(why) => Shown::Refused(why),
+        Err(why) => Err(ShowError::Refused(why)),
     }
 }
 
-// The text of a job's plan, or the line of the refusal where reading the job is refused, at the start of a lent buffer, and its length. A
-// buffer that is too short for it is left as it was. None of TEXT_ROOM bytes is.
-pub fn show(bytes: &[u8], out: &mut [u8]) -> Written
-    ensures value { result ≡ written out.old (show_text bytes.now) }
-    ensures out_after { out.new ≡ laid_in out.old (show_text bytes.now) }
-    ensures bytes_len_bound { length (show_text bytes.now) ≤ text_room }
+// The text of a plan, or the line of its refusal, which has stage 1 and key 0 as in the run.
+fn lay_made(made: Result<Arranged, Refusal>, out: &mut [u8]) -> Result<usize, TooShort>
+    requires { IfOk made (λ a. (a.keys ≤ max_variables) × Bounded a.keys a.plan) }
+    ensures value { result ≡ written out.old (made_text (read made)) }
+    ensures out_after { out.new ≡ laid_in out.old (made_text (read made)) }
 {
-    let mut factors = [0.0; FACTOR_ROOM];
-    let read = records::read(bytes, &mut factors);
-    let g = read.graph;
-    let ended = read.ended;
-    match ended {
-        records::answer::Ended::Done => {
-            let made = solver::arrange(g);
-            let p = made.plan;
-            lay_arrays(p, made.keys, out)
-        }
-        records::answer::Ended::Refused(why, place) => lay_refusal(why, READING, place, out),
+    match made {
+        Ok(arranged) => lay_arrays(arranged.plan, arranged.keys, out),
+        Err(why) => lay_refusal(why, 1, 0, out),
     }
 }
 
 // The text of a graph's plan along a lent order of its keys, or the line of the refusal, at the start of a lent buffer, and its length. A
 // buffer that is too short for it is left as it was.
-pub fn lay_along(g: Graph, order: &[u8], out: &mut [u8]) -> Written
+pub fn lay_along(g: Graph, order: &[u8], out: &mut [u8]) -> Result<usize, TooShort>
     ensures value { result ≡ written out.old (along_text g order.now) }
     ensures out_after { out.new ≡ laid_in out.old (along_text g order.now) }
     ensures order_len_bound { length (along_text g order.now) ≤ text_room }
 {
-    let made = solver::arrange_along(g, order);
-    let p = made.plan;
-    let outcome = made.outcome;
-    match outcome {
-        Outcome::Done => lay_arrays(p, made.keys, out),
-        Outcome::Refused(why) => lay_refusal(why, 1, 0, out),
+    lay_made(solver::arrange_along(g, order), out)
+}
+
+// The same with keys rising.
+fn lay_rising(g: Graph, out: &mut [u8]) -> Result<usize, TooShort>
+    ensures { lent.Shows (made_text (planned g)) out.old out.new result }
+{
+    lay_made(solver::arrange(g), out)
+}
+
+// The text of a job whose graph's text is laid in the way that is lent.
+fn show_by<F: FnOnce(Graph, &mut [u8]) -> Result<usize, TooShort>>(
+    bytes: &[u8],
+    out: &mut [u8],
+    lay: F,
+) -> Result<usize, TooShort>
+    requires { F.IsAlwaysCallable lay }
+    ensures { (text : lent.GraphText) → lent.ShowsAs (F.post lay) text → lent.Shows (lent.job_text text bytes.now) out.old out.new result }
+{
+    let mut factors = [0.0; FACTOR_ROOM];
+    let read = records::read(bytes, &mut factors);
+    match read.ended {
+        Ok(()) => lay(read.graph, out),
+        Err(rejected) => lay_refusal(rejected.why, READING, rejected.place, out),
     }
 }
 
+// The text of a job's plan, or the line of the refusal where reading the job is refused, at the start of a lent buffer, and its length. A
+// buffer that is too short for it is left as it was. None of TEXT_ROOM bytes is.
+pub fn show(bytes: &[u8], out: &mut [u8]) -> Result<usize, TooShort>
+    ensures value { result ≡ written out.old (show_text bytes.now) }
+    ensures out_after { out.new ≡ laid_in out.old (show_text bytes.now) }
+    ensures bytes_len_bound { length (show_text bytes.now) ≤ text_room }
+{
+    show_by(bytes, out, lay_rising)
+}
+
 // `show` along a lent order of the job's keys.
-pub fn show_along(bytes: &[u8], order: &[u8], out: &mut [u8]) -> Written
+pub fn show_along(bytes: &[u8], order: &[u8], out: &mut [u8]) -> Result<usize, TooShort>
     ensures value { result ≡ written out.old (show_along_text bytes.now order.now) }
     ensures out_after { out.new ≡ laid_in out.old (show_along_text bytes.now order.now) }
     ensures order_len_bound { length (show_along_text bytes.now order.now) ≤ text_room }
 {
-    let mut factors = [0.0; FACTOR_ROOM];
-    let read = records::read(bytes, &mut factors);
-    let g = read.graph;
-    let ended = read.ended;
-    match ended {
-        records::answer::Ended::Done => lay_along(g, order, out),
-        records::answer::Ended::Refused(why, place) => lay_refusal(why, READING, place, out),
-    }
+    show_by(bytes, out, |g, out| lay_along(g, order, out))
 }

@@ -9,6 +9,7 @@ use borrow.Author.Tests.{ltb-true, not-false}
 use lib.Dec.{ltb}
 use lib.Ieee.{Float}
 use lib.ListN.{length}
+use Rattle.std.specs.Prelude.{Option, Some, None}
 use Rattle.factor.specs.Limits.{max_size, max_total, max_keys, max_rows}
 use Rattle.factor.specs.Factor.{rising, known, observation_of, a_numbers}
 use Rattle.graph.specs.Record.{size_at, live_at, valid}
@@ -17,10 +18,10 @@ use Rattle.graph.proofs.Validity.{valid-size, size-most}
 use Rattle.graph.specs.declared.Graph.{Graph}
 use Rattle.records.specs.Bytes.{float_bytes, byte_at, cut, word_at, number_at, listed, keys_read, numbers_at}
 use Rattle.records.specs.Records.{Request, mark_bytes, header_bytes, number_bytes, most_given, longest, variable_at, prior_numbers, prior_at, meaning}
-use Rattle.records.specs.Records.{flag_known, given_numbers, variance_read, observed_numbers, observed, observation_at, mark_at, marked_within, within_at}
+use Rattle.records.specs.Records.{given_numbers, variance_read, observed_numbers, observed, flagged, observation_at, mark_at, marked_within, within_at}
 use Rattle.records.specs.Records.{ask_in_place, superseding_at, marked, record_at}
 use Rattle.records.specs.declared.kinds.Flag.{Flag}
-use Rattle.records.specs.declared.kinds.Flag.TheVariants.{Diagonal, Given, Unknown}
+use Rattle.records.specs.declared.kinds.Flag.TheVariants.{Diagonal, Given}
 use Rattle.records.specs.declared.kinds.Mark.{Mark}
 use Rattle.records.specs.declared.kinds.Mark.TheVariants as mark
 use Rattle.graph.proofs.Checking.{by, few-keys, most-rows}
@@ -41,7 +42,6 @@ else_as false s p q r e h = rw (sym e) (h refl)
 pub given-most : (flag : Flag) (rows : ℕ) → given_numbers flag rows ≤ rows * rows
 given-most (Diagonal x) rows = omega arith
 given-most Given rows = omega arith
-given-most Unknown rows = omega arith
 
 pub record Agree (b c : List ℕ) (most : ℕ) : Type 0 where
   pub bytes : (i : ℕ) → i < most → byte_at b i ≡ byte_at c i
@@ -84,7 +84,6 @@ module _ (b c : List ℕ) (most : ℕ) (same : Agree b c most) where
   variance_as : (flag : Flag) (at rows : ℕ) → at + 8 * given_numbers flag rows ≤ most → variance_read flag b at rows ≡ variance_read flag c at rows
   variance_as (Diagonal x) at rows l = refl
   variance_as Given at rows l = numbers_as at (rows * rows) l
-  variance_as Unknown at rows l = refl
 
   observed-numbers_as : (store : List Float) (keys : List ℕ) (rows : ℕ) (flag : Flag) (n at : ℕ) → at + 8 * (n + rows + given_numbers flag rows) ≤ most
       → observed_numbers store b keys rows flag n at ≡ observed_numbers store c keys rows flag n at
@@ -110,34 +109,37 @@ module _ (b c : List ℕ) (most : ℕ) (same : Agree b c most) where
       let y : rows ≤ max_rows = most-rows _ _ h4 in
       observed-numbers_as store keys rows flag (a_numbers g.sizes (observation_of keys rows)) at (omega (arith, mul-le-mul y y, given-most flag rows))))
 
-  observation_as : (g : Graph) (store : List Float) (at : ℕ) → valid g ≡ true → at + header_bytes + max_keys + float_bytes * most_given ≤ most
-      → observation_at g store b at ≡ observation_at g store c at
-  unfolding observation_at
-  observation_as g store at v l =
-      rw (same.bytes at (omega arith), same.bytes (at + 1) (omega arith), same.bytes (at + 2) (omega arith))
-      (else_as (cut b at 3) (cut c at 3) _ _ _ (same.ends (at + 3) (omega arith))
-      (λ _. else_as (not (flag_known (meaning (byte_at c (at + 2))))) (not (flag_known (meaning (byte_at c (at + 2))))) _ _ _ refl
-      (λ _. else_as (not (counts_fit (byte_at c at) (byte_at c (at + 1)))) (not (counts_fit (byte_at c at) (byte_at c (at + 1)))) _ _ _ refl
+  flagged_as : (g : Graph) (store : List Float) (at : ℕ) (flag : Option Flag) → valid g ≡ true
+      → at + header_bytes + max_keys + float_bytes * most_given ≤ most → flagged flag g store b at ≡ flagged flag g store c at
+  flagged_as g store at None v l = refl
+  flagged_as g store at (Some flag) v l =
+      rw (same.bytes at (omega arith), same.bytes (at + 1) (omega arith))
+      (else_as (not (counts_fit (byte_at c at) (byte_at c (at + 1)))) (not (counts_fit (byte_at c at) (byte_at c (at + 1)))) _ _ _ refl
       (λ h4.
       let k : byte_at c at ≤ max_keys = few-keys _ _ (not-false _ h4) in
       let y : counts_fit (length (keys_read c (at + 3) (byte_at c at))) (byte_at c (at + 1))
       ≡ true = rw (listed-length (λ i. byte_at c (at + 3 + i)) (byte_at c at)) (not-false _ h4) in
       else_as (cut b (at + 3) (byte_at c at)) (cut c (at + 3) (byte_at c at)) _ _ _ (same.ends (at + 3 + byte_at c at) (omega arith))
-      (λ _. rw (keys_as (at + 3) (byte_at c at) (omega arith)) (observed_as g store (keys_read c (at + 3) (byte_at c at)) (byte_at c (at + 1))
-      (meaning (byte_at c (at + 2))) (at + 3 + byte_at c at) v y (omega arith)))))))
+      (λ _. rw (keys_as (at + 3) (byte_at c at) (omega arith)) (observed_as g store (keys_read c (at + 3) (byte_at c at)) (byte_at c (at + 1)) flag
+      (at + 3 + byte_at c at) v y (omega arith)))))
+
+  observation_as : (g : Graph) (store : List Float) (at : ℕ) → valid g ≡ true → at + header_bytes + max_keys + float_bytes * most_given ≤ most
+      → observation_at g store b at ≡ observation_at g store c at
+  unfolding observation_at
+  observation_as g store at v l =
+      rw (same.bytes (at + 2) (omega arith))
+      (else_as (cut b at 3) (cut c at 3) _ _ _ (same.ends (at + 3) (omega arith)) (λ _. flagged_as g store at (meaning (byte_at c (at + 2))) v l))
 
   mark_as : (at : ℕ) → at + mark_bytes ≤ most → mark_at b at ≡ mark_at c at
   unfolding mark_at
   mark_as at l = rw (same.ends (at + 2) l, same.bytes at (omega arith), same.bytes (at + 1) (omega arith))
 
   module _ (g : Graph) (store : List Float) (v : valid g ≡ true) where
-    within-marked_as : (at : ℕ) → at + header_bytes + max_keys + float_bytes * most_given ≤ most → (m : Mark)
+    within-marked_as : (at : ℕ) → at + header_bytes + max_keys + float_bytes * most_given ≤ most → (m : Option Mark)
         → marked_within m g store b at ≡ marked_within m g store c at
-    within-marked_as at l mark.Variable = refl
-    within-marked_as at l mark.Prior = prior_as g store at v (omega arith)
-    within-marked_as at l mark.Observation = observation_as g store at v l
-    within-marked_as at l mark.Superseding = refl
-    within-marked_as at l mark.Unmarked = refl
+    within-marked_as at l (Some mark.Prior) = prior_as g store at v (omega arith)
+    within-marked_as at l (Some mark.Observation) = observation_as g store at v l
+    within-marked_as at l _ = refl
 
     within_as : (at : ℕ) → at + mark_bytes + header_bytes + max_keys + float_bytes * most_given ≤ most → within_at g store b at ≡ within_at g store c at
     unfolding within_at
@@ -156,13 +158,11 @@ module _ (b c : List ℕ) (most : ℕ) (same : Agree b c most) where
         ∙ sym (superseding-live g store c at h live))
         (λ none. superseding-none g store b at (ends ∙ h) (ap (live_at g) e ∙ none) ∙ sym (superseding-none g store c at h none)))
 
-    marked_as : (at : ℕ) → at + number_bytes + mark_bytes + header_bytes + max_keys + float_bytes * most_given ≤ most → (m : Mark)
+    marked_as : (at : ℕ) → at + number_bytes + mark_bytes + header_bytes + max_keys + float_bytes * most_given ≤ most → (m : Option Mark)
         → marked m g store b at ≡ marked m g store c at
-    marked_as at l mark.Variable = variable_as at (omega arith)
-    marked_as at l mark.Prior = prior_as g store at v (omega arith)
-    marked_as at l mark.Observation = observation_as g store at v (omega arith)
-    marked_as at l mark.Superseding = superseding_as at l
-    marked_as at l mark.Unmarked = refl
+    marked_as at l (Some mark.Variable) = variable_as at (omega arith)
+    marked_as at l (Some mark.Superseding) = superseding_as at l
+    marked_as at l m = within-marked_as at (omega arith) m
 
     pub record_as : (at : ℕ) → at + longest ≤ most → record_at g store b at ≡ record_at g store c at
     unfolding record_at

@@ -8,6 +8,7 @@ use borrow.Author.Tests.{ltb-false, not-false}
 use lib.Dec.{ltb}
 use lib.Ieee.{Float}
 use lib.ListN.{length}
+use Rattle.std.specs.Prelude.{Option, Some, None}
 use Rattle.factor.specs.Factor.{rising, known, prior_of, observation_of, a_numbers, numbers}
 use Rattle.factor.specs.declared.Factor.{Factor}
 use Rattle.graph.specs.Record.{size_at, live_at}
@@ -18,7 +19,7 @@ use Rattle.graph.specs.declared.refusal.Refusal.{Refusal}
 use Rattle.graph.proofs.Checking.{by, few-keys}
 use Rattle.records.specs.Bytes.{float_bytes, byte_at, cut, keys_read}
 use Rattle.records.specs.Records.{Request, ask, refuse, mark_bytes, variable_bytes, header_bytes, number_bytes, variable_record, factor_frame}
-use Rattle.records.specs.Records.{variable_at, prior_numbers, prior_at, meaning, flag_known, given_numbers, observed_numbers, observed, observation_at}
+use Rattle.records.specs.Records.{variable_at, prior_numbers, prior_at, meaning, given_numbers, observed_numbers, observed, flagged, observation_at}
 use Rattle.records.specs.Records.{mark_at, marked_within, within_at, ask_in_place, marked, record_at}
 use Rattle.records.specs.declared.kinds.Flag.{Flag}
 use Rattle.records.specs.declared.kinds.Mark.{Mark}
@@ -107,23 +108,23 @@ module _ (g : Graph) (store : List Float) (bytes : List ℕ) (start : ℕ) where
           own = refl;
         }))))
 
+    flagged_plain : (flag : Option Flag) → Plain (flagged flag g store bytes at)
+    flagged_plain None = back _
+    flagged_plain (Some flag) =
+        let count = byte_at bytes at in
+        unless Plain back (not (counts_fit count (byte_at bytes (at + 1)))) _ _
+        (λ h4. unless Plain back (cut bytes (at + header_bytes) count) _ _
+        (λ _. observed_plain (keys_read bytes (at + header_bytes) count) (byte_at bytes (at + 1)) flag
+        (at + header_bytes + count) (omega arith) (omega (arith, few-keys _ _ (not-false _ h4)))))
+
     observation_plain : Plain (observation_at g store bytes at)
     unfolding observation_at
-    observation_plain =
-        let count = byte_at bytes at in
-        unless Plain back (cut bytes at header_bytes) _ _
-        (λ _. unless Plain back (not (flag_known (meaning (byte_at bytes (at + 2))))) _ _
-        (λ _. unless Plain back (not (counts_fit count (byte_at bytes (at + 1)))) _ _
-        (λ h4. unless Plain back (cut bytes (at + header_bytes) count) _ _
-        (λ _. observed_plain (keys_read bytes (at + header_bytes) count) (byte_at bytes (at + 1)) (meaning (byte_at bytes (at + 2)))
-        (at + header_bytes + count) (omega arith) (omega (arith, few-keys _ _ (not-false _ h4)))))))
+    observation_plain = unless Plain back (cut bytes at header_bytes) _ _ (λ _. flagged_plain (meaning (byte_at bytes (at + 2))))
 
-    within-marked : (m : Mark) → Plain (marked_within m g store bytes at)
-    within-marked mark.Variable = back _
-    within-marked mark.Prior = prior_plain
-    within-marked mark.Observation = observation_plain
-    within-marked mark.Superseding = back _
-    within-marked mark.Unmarked = back _
+    within-marked : (m : Option Mark) → Plain (marked_within m g store bytes at)
+    within-marked (Some mark.Prior) = prior_plain
+    within-marked (Some mark.Observation) = observation_plain
+    within-marked _ = back _
 
   pub within_plain : (at : ℕ) → start < at → at ≤ start + mark_bytes + number_bytes → Plain (within_at g store bytes at)
   unfolding within_at
@@ -131,20 +132,18 @@ module _ (g : Graph) (store : List Float) (bytes : List ℕ) (start : ℕ) where
 
   -- ---- any record
 
-  marked_asks : (m : Mark) → Asks (marked m g store bytes (start + mark_bytes))
+  marked_asks : (m : Option Mark) → Asks (marked m g store bytes (start + mark_bytes))
   unfolding variable_at
-  marked_asks mark.Variable = unless Asks nothing (cut bytes (start + mark_bytes) variable_bytes) _ _
+  marked_asks (Some mark.Variable) = unless Asks nothing (cut bytes (start + mark_bytes) variable_bytes) _ _
       (λ h. asked _ _ (record { later = omega arith; there = ltb-false _ _ h; near = omega arith; own = refl }))
-  marked_asks mark.Prior = itself (prior_plain (start + mark_bytes) (omega arith) (omega arith))
-  marked_asks mark.Observation = itself (observation_plain (start + mark_bytes) (omega arith) (omega arith))
-  marked_asks mark.Superseding =
+  marked_asks (Some mark.Superseding) =
       let at = start + mark_bytes in
       by (cut bytes at number_bytes)
       (λ h. rw (superseding-cut g store bytes at h) (nothing _))
       (λ h. by (live_at g (byte_at bytes at))
       (λ live. rw (superseding-live g store bytes at h live) (in_place (byte_at bytes at) (within_plain (at + number_bytes) (omega arith) (omega arith))))
       (λ none. rw (superseding-none g store bytes at h none) (nothing _)))
-  marked_asks mark.Unmarked = nothing _
+  marked_asks m = itself (within-marked (start + mark_bytes) (omega arith) (omega arith) m)
 
   pub asks : Asks (record_at g store bytes start)
   unfolding record_at

@@ -5,14 +5,15 @@ use mathlib.Core.Bool.{false}
 use mathlib.Core.List.{List, [], ◌∷◌, ◌++◌}
 use lib.Ieee.{Float, nan, binary64, of_bits}
 use lib.ListN.{replicate}
+use Rattle.std.specs.Prelude.{Result, Ok, Err}
 use Rattle.matrix.specs.Sums.{plus_zero}
 use Rattle.factor.specs.Factor.{no_factor, prior_of, with_live}
 use Rattle.graph.specs.Record.{no_name, fresh}
 use Rattle.graph.specs.declared.Graph.{Graph}
+use Rattle.graph.specs.declared.refusal.Refusal.{Refusal}
 use Rattle.graph.specs.declared.refusal.Refusal.TheVariants.{KeysNotRising, CountOutside, BadRecord, NoSuchKey, FactorStoreShort, NotLive}
 use Rattle.records.specs.Records.{Reading, reading, read_from, read_all}
-use Rattle.records.specs.declared.answer.Ended.{Ended}
-use Rattle.records.specs.declared.answer.Ended.TheVariants.{Done, Refused}
+use Rattle.records.specs.declared.answer.Rejected.{Rejected}
 use Rattle.records.proofs.Computing.{computed_reading}
 
 -- 2.0 and 4.0 in a job, and the numbers 0.25, 0.5, 1, 2, 4, 8 and 16
@@ -62,8 +63,11 @@ two-rows flag = 0x4F ∷ 0x42 ∷ 1 ∷ 2 ∷ flag ∷ 0 ∷ four_bytes ++ four_
 abbrev job : List ℕ → Reading
 job bytes = read_all bytes (nan ∷ nan ∷ nan ∷ [])
 
-abbrev ended : List ℕ → Ended
+abbrev ended : List ℕ → Result (Unit {0}) Rejected
 ended bytes = (job bytes).answer.ended
+
+abbrev refused : Refusal → ℕ → Result (Unit {0}) Rejected
+refused why place = Err (record { why = why; place = place })
 
 -- a variable and a live prior on it
 abbrev held : Graph
@@ -77,27 +81,27 @@ held =
     }
 
 -- nothing at all is a whole job
-no_records : job [] ≡ reading fresh Done (nan ∷ nan ∷ nan ∷ [])
+no_records : job [] ≡ reading fresh (Ok tt) (nan ∷ nan ∷ nan ∷ [])
 unfolding computed_reading
 no_records = refl
 
 -- one variable and one prior, whose xi and W are stored
-one-prior : job (variable_bytes 0 ++ prior_bytes) ≡ reading held Done (half ∷ quarter ∷ nan ∷ [])
+one-prior : job (variable_bytes 0 ++ prior_bytes) ≡ reading held (Ok tt) (half ∷ quarter ∷ nan ∷ [])
 unfolding computed_reading
 one-prior = refl
 
 -- keys 1, 1: refusal 3, at the third record
-equal_keys : ended (variable_bytes 0 ++ variable_bytes 1 ++ 0x4F ∷ 0x42 ∷ 2 ∷ 1 ∷ 1 ∷ 1 ∷ 1 ∷ []) ≡ Refused KeysNotRising 2
+equal_keys : ended (variable_bytes 0 ++ variable_bytes 1 ++ 0x4F ∷ 0x42 ∷ 2 ∷ 1 ∷ 1 ∷ 1 ∷ 1 ∷ []) ≡ refused KeysNotRising 2
 unfolding computed_reading
 equal_keys = refl
 
 -- a mark cut at the end is a record of its own
-cut-mark : ended (variable_bytes 0 ++ 0x50 ∷ []) ≡ Refused BadRecord 1
+cut-mark : ended (variable_bytes 0 ++ 0x50 ∷ []) ≡ refused BadRecord 1
 unfolding computed_reading
 cut-mark = refl
 
 -- a prior on a key that isn't there, with its numbers cut: 11
-no_key : ended (0x50 ∷ 0x52 ∷ 0 ∷ []) ≡ Refused NoSuchKey 0
+no_key : ended (0x50 ∷ 0x52 ∷ 0 ∷ []) ≡ refused NoSuchKey 0
 unfolding computed_reading
 no_key = refl
 
@@ -122,51 +126,51 @@ unfolding computed_reading
 two_of_two-rows = refl
 
 -- the same record with flag 1 wants a variance, and with flag 3 or 255 it is none
-flag_one : ended (variable_bytes 0 ++ observation_bytes 1) ≡ Refused BadRecord 1
+flag_one : ended (variable_bytes 0 ++ observation_bytes 1) ≡ refused BadRecord 1
 unfolding computed_reading
 flag_one = refl
 
-flag_three : ended (variable_bytes 0 ++ observation_bytes 3) ≡ Refused BadRecord 1
+flag_three : ended (variable_bytes 0 ++ observation_bytes 3) ≡ refused BadRecord 1
 unfolding computed_reading
 flag_three = refl
 
-flag_most : ended (variable_bytes 0 ++ observation_bytes 255) ≡ Refused BadRecord 1
+flag_most : ended (variable_bytes 0 ++ observation_bytes 255) ≡ refused BadRecord 1
 unfolding computed_reading
 flag_most = refl
 
 -- flag 3 with 5 keys: 8; 5 keys, all cut: 4; 4 keys, all cut: 8; so with 7 and 6 rows; keys 9, 9, which aren't there: 3
-bad_flag : ended (0x4F ∷ 0x42 ∷ 5 ∷ 1 ∷ 3 ∷ []) ≡ Refused BadRecord 0
+bad_flag : ended (0x4F ∷ 0x42 ∷ 5 ∷ 1 ∷ 3 ∷ []) ≡ refused BadRecord 0
 unfolding computed_reading
 bad_flag = refl
 
-five_keys : ended (0x4F ∷ 0x42 ∷ 5 ∷ 1 ∷ 1 ∷ []) ≡ Refused CountOutside 0
+five_keys : ended (0x4F ∷ 0x42 ∷ 5 ∷ 1 ∷ 1 ∷ []) ≡ refused CountOutside 0
 unfolding computed_reading
 five_keys = refl
 
-four-keys : ended (0x4F ∷ 0x42 ∷ 4 ∷ 1 ∷ 1 ∷ []) ≡ Refused BadRecord 0
+four-keys : ended (0x4F ∷ 0x42 ∷ 4 ∷ 1 ∷ 1 ∷ []) ≡ refused BadRecord 0
 unfolding computed_reading
 four-keys = refl
 
-seven_rows : ended (0x4F ∷ 0x42 ∷ 0 ∷ 7 ∷ 1 ∷ []) ≡ Refused CountOutside 0
+seven_rows : ended (0x4F ∷ 0x42 ∷ 0 ∷ 7 ∷ 1 ∷ []) ≡ refused CountOutside 0
 unfolding computed_reading
 seven_rows = refl
 
-six_rows : ended (0x4F ∷ 0x42 ∷ 0 ∷ 6 ∷ 1 ∷ []) ≡ Refused BadRecord 0
+six_rows : ended (0x4F ∷ 0x42 ∷ 0 ∷ 6 ∷ 1 ∷ []) ≡ refused BadRecord 0
 unfolding computed_reading
 six_rows = refl
 
-keys-not-there : ended (0x4F ∷ 0x42 ∷ 2 ∷ 1 ∷ 1 ∷ 9 ∷ 9 ∷ []) ≡ Refused KeysNotRising 0
+keys-not-there : ended (0x4F ∷ 0x42 ∷ 2 ∷ 1 ∷ 1 ∷ 9 ∷ 9 ∷ []) ≡ refused KeysNotRising 0
 unfolding computed_reading
 keys-not-there = refl
 
 -- ---- records that supersede
 
 -- a factor that isn't there: 19, though nothing follows its number; and a number that is cut: 8
-not_there : ended (0x53 ∷ 0x55 ∷ 0 ∷ []) ≡ Refused NotLive 0
+not_there : ended (0x53 ∷ 0x55 ∷ 0 ∷ []) ≡ refused NotLive 0
 unfolding computed_reading
 not_there = refl
 
-number_cut : ended (0x53 ∷ 0x55 ∷ []) ≡ Refused BadRecord 0
+number_cut : ended (0x53 ∷ 0x55 ∷ []) ≡ refused BadRecord 0
 unfolding computed_reading
 number_cut = refl
 
@@ -175,20 +179,20 @@ abbrev replaced : List ℕ → List ℕ
 replaced bytes = variable_bytes 0 ++ prior_bytes ++ 0x53 ∷ 0x55 ∷ 0 ∷ bytes
 
 -- no mark, a variable and a superseding record within: 8
-no-mark : ended (replaced []) ≡ Refused BadRecord 2
+no-mark : ended (replaced []) ≡ refused BadRecord 2
 unfolding computed_reading
 no-mark = refl
 
-variable-within : ended (replaced (variable_bytes 1)) ≡ Refused BadRecord 2
+variable-within : ended (replaced (variable_bytes 1)) ≡ refused BadRecord 2
 unfolding computed_reading
 variable-within = refl
 
-superseding-within : ended (replaced (0x53 ∷ 0x55 ∷ 0 ∷ prior_bytes)) ≡ Refused BadRecord 2
+superseding-within : ended (replaced (0x53 ∷ 0x55 ∷ 0 ∷ prior_bytes)) ≡ refused BadRecord 2
 unfolding computed_reading
 superseding-within = refl
 
 -- a prior within, without room for the numbers of both: 13, and factor 0 stays live
-no_room : job (replaced prior_bytes) ≡ reading held (Refused FactorStoreShort 2) (half ∷ quarter ∷ nan ∷ [])
+no_room : job (replaced prior_bytes) ≡ reading held (refused FactorStoreShort 2) (half ∷ quarter ∷ nan ∷ [])
 unfolding computed_reading
 no_room = refl
 
@@ -204,11 +208,11 @@ superseded =
     }
 
 prior-within : read_from 2 (0x53 ∷ 0x55 ∷ 0 ∷ prior_bytes) 0 2 held (half ∷ quarter ∷ nan ∷ nan ∷ [])
-    ≡ reading superseded Done (half ∷ quarter ∷ half ∷ quarter ∷ [])
+    ≡ reading superseded (Ok tt) (half ∷ quarter ∷ half ∷ quarter ∷ [])
 unfolding computed_reading
 prior-within = refl
 
 -- factor 0 can't be superseded again: 19, though the mark within is cut
-named_again : read_from 1 (0x53 ∷ 0x55 ∷ 0 ∷ []) 0 0 superseded [] ≡ reading superseded (Refused NotLive 0) []
+named_again : read_from 1 (0x53 ∷ 0x55 ∷ 0 ∷ []) 0 0 superseded [] ≡ reading superseded (refused NotLive 0) []
 unfolding computed_reading
 named_again = refl

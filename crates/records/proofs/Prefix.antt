@@ -9,16 +9,15 @@ use lib.Dec.{ltb}
 use lib.Ieee.{Float}
 use lib.ListN.{length, take}
 use lib.Seq.{get_or-take, take_all, length-take-le}
+use Rattle.std.specs.Prelude.{Result, Ok, Err}
 use Rattle.factor.specs.Counting.{sum}
 use Rattle.graph.specs.Record.{fresh, offset}
 use Rattle.graph.specs.Reached.{Reached}
 use Rattle.graph.specs.declared.Graph.{Graph}
+use Rattle.graph.specs.declared.refusal.Refusal.{Refusal}
 use Rattle.graph.proofs.Validity.{valid-variables, valid-count}
 use Rattle.graph.proofs.Keeping.{good_of}
 use Rattle.records.specs.Records.{longest, enough, step_of, request_store, record_at, Reading, reading, onward, read_from, read_all}
-use Rattle.records.specs.declared.answer.Next.{Next}
-use Rattle.records.specs.declared.answer.Next.TheVariants.{At, Refused}
-use Rattle.records.specs.declared.answer.Ended.TheVariants.{Done}
 use Rattle.records.proofs.Agreement.{Agree, record_as}
 use Rattle.records.proofs.Progress.{most-read, record_bounded}
 use Rattle.graph.proofs.Calls.{fresh-reached}
@@ -36,13 +35,13 @@ ends_as b c at e = by (ltb c (at + 1)) refl
 
 module _ (b c : List ℕ) (room most : ℕ) (much : enough room ≤ most) (same : Agree b c most) where
   -- how a step goes on, in both
-  onward_as : (next : Next) (g : Graph) (s : List Float) (place : ℕ) (f h : ℕ → Reading) → ((n : ℕ) → next ≡ At n → f n ≡ h n)
+  onward_as : (next : Result ℕ Refusal) (g : Graph) (s : List Float) (place : ℕ) (f h : ℕ → Reading) → ((n : ℕ) → next ≡ Ok n → f n ≡ h n)
       → onward next g s place f ≡ onward next g s place h
-  onward_as (At n) g s place f h e = e n refl
-  onward_as (Refused why) g s place f h e = refl
+  onward_as (Ok n) g s place f h e = e n refl
+  onward_as (Err why) g s place f h e = refl
 
   ended : (turns : ℕ) (at place : ℕ) (bytes : List ℕ) (g : Graph) (store : List Float) → ltb at (length bytes) ≡ false
-      → read_from turns bytes at place g store ≡ reading g Done store
+      → read_from turns bytes at place g store ≡ reading g (Ok tt) store
   unfolding read_from
   ended zero at place bytes g store e = refl
   ended (suc turns) at place bytes g store e = rw e
@@ -55,12 +54,12 @@ module _ (b c : List ℕ) (room most : ℕ) (much : enough room ≤ most) (same 
     left = request_store g store (record_at g store c at)
 
     one_turn : (m n : ℕ) → ltb at (length b) ≡ ltb at (length c) → record_at g store b at ≡ record_at g store c at
-        → ((k : ℕ) → (step_of g (record_at g store c at)).next ≡ At k → read_from m b k (place + 1) rest left ≡ read_from n c k (place + 1) rest left)
+        → ((k : ℕ) → (step_of g (record_at g store c at)).next ≡ Ok k → read_from m b k (place + 1) rest left ≡ read_from n c k (place + 1) rest left)
         → read_from (suc m) b at place g store ≡ read_from (suc n) c at place g store
     unfolding read_from
     one_turn m n t e h =
         rw (t, e)
-        (ap (λ (x : Reading). cond (ltb at (length c)) x (reading g Done store)) (onward_as (step_of g (record_at g store c at)).next rest left place _ _ h))
+        (ap (λ (x : Reading). cond (ltb at (length c)) x (reading g (Ok tt) store)) (onward_as (step_of g (record_at g store c at)).next rest left place _ _ h))
 
   -- so far, the records of both are the same
   far : (at : ℕ) (g : Graph) (store : List Float) → Reached g → length store ≤ room → offset g g.count ≤ length store → at ≤ most-read g

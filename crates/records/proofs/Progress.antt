@@ -7,19 +7,17 @@ use native.Mathlib.Omega.{arith}
 use lib.Ieee.{Float}
 use lib.ListN.{length, get_or, set}
 use lib.Seq.{get_or-set_other}
+use Rattle.std.specs.Prelude.{Result, Ok, Err}
 use Rattle.factor.specs.Limits.{max_factors}
 use Rattle.factor.specs.Factor.{absent, key_at, prior_of, observation_of, first_column, width, a_numbers, numbers, with_live}
 use Rattle.factor.specs.declared.Factor.{Factor}
 use Rattle.factor.proofs.Counting.{sum_ext}
 use Rattle.factor.proofs.Fitting.{fits-key}
 use Rattle.graph.specs.Record.{size_at, factor_at, offset, live_at, valid}
-use Rattle.graph.specs.Registration.{refused, with_variable, add_variable, accept, with_factor, settle, add_prior, add_observation, retired, replacing}
+use Rattle.graph.specs.Registration.{Added, refused, with_variable, add_variable, accept, with_factor, settle, add_prior, add_observation, retired, replacing}
 use Rattle.graph.specs.Reached.{Exposure, Call, prior, observation, variable, register, supersede, entered, answered, lent}
 use Rattle.graph.specs.declared.Symbol.{Symbol}
 use Rattle.graph.specs.declared.Graph.{Graph}
-use Rattle.graph.specs.declared.Added.{Added}
-use Rattle.graph.specs.declared.Outcome.{Outcome}
-use Rattle.graph.specs.declared.Outcome.TheVariants as outcome
 use Rattle.graph.specs.declared.refusal.Refusal.{Refusal}
 use Rattle.graph.specs.declared.refusal.Refusal.TheVariants.{NotLive}
 use Rattle.graph.proofs.Validity.{valid-factor, offset-more}
@@ -29,7 +27,6 @@ use Rattle.graph.proofs.Checking.{by, Taken, variable-cases, prior-cases, observ
 use Rattle.graph.proofs.Keeping.{Shaped, Good}
 use Rattle.records.specs.Bytes.{float_bytes}
 use Rattle.records.specs.Records.{Request, variable_record, factor_frame, record_at, next_of, step_of}
-use Rattle.records.specs.declared.answer.Next.TheVariants.{At}
 use Rattle.records.proofs.Asking.{bytes_of, Asks, nothing, asked, asks}
 
 -- the bytes that a graph's records can have taken: those of its variables, and for each factor its frame and its numbers
@@ -85,7 +82,7 @@ retired-offset g j n = sum_ext _ _ n (λ i l. numbers-live g.sizes g.factors j i
 
 module _ (g : Graph) (ok : Good g) (len : ℕ) (held : offset g g.count ≤ len) (start next : ℕ) where
   Grown : Added → Type 0
-  Grown a = (n : ℕ) → next_of a.outcome next ≡ At n → (n + most-read g ≤ start + most-read a.graph) × (offset a.graph a.graph.count ≤ len)
+  Grown a = (n : ℕ) → next_of a.outcome next ≡ Ok n → (n + most-read g ≤ start + most-read a.graph) × (offset a.graph a.graph.count ≤ len)
 
   turned : (why : Refusal) → Grown (refused g why)
   unfolding Grown
@@ -119,11 +116,10 @@ module _ (g : Graph) (ok : Good g) (len : ℕ) (held : offset g g.count ≤ len)
       observation-cases g keys rows a mean variance store (λ v. Grown (settle g (observation_of keys rows) v)) turned
       (λ xi w t. taken_grown _ _ _ _ _ _ _ took s t)
 
-  replacing_grown : (h : Graph) (j : ℕ) (o : Outcome) → Grown (record { graph = h; outcome = o }) → Grown (replacing h j o)
+  replacing_grown : (h : Graph) (j : ℕ) (o : Result ℕ Refusal) → Grown (record { graph = h; outcome = o }) → Grown (replacing h j o)
   unfolding Grown
-  replacing_grown h j (outcome.Key key) grown = grown
-  replacing_grown h j (outcome.Number number) grown = rw (retired-offset h j h.count) grown
-  replacing_grown h j (outcome.Refused why) grown = grown
+  replacing_grown h j (Ok number) grown = rw (retired-offset h j h.count) grown
+  replacing_grown h j (Err why) grown = grown
 
   call_grown : (c : Call) → next ≤ start + bytes_of g c → (store : List Float) → length (lent store c) ≡ len → Grown (answered g c)
   call_grown (variable name size) took store s = variable_grown name size took
@@ -139,7 +135,7 @@ module _ (g : Graph) (ok : Good g) (len : ℕ) (held : offset g g.count ≤ len)
 
 module _ (g : Graph) (ok : Good g) (store : List Float) (held : offset g g.count ≤ length store) (start : ℕ) where
   Bounded : Request → Type 0
-  Bounded q = (n : ℕ) → (step_of g q).next ≡ At n → (n + most-read g ≤ start + most-read (step_of g q).graph) ×
+  Bounded q = (n : ℕ) → (step_of g q).next ≡ Ok n → (n + most-read g ≤ start + most-read (step_of g q).graph) ×
       (offset (step_of g q).graph (step_of g q).graph.count ≤ length store)
 
   module _ (bytes : List ℕ) where
@@ -148,7 +144,7 @@ module _ (g : Graph) (ok : Good g) (store : List Float) (held : offset g g.count
     asks_bounded (nothing why) = λ n e. let z : ◌≡◌ {A = ℕ} 0 1 = cc in (omega arith, omega arith)
     asks_bounded (asked call next w) = call_grown g ok (length store) held start next call w.near store (ap (λ (s : List Float). length s) w.own)
 
-    pub record_bounded : (n : ℕ) → (step_of g (record_at g store bytes start)).next ≡ At n
+    pub record_bounded : (n : ℕ) → (step_of g (record_at g store bytes start)).next ≡ Ok n
         → (n + most-read g ≤ start + most-read (step_of g (record_at g store bytes start)).graph) ×
         (offset (step_of g (record_at g store bytes start)).graph (step_of g (record_at g store bytes start)).graph.count ≤ length store)
     unfolding Bounded

@@ -10,13 +10,12 @@ use Rattle.factor.specs.Factor.{a_numbers, numbers}
 use Rattle.factor.proofs.Laying.{lay-length}
 use Rattle.factor.specs.declared.Factor.{Factor}
 use Rattle.graph.specs.Record.{offset}
-use Rattle.graph.specs.Registration.{accept, stored}
+use Rattle.graph.specs.Registration.{Added, accept, stored}
 use Rattle.graph.specs.Reached as calls
 use Rattle.graph.specs.Reached.{Call, lent}
 use Rattle.graph.proofs.Checking.{Taken, a-long, mean_long}
 use Rattle.records.proofs.Asking.{Asks, nothing, asked, asks}
 use Rattle.graph.proofs.Calls.{Comes, turned, named, taken, replaced, comes}
-use Rattle.graph.specs.declared.Added.{Added}
 use Rattle.graph.specs.declared.Graph.{Graph}
 use Rattle.records.specs.Records.{Request, record_at, request_store}
 

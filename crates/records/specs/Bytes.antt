@@ -1,8 +1,7 @@
 -- The numbers in a job's bytes. All stand with their lowest byte first. Definitions only.
-use Rattle.std.specs.Prelude.{Bool, cond, List, [], ◌∷◌, ◌++◌, ℕ, zero, suc, ◌+◌, ◌*◌, ◌/◌, ◌%◌, ltb, eqb, Float, length, get_or}
+use Rattle.std.specs.Prelude.{Bool, List, [], ◌∷◌, ◌++◌, ℕ, zero, suc, ◌+◌, ◌*◌, ltb, Float, length, get_or}
 use Rattle.std.specs.Float.{binary64}
 use Rattle.std.specs.Float.Ieee.{of_bits}
-use Rattle.matrix.specs.Sums.{plus_zero}
 
 -- the bytes of a float
 abbrev pub float_bytes : ℕ
@@ -34,7 +33,3 @@ keys_read bytes at n = listed (λ i. byte_at bytes (at + i)) n
 
 abbrev pub numbers_at : (bytes : List ℕ) (at n : ℕ) → List Float
 numbers_at bytes at n = listed (λ i. number_at bytes (at + float_bytes * i)) n
-
--- an entry by its place, column by column, of n rows with x on the diagonal and 0 elsewhere
-abbrev pub diagonal_at : (x : Float) (n i : ℕ) → Float
-diagonal_at x n i = cond (eqb (i % n) (i / n)) x plus_zero

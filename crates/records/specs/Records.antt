@@ -1,30 +1,24 @@
 -- What the records of a job ask for, and what reading them all comes to. Definitions only.
-use Rattle.std.specs.Prelude.{Bool, true, false, not, cond, ◌&&◌, List, [], ◌∷◌, ℕ, zero, suc, ◌+◌, ◌*◌, ltb, eqb, negsuc, Float, length, get_or}
+use Rattle.std.specs.Prelude.{false, not, cond, ◌&&◌, List, [], ◌∷◌, ℕ, zero, suc, ◌+◌, ◌*◌, ltb, eqb, negsuc, Float, length, slice_get}
+use Rattle.std.specs.Prelude.{Option, Some, None, Result, Ok, Err}
 use Rattle.std.specs.Float.{fin}
 use Rattle.matrix.specs.Sums.{one}
 use Rattle.matrix.specs.Triangles.{diagonal_of}
 use Rattle.factor.specs.Limits.{max_variables, max_total, max_factors, max_keys, max_rows}
 use Rattle.factor.specs.Factor.{rising, known, observation_of, a_numbers}
 use Rattle.graph.specs.Record.{size_at, live_at, fresh}
-use Rattle.graph.specs.Registration.{counts_fit}
+use Rattle.graph.specs.Registration.{Added, counts_fit}
 use Rattle.graph.specs.Reached as calls
 use Rattle.graph.specs.Reached.{Call, prior, observation, variable, register, supersede, answered}
 use Rattle.graph.specs.declared.Graph.{Graph}
-use Rattle.graph.specs.declared.Added.{Added}
-use Rattle.graph.specs.declared.Outcome.{Outcome}
-use Rattle.graph.specs.declared.Outcome.TheVariants as outcome
 use Rattle.graph.specs.declared.refusal.Refusal.{Refusal}
 use Rattle.graph.specs.declared.refusal.Refusal.TheVariants.{KeysNotRising, CountOutside, BadRecord, NoSuchKey, NotLive}
 use Rattle.records.specs.Bytes.{float_bytes, byte_at, cut, word_at, keys_read, numbers_at}
 use Rattle.records.specs.declared.kinds.Mark.{Mark}
 use Rattle.records.specs.declared.kinds.Mark.TheVariants as mark
 use Rattle.records.specs.declared.kinds.Flag.{Flag}
-use Rattle.records.specs.declared.kinds.Flag.TheVariants.{Diagonal, Given, Unknown}
-use Rattle.records.specs.declared.answer.Next.{Next}
-use Rattle.records.specs.declared.answer.Next.TheVariants as next-record
-use Rattle.records.specs.declared.answer.Step.{Step}
-use Rattle.records.specs.declared.answer.Ended.{Ended}
-use Rattle.records.specs.declared.answer.Ended.TheVariants.{Done, Refused}
+use Rattle.records.specs.declared.kinds.Flag.TheVariants.{Diagonal, Given}
+use Rattle.records.specs.declared.answer.Rejected.{Rejected}
 use Rattle.records.specs.declared.answer.Read.{Read}
 
 -- what a record asks for: a registering call, with the place of the record after it, or nothing, because it is turned back
@@ -94,24 +88,17 @@ quarter = fin false 1 (negsuc 1)
 abbrev pub meanings : List Flag
 meanings = Diagonal quarter ∷ Given ∷ Diagonal one ∷ []
 
-unfoldable pub meaning : ℕ → Flag
-meaning flag = get_or meanings flag Unknown
-
-abbrev pub flag_known : Flag → Bool
-flag_known (Diagonal x) = true
-flag_known Given = true
-flag_known Unknown = false
+unfoldable pub meaning : ℕ → Option Flag
+meaning flag = slice_get meanings flag
 
 -- how many numbers of the variance of y rows follow, and the variance
 abbrev pub given_numbers : Flag → ℕ → ℕ
 given_numbers (Diagonal x) y = 0
 given_numbers Given y = y * y
-given_numbers Unknown y = 0
 
 abbrev pub variance_read : Flag → (bytes : List ℕ) (at y : ℕ) → List Float
 variance_read (Diagonal x) bytes at y = diagonal_of x y
 variance_read Given bytes at y = numbers_at bytes at (y * y)
-variance_read Unknown bytes at y = []
 
 -- from the numbers on, of which A takes n
 unfoldable pub observed_numbers : (store : List Float) (bytes keys : List ℕ) (rows : ℕ) (flag : Flag) (n at : ℕ) → Request
@@ -130,36 +117,37 @@ observed g store bytes keys rows flag at =
     (cond (not (known g.variables keys)) (refuse NoSuchKey)
     (observed_numbers store bytes keys rows flag (a_numbers g.sizes (observation_of keys rows)) at))
 
-unfoldable pub observation_at : (g : Graph) (store : List Float) (bytes : List ℕ) (at : ℕ) → Request
-observation_at g store bytes at =
-    cond (cut bytes at header_bytes) (refuse BadRecord)
-    (cond (not (flag_known (meaning (byte_at bytes (at + 2))))) (refuse BadRecord)
-    (cond (not (counts_fit (byte_at bytes at) (byte_at bytes (at + 1)))) (refuse CountOutside)
+-- from the counts on, by what the flag behind them means
+abbrev pub flagged : Option Flag → (g : Graph) (store : List Float) (bytes : List ℕ) (at : ℕ) → Request
+flagged None g store bytes at = refuse BadRecord
+flagged (Some flag) g store bytes at =
+    cond (not (counts_fit (byte_at bytes at) (byte_at bytes (at + 1)))) (refuse CountOutside)
     (cond (cut bytes (at + header_bytes) (byte_at bytes at)) (refuse BadRecord)
-    (observed g store bytes (keys_read bytes (at + header_bytes) (byte_at bytes at)) (byte_at bytes (at + 1)) (meaning (byte_at bytes (at + 2)))
-    (at + header_bytes + byte_at bytes at)))))
+    (observed g store bytes (keys_read bytes (at + header_bytes) (byte_at bytes at)) (byte_at bytes (at + 1)) flag
+    (at + header_bytes + byte_at bytes at)))
+
+unfoldable pub observation_at : (g : Graph) (store : List Float) (bytes : List ℕ) (at : ℕ) → Request
+observation_at g store bytes at = cond (cut bytes at header_bytes) (refuse BadRecord) (flagged (meaning (byte_at bytes (at + 2))) g store bytes at)
 
 -- ---- a record: a mark, then its kind
 
 -- VA, PR, OB and SU in ASCII
-unfoldable pub mark_of : ℕ → ℕ → Mark
+unfoldable pub mark_of : ℕ → ℕ → Option Mark
 mark_of a b =
-    cond (eqb a 0x56 && eqb b 0x41) mark.Variable
-    (cond (eqb a 0x50 && eqb b 0x52) mark.Prior
-    (cond (eqb a 0x4F && eqb b 0x42) mark.Observation
-    (cond (eqb a 0x53 && eqb b 0x55) mark.Superseding mark.Unmarked)))
+    cond (eqb a 0x56 && eqb b 0x41) (Some mark.Variable)
+    (cond (eqb a 0x50 && eqb b 0x52) (Some mark.Prior)
+    (cond (eqb a 0x4F && eqb b 0x42) (Some mark.Observation)
+    (cond (eqb a 0x53 && eqb b 0x55) (Some mark.Superseding) None)))
 
 -- the mark here; one that is cut marks no kind
-unfoldable pub mark_at : (bytes : List ℕ) (at : ℕ) → Mark
-mark_at bytes at = cond (cut bytes at mark_bytes) mark.Unmarked (mark_of (byte_at bytes at) (byte_at bytes (at + 1)))
+unfoldable pub mark_at : (bytes : List ℕ) (at : ℕ) → Option Mark
+mark_at bytes at = cond (cut bytes at mark_bytes) None (mark_of (byte_at bytes at) (byte_at bytes (at + 1)))
 
--- a factor's record within one that supersedes: a prior's or an observation's
-abbrev pub marked_within : Mark → (g : Graph) (store : List Float) (bytes : List ℕ) (at : ℕ) → Request
-marked_within mark.Variable g store bytes at = refuse BadRecord
-marked_within mark.Prior g store bytes at = prior_at g store bytes at
-marked_within mark.Observation g store bytes at = observation_at g store bytes at
-marked_within mark.Superseding g store bytes at = refuse BadRecord
-marked_within mark.Unmarked g store bytes at = refuse BadRecord
+-- a prior's or an observation's record, by itself or within one that supersedes
+abbrev pub marked_within : Option Mark → (g : Graph) (store : List Float) (bytes : List ℕ) (at : ℕ) → Request
+marked_within (Some mark.Prior) g store bytes at = prior_at g store bytes at
+marked_within (Some mark.Observation) g store bytes at = observation_at g store bytes at
+marked_within _ g store bytes at = refuse BadRecord
 
 unfoldable pub within_at : (g : Graph) (store : List Float) (bytes : List ℕ) (at : ℕ) → Request
 within_at g store bytes at = marked_within (mark_at bytes at) g store bytes (at + mark_bytes)
@@ -181,29 +169,31 @@ superseding_at g store bytes at =
     (cond (not (live_at g (byte_at bytes at))) (refuse NotLive)
     (ask_in_place (byte_at bytes at) (within_at g store bytes (at + number_bytes))))
 
-abbrev pub marked : Mark → (g : Graph) (store : List Float) (bytes : List ℕ) (at : ℕ) → Request
-marked mark.Variable g store bytes at = variable_at bytes at
-marked mark.Prior g store bytes at = prior_at g store bytes at
-marked mark.Observation g store bytes at = observation_at g store bytes at
-marked mark.Superseding g store bytes at = superseding_at g store bytes at
-marked mark.Unmarked g store bytes at = refuse BadRecord
+abbrev pub marked : Option Mark → (g : Graph) (store : List Float) (bytes : List ℕ) (at : ℕ) → Request
+marked (Some mark.Variable) g store bytes at = variable_at bytes at
+marked (Some mark.Superseding) g store bytes at = superseding_at g store bytes at
+marked m g store bytes at = marked_within m g store bytes at
 
 unfoldable pub record_at : (g : Graph) (store : List Float) (bytes : List ℕ) (at : ℕ) → Request
 record_at g store bytes at = marked (mark_at bytes at) g store bytes (at + mark_bytes)
 
 -- ---- what a request comes to
 
+-- the graph after a record, and where the next one begins, or why this one is turned back
+pub record Step : Type 0 where
+  pub graph : Graph
+  pub next : Result ℕ Refusal
+
 -- an accepted record leads to the next one
-abbrev pub next_of : Outcome → ℕ → Next
-next_of (outcome.Key key) next = next-record.At next
-next_of (outcome.Number number) next = next-record.At next
-next_of (outcome.Refused why) next = next-record.Refused why
+abbrev pub next_of : Result ℕ Refusal → ℕ → Result ℕ Refusal
+next_of (Ok n) next = Ok next
+next_of (Err why) next = Err why
 
 abbrev pub went_to : Added → ℕ → Step
 went_to added next = record { graph = added.graph; next = next_of added.outcome next }
 
 abbrev pub stopped : Graph → Refusal → Step
-stopped g why = record { graph = g; next = next-record.Refused why }
+stopped g why = record { graph = g; next = Err why }
 
 abbrev pub step_of : Graph → Request → Step
 step_of g (ask call next) = went_to (answered g call) next
@@ -220,21 +210,21 @@ pub record Reading : Type 0 where
   pub answer : Read
   pub store : List Float
 
-abbrev pub reading : Graph → Ended → List Float → Reading
+abbrev pub reading : Graph → Result (Unit {0}) Rejected → List Float → Reading
 reading g ended store = record { answer = record { graph = g; ended = ended }; store = store }
 
-abbrev pub onward : Next → (g : Graph) (store : List Float) (place : ℕ) (rest : ℕ → Reading) → Reading
-onward (next-record.At next) g store place rest = rest next
-onward (next-record.Refused why) g store place rest = reading g (Refused why place) store
+abbrev pub onward : Result ℕ Refusal → (g : Graph) (store : List Float) (place : ℕ) (rest : ℕ → Reading) → Reading
+onward (Ok next) g store place rest = rest next
+onward (Err why) g store place rest = reading g (Err (record { why = why; place = place })) store
 
 -- The records from a byte on; `place` counts them from 0. Each takes two bytes or more, so as many turns as there are bytes suffice.
 unfoldable pub read_from : (turns : ℕ) (bytes : List ℕ) (at place : ℕ) (g : Graph) (store : List Float) → Reading
-read_from zero bytes at place g store = reading g Done store
+read_from zero bytes at place g store = reading g (Ok tt) store
 read_from (suc turns) bytes at place g store =
     cond (ltb at (length bytes))
     (onward (step_of g (record_at g store bytes at)).next (step_of g (record_at g store bytes at)).graph (request_store g store (record_at g store bytes at)) place
     (λ next. read_from turns bytes next (place + 1) (step_of g (record_at g store bytes at)).graph (request_store g store (record_at g store bytes at))))
-    (reading g Done store)
+    (reading g (Ok tt) store)
 
 unfoldable pub read_all : List ℕ → List Float → Reading
 read_all bytes store = read_from (length bytes) bytes 0 0 fresh store

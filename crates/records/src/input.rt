@@ -1,95 +1,89 @@
 // The numbers in a job's bytes. All stand with their lowest byte first.
-ghost use Rattle.std.specs.Prelude.{◌≡◌, ◌++◌, ◌+◌, ◌*◌, ◌<◌, ◌≤◌, length, drop};
-ghost use Rattle.std.specs.Float.{binary64};
-ghost use Rattle.std.specs.Float.Ieee.{of_bits};
-ghost use Rattle.matrix.specs.Triangles.{diagonal_of};
-ghost use Rattle.factor.specs.Limits.{max_rows};
+ghost use Rattle.std.specs.Prelude.{◌≡◌, ◌+◌, ◌*◌, ◌<◌, ◌≤◌, length, drop};
 ghost use Rattle.records.specs.Bytes as spec;
 
 use crate::bytes::FLOAT_BYTES;
-use factor::wide;
+use std::num::f64_from_bits_with_nan;
 
-// Fewer than n bytes stand from a place on.
-pub fn cut(bytes: &[u8], at: usize, n: usize) -> bool
-    requires { at ≤ length bytes.now }
-    ensures { result ≡ spec.cut bytes.now at n }
-{
-    bytes.len() - at < n
+// The bytes of a job from a place on.
+#[derive(Clone, Copy)]
+pub struct Reader<'a> {
+    pub bytes: &'a [u8],
+    pub at: usize,
+    pub ghost in_bounds: { at ≤ length bytes.now },
 }
 
-// The byte at a place, as a number.
-pub fn byte(bytes: &[u8], at: usize) -> usize
-    requires { at < length bytes.now }
-    ensures { (result ≡ spec.byte_at bytes.now at) × (result < 256) }
-{
-    wide(bytes[at])
-}
-
-// An unsigned number of 32 bits.
-pub fn word(bytes: &[u8], at: usize) -> u32
-    requires { at + 4 ≤ length bytes.now }
-    ensures { result ≡ spec.word_at bytes.now at }
-{
-    let a = byte(bytes, at) as u32;
-    let b = byte(bytes, at + 1) as u32;
-    let c = byte(bytes, at + 2) as u32;
-    let d = byte(bytes, at + 3) as u32;
-    a + 0x100 * b + 0x10000 * c + 0x1000000 * d
-}
-
-// The float of a bit pattern; the patterns of a NaN all stand for the one.
-fn float(bits: u64) -> f64
-    ensures { result ≡ of_bits binary64 bits }
-{
-    if 0x7FF0000000000000 < bits % 0x8000000000000000 {
-        return 0.0 / 0.0;
+impl<'a> Reader<'a> {
+    // From n bytes further on.
+    pub fn past(self, n: usize) -> Reader<'a>
+        requires { self.at + n ≤ length self.bytes.now }
+        ensures { (result.bytes.now ≡ self.entry.bytes.now) × (result.at ≡ self.entry.at + n) }
+    {
+        Reader {
+            bytes: self.bytes,
+            at: self.at + n,
+        }
     }
-    f64::from_bits(bits)
-}
 
-fn number(bytes: &[u8], at: usize) -> f64
-    requires { at + spec.float_bytes ≤ length bytes.now }
-    ensures { result ≡ spec.number_at bytes.now at }
-{
-    let low = word(bytes, at) as u64;
-    let high = word(bytes, at + 4) as u64;
-    float(low + 0x100000000 * high)
-}
-
-// The first n numbers of out become those of the bytes.
-pub fn numbers(bytes: &[u8], at: usize, out: &mut [f64], n: usize)
-    requires { (at + spec.float_bytes * n ≤ length bytes.now) × (n ≤ length out.old) }
-    ensures { out.new ≡ spec.numbers_at bytes.now at n ++ drop n out.old }
-{
-    for i in 0..n {
-        out[i] = number(bytes, at + FLOAT_BYTES * i);
+    // All bytes from here on.
+    pub fn rest(self) -> &'a [u8]
+        ensures { result.now ≡ drop self.entry.at self.entry.bytes.now }
+    {
+        &self.bytes[self.at..]
     }
-}
 
-// The first n keys of out become those of the bytes.
-pub fn keys(bytes: &[u8], at: usize, out: &mut [usize], n: usize)
-    requires { (at + n ≤ length bytes.now) × (n ≤ length out.old) }
-    ensures { out.new ≡ spec.keys_read bytes.now at n ++ drop n out.old }
-{
-    for i in 0..n {
-        out[i] = byte(bytes, at + i);
+    // Fewer than n bytes stand from here on.
+    pub fn cut(self, n: usize) -> bool
+        ensures { result ≡ spec.cut self.entry.bytes.now self.entry.at n }
+    {
+        self.bytes.len() - self.at < n
     }
-}
 
-// An entry, by its place, of n rows with x on the diagonal and 0 elsewhere.
-fn diagonal_entry(x: f64, n: usize, i: usize) -> f64
-    requires { 0 < n }
-    ensures { result ≡ spec.diagonal_at x n i }
-{
-    if i % n == i / n { x } else { 0.0 }
-}
+    // The byte here, as a number.
+    pub fn byte(self) -> usize
+        requires { self.at < length self.bytes.now }
+        ensures { (result ≡ spec.byte_at self.entry.bytes.now self.entry.at) × (result < 256) }
+    {
+        usize::from(self.bytes[self.at])
+    }
 
-// The first numbers of out become n rows with x on the diagonal and 0 elsewhere, column by column.
-pub fn diagonal(out: &mut [f64], x: f64, n: usize)
-    requires { (0 < n) × (n ≤ max_rows) × (n * n ≤ length out.old) }
-    ensures { out.new ≡ diagonal_of x n ++ drop (n * n) out.old }
-{
-    for i in 0..n * n {
-        out[i] = diagonal_entry(x, n, i);
+    // An unsigned number of 32 bits.
+    #[tactic(auto, unfolding(crate::specs::Bytes::word_at))]
+    pub fn word(self) -> u32
+        requires { self.at + 4 ≤ length self.bytes.now }
+        ensures { result ≡ spec.word_at self.entry.bytes.now self.entry.at }
+    {
+        u32::from_le_bytes(*self.rest().first_chunk().unwrap())
+    }
+
+    // A float; the patterns of a NaN all stand for the one.
+    #[tactic(auto, unfolding(crate::specs::Bytes::word_at, crate::specs::Bytes::number_at))]
+    fn number(self) -> f64
+        requires { self.at + spec.float_bytes ≤ length self.bytes.now }
+        ensures { result ≡ spec.number_at self.entry.bytes.now self.entry.at }
+    {
+        f64_from_bits_with_nan(u64::from_le_bytes(*self.rest().first_chunk().unwrap()))
+    }
+
+    // The numbers of out become those of the bytes.
+    #[tactic(auto, using(crate::proofs::Listing::fill_more), unfolding(crate::specs::Bytes::listed))]
+    pub fn numbers(self, out: &mut [f64])
+        requires { self.at + spec.float_bytes * length out.old ≤ length self.bytes.now }
+        ensures { out.new ≡ spec.numbers_at self.entry.bytes.now self.entry.at (length out.old) }
+    {
+        for (i, x) in out.iter_mut().enumerate() {
+            *x = self.past(FLOAT_BYTES * i).number();
+        }
+    }
+
+    // The keys of out become those of the bytes.
+    #[tactic(auto, using(crate::proofs::Listing::fill_more), unfolding(crate::specs::Bytes::listed))]
+    pub fn keys(self, out: &mut [usize])
+        requires { self.at + length out.old ≤ length self.bytes.now }
+        ensures { out.new ≡ spec.keys_read self.entry.bytes.now self.entry.at (length out.old) }
+    {
+        for (i, x) in out.iter_mut().enumerate() {
+            *x = self.past(i).byte();
+        }
     }
 }

@@ -1,15 +1,17 @@
 // The kinds of records, and what an observation's flag means.
-ghost use Rattle.std.specs.Prelude.{◌≡◌, ◌&&◌, ◌*◌, ◌≤◌, eqb};
+ghost use Rattle.std.specs.Prelude.{◌≡◌, ◌+◌, ◌*◌, ◌≤◌, length, OnSome};
 ghost use Rattle.factor.specs.Limits.{max_rows};
 ghost use Rattle.records.specs.Records as spec;
 
-#[derive(Drop)]
+use crate::bytes::MARK_BYTES;
+use crate::input::Reader;
+
+#[derive(Clone, Copy)]
 pub enum Mark {
     Variable,
     Prior,
     Observation,
     Superseding,
-    Unmarked,
 }
 
 // Where the variance comes from: this on the diagonal and 0 elsewhere, or numbers that follow.
@@ -17,58 +19,32 @@ pub enum Mark {
 pub enum Flag {
     Diagonal(f64),
     Given,
-    Unknown,
 }
 
-fn both(a: usize, b: usize, first: usize, second: usize) -> bool
-    ensures { result ≡ (eqb a first && eqb b second) }
+// The mark here; one that is cut marks no kind.
+#[tactic(auto, unfolding(crate::specs::Records::mark_at, crate::specs::Records::mark_of))]
+pub fn mark_at(r: Reader) -> Option<Mark>
+    ensures value { result ≡ spec.mark_at r.entry.bytes.now r.entry.at }
+    ensures whole { OnSome result (r.entry.at + spec.mark_bytes ≤ length r.entry.bytes.now) }
 {
-    a == first && b == second
-}
-
-// The kind that two bytes mark.
-pub fn mark_of(a: usize, b: usize) -> Mark
-    ensures { result ≡ spec.mark_of a b }
-{
-    if both(a, b, 0x56, 0x41) {
-        return Mark::Variable;
+    match r.rest().first_chunk::<MARK_BYTES>()? {
+        [b'V', b'A'] => Some(Mark::Variable),
+        [b'P', b'R'] => Some(Mark::Prior),
+        [b'O', b'B'] => Some(Mark::Observation),
+        [b'S', b'U'] => Some(Mark::Superseding),
+        _ => None,
     }
-    if both(a, b, 0x50, 0x52) {
-        return Mark::Prior;
-    }
-    if both(a, b, 0x4F, 0x42) {
-        return Mark::Observation;
-    }
-    if both(a, b, 0x53, 0x55) {
-        return Mark::Superseding;
-    }
-    Mark::Unmarked
 }
 
 // What the flag of an observation says of its variance; `meanings` in specs/Records.antt is the table.
-pub fn meaning(flag: usize) -> Flag
+pub fn meaning(flag: u8) -> Option<Flag>
     ensures { result ≡ spec.meaning flag }
 {
-    if flag == 0 {
-        return Flag::Diagonal(0.25);
-    }
-    if flag == 1 {
-        return Flag::Given;
-    }
-    if flag == 2 {
-        return Flag::Diagonal(1.0);
-    }
-    Flag::Unknown
-}
-
-// Whether the flag has a meaning; one without refuses the record.
-pub fn flag_known(flag: Flag) -> bool
-    ensures { result ≡ spec.flag_known flag }
-{
     match flag {
-        Flag::Diagonal(_) => true,
-        Flag::Given => true,
-        Flag::Unknown => false,
+        0 => Some(Flag::Diagonal(0.25)),
+        1 => Some(Flag::Given),
+        2 => Some(Flag::Diagonal(1.0)),
+        _ => None,
     }
 }
 
@@ -80,6 +56,5 @@ pub fn given(flag: Flag, rows: usize) -> usize
     match flag {
         Flag::Diagonal(_) => 0,
         Flag::Given => rows * rows,
-        Flag::Unknown => 0,
     }
 }

@@ -1,14 +1,12 @@
 -- `root_of` answers the float that is nearest to the root. Assumes nothing.
-use Rattle.std.proofs.Common.{◌≡◌, ℕ, ◌+◌, ◌-◌, ◌*◌, ◌/◌, ◌%◌, ◌^◌, ◌<◌, ◌≤◌, Bool, true, false, cond, not, T, ◌⊎◌, sym, refl, ap, ◌∙◌, subst, inl, inr, eq-zero-or-pos, arith, pow_pos, shl_lt}
+use Rattle.std.proofs.Common.{◌≡◌, ℕ, ◌+◌, ◌-◌, ◌*◌, ◌/◌, ◌%◌, ◌^◌, ◌<◌, ◌≤◌, Bool, true, false, cond, not, T, Option, Some, None, ◌⊎◌, sym, refl, ap, ◌∙◌, subst, inl, inr, eq-zero-or-pos, arith, pow_pos, shl_lt}
 use lib.Ieee.{Float, binary64, of_bits, to_bits, size, odd, fits}
 use lib.Ieee.Digits.{size-le}
 use lib.Ieee.Bits.{to_bits-of_bits, of_bits-to_bits, nan_bits_is}
 use lib.Ieee.Positive.{positive, value_pos}
 use Rattle.root.specs.Root.{isqrt, in_units, root_bits, root_of}
 use Rattle.root.specs.Nearest.{next_down, next_up, both, Nearest, Right}
-use Rattle.root.specs.Told as shown
 use Rattle.root.specs.Told.{pivot_told, right_told}
-use Rattle.root.specs.declared.Pivot.{Pivot}
 use Rattle.root.proofs.Leading.{Found, found, bits_of}
 use Rattle.root.proofs.Midpoints.{pattern, low, high}
 use Rattle.root.proofs.Units.{units}
@@ -87,17 +85,17 @@ nearest v fit p =
     (with_digits v k.m k.e i (isqrt 54 (n * 2 ^ 1074 / 2 ^ (2 * i))) p en k.few (i_le n k.m k.e en k.few k.far) f)
 
 -- what is right to tell, by whether v has a root
-tells : (v : Float) {b : Bool} → positive v ≡ b → cond b (shown.pattern (root_bits (in_units v))) shown.refusal ≡ right_told v
+tells : (v : Float) {b : Bool} → positive v ≡ b → cond b (Some (root_bits (in_units v))) None ≡ right_told v
 unfolding right_told
-tells v g = sym (ap (λ (b : Bool). cond b (shown.pattern (root_bits (in_units v))) shown.refusal) g)
+tells v g = sym (ap (λ (b : Bool). cond b (Some (root_bits (in_units v))) None) g)
 
 -- an answer that is `root_of v` is right, and tells what is right
-pub right : (v : Float) (a : Pivot) → T (fits binary64 v) → a ≡ root_of v → (a ≡ root_of v) × (Right v a × (pivot_told a ≡ right_told v))
+pub right : (v : Float) (a : Option Float) → T (fits binary64 v) → a ≡ root_of v → (a ≡ root_of v) × (Right v a × (pivot_told a ≡ right_told v))
 right v a fit e = (e, go (positive v) refl)
   where
-    Answered : Pivot → Type 0
+    Answered : Option Float → Type 0
     Answered x = Right v x × (pivot_told x ≡ right_told v)
 
     go : (b : Bool) → positive v ≡ b → Answered a
-    go true g = let n = nearest v fit (subst T (sym g) tt) in subst Answered (answer v g ∙ sym e) (n.0, ap shown.pattern n.1 ∙ tells v g)
+    go true g = let n = nearest v fit (subst T (sym g) tt) in subst Answered (answer v g ∙ sym e) (n.0, ap Some n.1 ∙ tells v g)
     go false g = subst Answered (answer v g ∙ sym e) (subst (λ (b : Bool). T (not b)) (sym g) tt, tells v g)

@@ -15,7 +15,7 @@ use Rattle.matrix.specs.declared.View.{View}
 use Rattle.matrix.specs.declared.Update.TheVariants.{Add, Store}
 use Rattle.matrix.proofs.Entries.{apart}
 use Rattle.matrix.proofs.Dense.{dense, product_at}
-use Rattle.matrix.proofs.Agreement.{block_same}
+use Rattle.matrix.proofs.Agreement.{block_same, dot-same}
 use Rattle.blocks.specs.Blocks.{column_of, block_column_of}
 use Rattle.workspace.specs.Blocks.{corner, stamp, transposed_times}
 use Rattle.workspace.specs.Sums.{Sums, change, turns}
@@ -23,7 +23,6 @@ use Rattle.workspace.specs.declared.Frame.{Frame}
 use Rattle.workspace.specs.declared.Part.{Part}
 use Rattle.workspace.specs.declared.Part.TheVariants.{S, H, G, A, Xi, W}
 use Rattle.workspace.proofs.Parts.{inner, length_part}
-use Rattle.workspace.proofs.InPlace.{dot-same}
 use Rattle.slots.specs.declared.Branch.{Branch}
 use Rattle.slots.specs.declared.Branch.TheVariants.{Z, X}
 use Rattle.slots.specs.declared.layout.Layout.{Layout}
@@ -31,8 +30,7 @@ use Rattle.slots.specs.Layouts.{spot_of}
 use Rattle.slots.specs.Views.{target, target_of, with_product, with_products, with_own, with_key, with_keys}
 use Rattle.slots.specs.Fitting.{Sits, Wide}
 use Rattle.slots.specs.declared.layout.Spot.{Spot}
-use Rattle.slots.specs.declared.sums.Target.{Target}
-use Rattle.slots.specs.declared.sums.Target.TheVariants.{Nowhere, At}
+use Rattle.std.specs.Prelude.{Option, Some, None}
 use Rattle.workspace.specs.Parts.{FrameLaid, part_from, part_to}
 
 -- ---- places
@@ -63,9 +61,9 @@ in_w : (f : Frame) (len : ℕ) (k o : Spot) → FrameLaid f len → f.rows ≡ f
 in_w f len k o l e hk ho =
     corner-fits f W f.rows f.rows (corner f.rows k.at o.at) k.at o.at k.size o.size (omega arith) refl (omega arith) (omega arith)
 
-abbrev Fits : Frame → ℕ → ℕ → Target → Type 0
-Fits f m n Nowhere = Unit
-Fits f m n (At p v) = Inside v m n (part_to f p - part_from f p)
+abbrev Fits : Frame → ℕ → ℕ → Option (Part × View) → Type 0
+Fits f m n None = Unit
+Fits f m n (Some (p, v)) = Inside v m n (part_to f p - part_from f p)
 
 fits_of : (branch : Branch) (kg og : Bool) (order : Ordering) (f : Frame) (len : ℕ) (k o : Spot) → FrameLaid f len → (branch ≡ X → f.rows ≡ f.kept)
     → k.at + k.size ≤ cond kg f.cleared f.kept → o.at + o.size ≤ cond og f.cleared f.kept
@@ -87,11 +85,11 @@ fits_of X false false Ordering.lt f len k o l x hk ho = in_w f len k o l (x refl
 fits_of X false false Ordering.eq f len k o l x hk ho = in_w f len k o l (x refl) hk ho
 fits_of X false false Ordering.gt f len k o l x hk ho = tt
 
-pub goes_inside : (branch : Branch) (f : Frame) (len : ℕ) (k o : Spot) (r : Target) (p : Part) (v : View) → FrameLaid f len
+pub goes_inside : (branch : Branch) (f : Frame) (len : ℕ) (k o : Spot) (r : Option (Part × View)) (p : Part) (v : View) → FrameLaid f len
     → (branch ≡ X → f.rows ≡ f.kept) → Sits f k → Sits f o
-    → r ≡ target branch f k o → r ≡ At p v → Inside v k.size o.size (part_to f p - part_from f p)
+    → r ≡ target branch f k o → r ≡ Some (p, v) → Inside v k.size o.size (part_to f p - part_from f p)
 goes_inside branch f len k o r p v l x hk ho er ea =
-    subst (λ (t : Target). Fits f k.size o.size t) (sym er ∙ ea)
+    subst (λ (t : Option (Part × View)). Fits f k.size o.size t) (sym er ∙ ea)
     (fits_of branch k.cleared o.cleared (compare o.key k.key) f len k o l x hk ho)
 
 pub fits-part : (a : List Float) (p q n : ℕ) → q ≤ length a → q - p ≡ n → n ≤ length (part a p q)
@@ -99,17 +97,17 @@ fits-part a p q n h e = omega (arith, length_part a p q h)
 
 -- ---- one pair
 
-pub no_product : (branch : Branch) (f : Frame) (k o : Spot) (r : Target) (s : ℕ) (t : List Float) (y : ℕ) (b : List Float) (n : ℕ) (σ : Sums) → r
-    ≡ target branch f k o → r ≡ Nowhere
+pub no_product : (branch : Branch) (f : Frame) (k o : Spot) (r : Option (Part × View)) (s : ℕ) (t : List Float) (y : ℕ) (b : List Float) (n : ℕ) (σ : Sums) → r
+    ≡ target branch f k o → r ≡ None
     → σ ≡ with_product (target branch f k o) s t y b n σ
 unfolding with_product
-no_product branch f k o r s t y b n σ er en = subst (λ (q : Target). σ ≡ with_product q s t y b n σ) (sym en ∙ er) refl
+no_product branch f k o r s t y b n σ er en = subst (λ (q : Option (Part × View)). σ ≡ with_product q s t y b n σ) (sym en ∙ er) refl
 
-pub product-at-target : (branch : Branch) (f : Frame) (k o : Spot) (r : Target) (p : Part) (v : View) (s : ℕ) (t : List Float) (y : ℕ)
-    (b : List Float) (n : ℕ) (σ σ' : Sums) → r ≡ target branch f k o → r ≡ At p v
+pub product-at-target : (branch : Branch) (f : Frame) (k o : Spot) (r : Option (Part × View)) (p : Part) (v : View) (s : ℕ) (t : List Float) (y : ℕ)
+    (b : List Float) (n : ℕ) (σ σ' : Sums) → r ≡ target branch f k o → r ≡ Some (p, v)
     → σ' ≡ change p (λ c. product Add v s t (columns s) b (columns y) y c n) σ → σ' ≡ with_product (target branch f k o) s t y b n σ
 unfolding with_product
-product-at-target branch f k o r p v s t y b n σ σ' er ea e = subst (λ (q : Target). σ' ≡ with_product q s t y b n σ) (sym ea ∙ er) e
+product-at-target branch f k o r p v s t y b n σ σ' er ea e = subst (λ (q : Option (Part × View)). σ' ≡ with_product q s t y b n σ) (sym ea ∙ er) e
 
 -- ---- the columns of a factor
 
@@ -192,11 +190,11 @@ change-same W g h σ e = rw (e σ.w)
 abbrev Same : List Float → List Float → ℕ → ℕ → Type 0
 Same t u s y = (i j : ℕ) → i < s → j < y → entry t (columns s) i j ≡ entry u (columns s) i j
 
-product-same : (q : Target) (s : ℕ) (t u : List Float) (y : ℕ) (b : List Float) (n : ℕ) (σ : Sums) → Same t u s y → with_product q s t y b n σ
+product-same : (q : Option (Part × View)) (s : ℕ) (t u : List Float) (y : ℕ) (b : List Float) (n : ℕ) (σ : Sums) → Same t u s y → with_product q s t y b n σ
     ≡ with_product q s u y b n σ
 unfolding with_product product
-product-same Nowhere s t u y b n σ h = refl
-product-same (At p v) s t u y b n σ h =
+product-same None s t u y b n σ h = refl
+product-same (Some (p, v)) s t u y b n σ h =
     change-same p (λ c. product Add v s t (columns s) b (columns y) y c n) (λ c. product Add v s u (columns s) b (columns y) y c n) σ
     (λ c. block_same v s (product_entry Add t (columns s) b (columns y) y) (product_entry Add u (columns s) b (columns y) y) c n
     (λ i j hi hj x. ap (λ (d : Float). updated Add x d) (dot-same t u (columns s) (columns s) i b b (columns y) (columns y) j y (λ l hl. h i l hi hl)

@@ -2,15 +2,18 @@
 use Prim.Native.Nat.{ℕ, zero, suc, ◌+◌, ◌≤◌, ◌<◌}
 use mathlib.Core.Path.{◌≡◌, refl, ap, ◌∙◌, sym, subst}
 use mathlib.Core.Bool.{Bool, true, false, cond, ◌||◌}
-use mathlib.Core.List.{List, [], ◌∷◌}
+use mathlib.Core.List.{List, [], ◌∷◌, ◌++◌}
 use native.Mathlib.Omega.{arith}
 use native.Mathlib.Numerals.{add-one}
 use native.Mathlib.Nat.{add-zero}
 use borrow.Author.Count.{below_more}
 use borrow.Author.Tests.{eq-eqb, ne_eqb, eqb-true, eqb-false}
 use lib.Dec.{eqb}
-use lib.ListN.{length, get_or, set, drop, replicate, get_or-replicate}
+use lib.ListN.{length, get_or, set, drop}
 use lib.Seq.{drop-cons, drop-length, ext_get_or, get_or-set_same, get_or-set_other}
+use Rattle.std.proofs.Math.Bool.{or-false, or-true}
+use Rattle.std.proofs.lemmas.Grind.{common_steps}
+use Rattle.std.proofs.lemmas.List.Recursion.{or_push}
 use Rattle.factor.specs.Limits.{max_variables}
 use Rattle.slots.specs.Layouts.{member, column_in, dim_of, table, layout_of}
 
@@ -82,51 +85,47 @@ layout_is gone first kept cleared sizes eg ef hg hf =
       table_is (λ k. cond (member k cleared) (column_in sizes cleared k) (column_in sizes kept k)) 0 first (length sizes) ef hf,
     )
 
--- ---- a list walked from its last key to its first
+-- ---- a list walked key by key
 
--- what stands for one key more, where the key at place i is put in front
-module _ {A : Type 0} (l : List ℕ) (r : List A) (i : ℕ) (x d : A) (f g : ℕ → A) (m : length r ≡ max_variables) (low : get_or l i 0 < max_variables)
-    (here : (key : ℕ) → get_or l i 0 ≡ key → x ≡ f key) (other : (key : ℕ) → (get_or l i 0 ≡ key → ⊥) → g key ≡ f key) where
-  pub one_back : ((key : ℕ) → key < max_variables → get_or r key d ≡ g key) → (key : ℕ) → key < max_variables → get_or (set r (get_or l i 0) x) key d ≡ f key
-  one_back h key b = go (eqb (get_or l i 0) key) refl
+-- what stands in a table once the key x is written
+module _ {A : Type 0} (r : List A) (x : ℕ) (y d : A) (f g : ℕ → A) (m : length r ≡ max_variables) (low : x < max_variables)
+    (here : (key : ℕ) → x ≡ key → y ≡ f key) (other : (key : ℕ) → (x ≡ key → ⊥) → g key ≡ f key) where
+  one_written : ((key : ℕ) → key < max_variables → get_or r key d ≡ g key) → (key : ℕ) → key < max_variables → get_or (set r x y) key d ≡ f key
+  one_written h key b = go (eqb x key) refl
     where
-      go : (t : Bool) → eqb (get_or l i 0) key ≡ t → get_or (set r (get_or l i 0) x) key d ≡ f key
+      go : (t : Bool) → eqb x key ≡ t → get_or (set r x y) key d ≡ f key
       go true e =
-          let k : get_or l i 0 ≡ key = eqb-true (get_or l i 0) key e in
-          subst (λ (n : ℕ). get_or (set r (get_or l i 0) x) n d ≡ f key) k (get_or-set_same r (get_or l i 0) x d (omega arith) ∙ here key k)
-      go false e = get_or-set_other r (get_or l i 0) key x d (λ s. eqb-false (get_or l i 0) key e (sym s)) ∙ h key b ∙ other key (λ s. eqb-false (get_or l i 0) key e s)
+          let k : x ≡ key = eqb-true x key e in
+          subst (λ (n : ℕ). get_or (set r x y) n d ≡ f key) k (get_or-set_same r x y d (omega arith) ∙ here key k)
+      go false e = get_or-set_other r x key y d (λ s. eqb-false x key e (sym s)) ∙ h key b ∙ other key (λ s. eqb-false x key e s)
 
-pub marks_back : (l : List ℕ) (r : List Bool) (i j : ℕ) → j ≡ i + 1 → i < length l → length r ≡ max_variables → get_or l i 0 < max_variables
-    → ((key : ℕ) → key < max_variables → get_or r key false ≡ member key (drop j l))
-    → (key : ℕ) → key < max_variables → get_or (set r (get_or l i 0) true) key false ≡ member key (drop i l)
-marks_back l r i j ej h m low =
-    rw ej (one_back l r i true false (λ key. member key (drop i l)) (λ key. member key (drop (i + 1) l)) m low
-    (λ key e. sym (member-here l i h key e)) (λ key e. sym (member-next l i h key e)))
+pub member-push : (l : List ℕ) (x key : ℕ) → member key (l ++ (x ∷ [])) ≡ (member key l || eqb x key)
+member-push l x key = or_push (member key) (λ j. eqb j key) refl (λ _ _. refl) l x
 
-pub firsts_back : (sizes l r : List ℕ) (i j column next : ℕ) → j ≡ i + 1 → i < length l → length r ≡ max_variables → get_or l i 0 < max_variables
-    → next ≡ column + get_or sizes (get_or l i 0) 0
-    → ((key : ℕ) → key < max_variables → get_or r key 0 ≡ next + column_in sizes (drop j l) key)
-    → (key : ℕ) → key < max_variables → get_or (set r (get_or l i 0) column) key 0 ≡ column + column_in sizes (drop i l) key
-firsts_back sizes l r i j column next ej h m low en =
-    rw ej (one_back l r i column 0 (λ key. column + column_in sizes (drop i l) key) (λ key. next + column_in sizes (drop (i + 1) l) key) m low
-    (λ key e. omega (arith, first-here l i h sizes key e)) (λ key e. omega (arith, first_next l i h sizes key e)))
+pub dim_of-push : (sizes l : List ℕ) (x : ℕ) → dim_of sizes (l ++ (x ∷ [])) ≡ dim_of sizes l + get_or sizes x 0
+dim_of-push sizes [] x = omega arith
+dim_of-push sizes (j ∷ l) x = omega (arith, dim_of-push sizes l x)
 
--- at the end of the list nothing is marked, and every key would stand behind it
-pub marks-none : (l : List ℕ) (key : ℕ) → key < max_variables → get_or (replicate max_variables false) key false ≡ member key (drop (length l) l)
-marks-none l key h = get_or-replicate max_variables key false false h ∙ ap (member key) (sym (drop-length l))
+-- a key where a list of known keys is cut
+pub key-known : (rest passed l : List ℕ) (x : ℕ) → rest ++ (x ∷ passed) ≡ l → ((i : ℕ) → i < length l → get_or l i 0 < max_variables) → x < max_variables
+key-known rest passed l x e h = grind (arith, common_steps, e, h (length rest))
 
-pub firsts-none : (sizes l : List ℕ) (column key : ℕ) → key < max_variables → get_or (replicate max_variables column) key 0
-    ≡ column + column_in sizes (drop (length l) l) key
-firsts-none sizes l column key h = omega (arith, get_or-replicate max_variables key column 0 h, ap (λ (t : List ℕ). column_in sizes t key) (drop-length l))
+-- a key more is marked
+pub marks-more : (r : List Bool) (l : List ℕ) (x : ℕ) → length r ≡ max_variables → x < max_variables
+    → ((key : ℕ) → key < max_variables → get_or r key false ≡ member key l)
+    → (key : ℕ) → key < max_variables → get_or (set r x true) key false ≡ member key (l ++ (x ∷ []))
+marks-more r l x m low =
+    one_written r x true false (λ key. member key (l ++ (x ∷ []))) (λ key. member key l) m low
+    (λ key e. rw (member-push l x key, eq-eqb x key e) (sym (or-true (member key l))))
+    (λ key e. rw (member-push l x key, ne_eqb x key e) (sym (or-false (member key l))))
 
--- the dimension that is left, a key before the last place
-pub dim_back : (sizes l : List ℕ) (i j : ℕ) → j ≡ i + 1 → i < length l → dim_of sizes (drop i l) ≡ get_or sizes (get_or l i 0) 0 + dim_of sizes (drop j l)
-dim_back sizes l i j ej h = rw ej (dim_next l i h sizes)
-
-pub dim_rest : (sizes l : List ℕ) (i : ℕ) → dim_of sizes (drop i l) ≤ dim_of sizes l
-dim_rest sizes l zero = omega arith
-dim_rest sizes [] (suc i) = omega arith
-dim_rest sizes (j ∷ l) (suc i) = omega (arith, dim_rest sizes l i)
+-- a key more stands in front of those that were passed
+pub firsts-more : (sizes r passed : List ℕ) (x column next : ℕ) → length r ≡ max_variables → x < max_variables → next ≡ column + get_or sizes x 0
+    → ((key : ℕ) → key < max_variables → get_or r key 0 ≡ next + column_in sizes passed key)
+    → (key : ℕ) → key < max_variables → get_or (set r x column) key 0 ≡ column + column_in sizes (x ∷ passed) key
+firsts-more sizes r passed x column next m low en =
+    one_written r x column 0 (λ key. column + column_in sizes (x ∷ passed) key) (λ key. next + column_in sizes passed key) m low
+    (λ key e. rw (eq-eqb x key e) (omega arith)) (λ key e. rw (ne_eqb x key e) (omega arith))
 
 -- ---- one table laid over another
 
@@ -134,12 +133,22 @@ pub cond_same : {b b' : Bool} {x x' y y' : ℕ} → b ≡ b' → x ≡ x' → y 
 cond_same eb ex ey = rw (eb, ex, ey)
 
 -- the entries below i are chosen, those from i on are still as they were
-module _ (gone : List Bool) (among before first : List ℕ) (i x : ℕ) (l : i < length first)
-    (as_before : (k : ℕ) → i ≤ k → get_or first k 0 ≡ get_or before k 0) (ex : x ≡ cond (get_or gone i false) (get_or among i 0) (get_or first i 0)) where
-  pub chosen_more : ((k : ℕ) → k < i → get_or first k 0 ≡ cond (get_or gone k false) (get_or among k 0) (get_or before k 0))
-      → (k : ℕ) → k < i + 1 → get_or (set first i x) k 0 ≡ cond (get_or gone k false) (get_or among k 0) (get_or before k 0)
-  chosen_more h = table_more (λ k. cond (get_or gone k false) (get_or among k 0) (get_or before k 0)) 0 first i x l
-      (ex ∙ ap (λ (y : ℕ). cond (get_or gone i false) (get_or among i 0) y) (as_before i (omega arith))) h
+pub record Chosen (gone : List Bool) (among before first : List ℕ) (i : ℕ) : Type 0 where
+  pub below : (k : ℕ) → k < i → get_or first k 0 ≡ cond (get_or gone k false) (get_or among k 0) (get_or before k 0)
+  pub above : (k : ℕ) → i ≤ k → get_or first k 0 ≡ get_or before k 0
 
-  pub others-before : (k : ℕ) → i + 1 ≤ k → get_or (set first i x) k 0 ≡ get_or before k 0
-  others-before k h = get_or-set_other first i k x 0 (omega arith) ∙ as_before k (omega arith)
+pub chosen-then : {gone : List Bool} {among before first : List ℕ} {i : ℕ} → Chosen gone among before first i → i < length first → get_or gone i false ≡ true
+    → Chosen gone among before (set first i (get_or among i 0)) (i + 1)
+chosen-then {gone} {among} {before} {first} {i} c l e =
+    record {
+      below = table_more (λ k. cond (get_or gone k false) (get_or among k 0) (get_or before k 0)) 0 first i (get_or among i 0) l (rw e refl) c.below;
+      above = λ k h. get_or-set_other first i k (get_or among i 0) 0 (omega arith) ∙ c.above k (omega arith);
+    }
+
+pub chosen-else : {gone : List Bool} {among before first : List ℕ} {i : ℕ} → Chosen gone among before first i → get_or gone i false ≡ false
+    → Chosen gone among before first (i + 1)
+chosen-else {gone} {among} {before} {first} {i} c e =
+    record {
+      below = below_more (λ k. get_or first k 0 ≡ cond (get_or gone k false) (get_or among k 0) (get_or before k 0)) i c.below (rw e (c.above i (omega arith)));
+      above = λ k h. c.above k (omega arith);
+    }

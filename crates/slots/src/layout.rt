@@ -1,10 +1,9 @@
 // Where the columns of each key stand among the kept or the cleared keys.
-ghost use Rattle.std.specs.Prelude.{◌≡◌, false, cond, ℕ, ◌<◌, length, get_or};
+ghost use Rattle.std.specs.Prelude.{◌≡◌, false, ℕ, ◌<◌, length, get_or};
 ghost use Rattle.factor.specs.Limits.{max_variables};
 ghost use Rattle.slots.specs.Layouts.{member, dim_of, column_in, layout_of, spot_of, Listed};
 
 use factor::limits::VARIABLES;
-use factor::wide;
 
 // For each key: whether it is cleared, its first column among the cleared or the kept keys, and its size.
 #[derive(Clone, Copy)]
@@ -27,12 +26,7 @@ pub struct Spot {
 pub fn member(list: &[usize], key: usize) -> bool
     ensures { result ≡ member key list.now }
 {
-    for i in 0..list.len() {
-        if list[i] == key {
-            return true;
-        }
-    }
-    false
+    list.contains(&key)
 }
 
 // The dimension of a list of keys.
@@ -41,9 +35,8 @@ pub fn dim_of(list: &[usize], sizes: [u8; VARIABLES]) -> usize
     ensures { result ≡ dim_of sizes list.now }
 {
     let mut sum = 0;
-    for i in 0..list.len() {
-        let key = list[i];
-        sum = sum + wide(sizes[key]);
+    for &key in list {
+        sum += usize::from(sizes[key]);
     }
     sum
 }
@@ -56,11 +49,8 @@ fn firsts(list: &[usize], sizes: [u8; VARIABLES]) -> [u8; VARIABLES]
 {
     let mut column = dim_of(list, sizes);
     let mut r = [column as u8; VARIABLES];
-    let mut i = list.len();
-    while 0 < i {
-        i -= 1;
-        let key = list[i];
-        column -= wide(sizes[key]);
+    for &key in list.iter().rev() {
+        column -= usize::from(sizes[key]);
         r[key] = column as u8;
     }
     r
@@ -72,19 +62,10 @@ fn marks(list: &[usize]) -> [bool; VARIABLES]
     ensures { (length result ≡ max_variables) × ((key : ℕ) → key < max_variables → get_or result key false ≡ member key list.now) }
 {
     let mut r = [false; VARIABLES];
-    let mut i = list.len();
-    while 0 < i {
-        i -= 1;
-        let key = list[i];
+    for &key in list {
         r[key] = true;
     }
     r
-}
-
-fn chosen(which: bool, a: u8, b: u8) -> u8
-    ensures { result ≡ cond which a b }
-{
-    if which { a } else { b }
 }
 
 // The layout of the kept and the cleared keys.
@@ -97,11 +78,13 @@ pub fn layout_of(kept: &[usize], cleared: &[usize], sizes: [u8; VARIABLES]) -> L
     let among = firsts(cleared, sizes);
     let mut first = firsts(kept, sizes);
     for key in 0..VARIABLES {
-        first[key] = chosen(gone[key], among[key], first[key]);
+        if gone[key] {
+            first[key] = among[key];
+        }
     }
     Layout {
         cleared: gone,
-        first: first,
+        first,
         size: sizes,
     }
 }
@@ -115,8 +98,8 @@ impl Layout {
         Spot {
             key,
             cleared: self.cleared[key],
-            at: wide(self.first[key]),
-            size: wide(self.size[key]),
+            at: usize::from(self.first[key]),
+            size: usize::from(self.size[key]),
         }
     }
 }

@@ -34,6 +34,21 @@ pub enum Slot {
     Closed(usize),
 }
 
+// The tables that an elimination reads: the heads of its slots, and the keys of all heads.
+#[derive(Clone, Copy)]
+pub struct Tables<'a> {
+    pub keys: &'a [usize],
+    pub heads: &'a [usize],
+}
+
+// What an elimination reads: the numbers of the originals and of the messages, and the tables.
+#[derive(Clone, Copy)]
+pub struct Sources<'a> {
+    pub factors: &'a [f64],
+    pub messages: &'a [f64],
+    pub tables: Tables<'a>,
+}
+
 // What is known of a slot: whether it is a prior, where its numbers begin, its rows and its width, where its keys begin and how many they are.
 // A prior has no A, so its width is 0.
 #[derive(Drop)]
@@ -92,30 +107,26 @@ pub fn numbers<'a>(
 }
 
 // The rows that a slot adds: those of its head, but none for a prior on a cleared key.
+#[tactic(auto, unfolding(crate::specs::Tables::rows_by))]
 pub fn rows_of(layout: Layout, keys: &[usize], h: Head) -> usize
     requires { h.prior ≡ true → (h.first < length keys.now) × (get_or keys.now h.first 0 < max_variables) }
     ensures { result ≡ rows_by layout keys.now h }
 {
-    if !h.prior {
-        return h.rows;
-    }
-    let first = h.first;
-    let key = keys[first];
-    if layout.cleared[key] {
+    if h.prior && layout.cleared[keys[h.first]] {
         return 0;
     }
     h.rows
 }
 
 // The rows of all slots of a list of numbers.
-pub fn count_rows(layout: Layout, keys: &[usize], heads: &[usize], slots: &[usize]) -> usize
-    requires { Counted keys.now heads.now slots.now }
-    ensures { result ≡ rows_by_all layout keys.now heads.now slots.now (length slots.now) }
+pub fn count_rows<'a>(layout: Layout, tables: Tables<'a>, slots: &[usize]) -> usize
+    requires { Counted tables.keys.now tables.heads.now slots.now }
+    ensures { result ≡ rows_by_all layout tables.entry.keys.now tables.entry.heads.now slots.now (length slots.now) }
 {
     let mut rows = 0;
-    for i in 0..slots.len() {
-        let h = head_at(heads, slots[i]);
-        rows = rows + rows_of(layout, keys, h);
+    for &number in slots {
+        let h = head_at(tables.heads, number);
+        rows += rows_of(layout, tables.keys, h);
     }
     rows
 }
@@ -128,23 +139,23 @@ fn add_slot<'a>(
     branch: Branch,
     row: usize,
     layout: Layout,
-    factors: &'a [f64],
-    messages: &'a [f64],
-    keys: &[usize],
+    s: Sources<'a>,
     h: Head,
 ) -> usize
     requires frame_laid { FrameLaid f (length work.old) }
-    requires slot_ready { SlotReady f layout branch row factors.now messages.now keys.now (length t.old) h }
-    ensures value { result ≡ row + rows_of layout (read_view factors.now messages.now keys.now h) }
+    requires slot_ready { SlotReady f layout branch row s.factors.now s.messages.now s.tables.keys.now (length t.old) h }
+    ensures value { result ≡ row + rows_of layout (read_view s.entry.factors.now s.entry.messages.now s.entry.tables.keys.now h) }
     ensures work_after { matrices_in f work.new
-        ≡ with_view branch f layout row (read_view factors.now messages.now keys.now h) (matrices_in f work.old) }
+        ≡ with_view branch f layout row (read_view s.entry.factors.now s.entry.messages.now s.entry.tables.keys.now h)
+        (matrices_in f work.old) }
 {
+    let keys = s.tables.keys;
     let p = h.first;
     let q = p + h.count;
     let ks = &keys[p..q];
     let n = h.rows * h.width + h.rows + h.rows * h.rows;
     let slot = h.slot;
-    let nums = numbers(factors, messages, slot, h.at, n);
+    let nums = numbers(s.factors, s.messages, slot, h.at, n);
     add_view(
         work, t, f, branch, row, layout, h.prior, ks, h.rows, h.width, nums,
     );
@@ -158,24 +169,23 @@ pub fn add_slots<'a>(
     f: Frame,
     branch: Branch,
     layout: Layout,
-    factors: &'a [f64],
-    messages: &'a [f64],
-    keys: &[usize],
-    heads: &[usize],
+    s: Sources<'a>,
     slots: &[usize],
 )
     requires frame_laid { FrameLaid f (length work.old) }
-    requires counted { Counted keys.now heads.now slots.now }
+    requires counted { Counted s.tables.keys.now s.tables.heads.now slots.now }
     requires by_index { (i : ℕ) → i < length slots.now
-        → SlotReady f layout branch (rows_of_all layout (view_at factors.now messages.now keys.now heads.now slots.now) i)
-        factors.now messages.now keys.now (length t.old) (head_of heads.now (get_or slots.now i 0)) }
+        → SlotReady f layout branch
+        (rows_of_all layout (view_at s.factors.now s.messages.now s.tables.keys.now s.tables.heads.now slots.now) i)
+        s.factors.now s.messages.now s.tables.keys.now (length t.old) (head_of s.tables.heads.now (get_or slots.now i 0)) }
     ensures { matrices_in f work.new
-        ≡ with_views branch f layout (view_at factors.now messages.now keys.now heads.now slots.now)
+        ≡ with_views branch f layout
+        (view_at s.entry.factors.now s.entry.messages.now s.entry.tables.keys.now s.entry.tables.heads.now slots.now)
         (matrices_in f work.old) (length slots.now) }
 {
     let mut row = 0;
-    for i in 0..slots.len() {
-        let h = head_at(heads, slots[i]);
-        row = add_slot(work, t, f, branch, row, layout, factors, messages, keys, h);
+    for &number in slots {
+        let h = head_at(s.tables.heads, number);
+        row = add_slot(work, t, f, branch, row, layout, s, h);
     }
 }

@@ -10,56 +10,31 @@ ghost use Rattle.workspace.specs.Parts.{FrameLaid, matrices_in, part_from, part_
 use crate::Branch;
 use crate::layout::{Layout, Spot};
 use blocks::block_at;
-use matrix::{Update, View};
+use matrix::{Matrix, Update, View};
+use std::cmp::Ordering;
 use workspace::{Frame, Part, corner, fill_diagonal_at, gemm_at, stamp_at};
 
-// Where a product goes.
-#[derive(Drop)]
-pub enum Target {
-    Nowhere,
-    At(Part, View),
-}
-
-// Where the product of the block columns of k and o goes: in z into S for o from k on, in x into S or W for o up to k, and into G for a cleared k and a kept o.
-fn target_of(branch: Branch, f: Frame, k: Spot, o: Spot) -> Target
+// Where the product of the block columns of k and o goes, if anywhere: in z into S for o from k on, in x into S or W for o up to k, and into G for a
+// cleared k and a kept o.
+#[tactic(auto, unfolding(crate::specs::Views::target_of))]
+fn target_of(branch: Branch, f: Frame, k: Spot, o: Spot) -> Option<(Part, View)>
     requires { (f.cleared ≤ 32) × (f.rows ≤ 32) × (k.at ≤ 32) × (o.at ≤ 32) }
     ensures { result ≡ target branch f k o }
 {
-    match branch {
-        Branch::Z => {
-            if !k.cleared {
-                return Target::Nowhere;
-            }
-            if !o.cleared {
-                return Target::Nowhere;
-            }
-            if o.key < k.key {
-                return Target::Nowhere;
-            }
-            if o.key <= k.key {
-                return Target::At(Part::S, corner(f.cleared, k.at, o.at));
-            }
-            Target::At(Part::S, matrix::flip(corner(f.cleared, o.at, k.at)))
-        }
-        Branch::X => {
-            if k.cleared {
-                let v = corner(f.cleared, k.at, o.at);
-                if !o.cleared {
-                    return Target::At(Part::G, v);
-                }
-                if o.key <= k.key {
-                    return Target::At(Part::S, v);
-                }
-                return Target::Nowhere;
-            }
-            if o.cleared {
-                return Target::Nowhere;
-            }
-            if o.key <= k.key {
-                return Target::At(Part::W, corner(f.rows, k.at, o.at));
-            }
-            Target::Nowhere
-        }
+    let lower = corner(f.cleared, k.at, o.at);
+    match (branch, k.cleared, o.cleared, o.key.cmp(&k.key)) {
+        (Branch::Z, true, true, Ordering::Equal) => Some((Part::S, lower)),
+        (Branch::Z, true, true, Ordering::Greater) => Some((
+            Part::S,
+            matrix::flip(corner(f.cleared, o.at, k.at)),
+        )),
+        (Branch::X, true, true, Ordering::Less | Ordering::Equal) => Some((Part::S, lower)),
+        (Branch::X, true, false, _) => Some((Part::G, lower)),
+        (Branch::X, false, false, Ordering::Less | Ordering::Equal) => Some((
+            Part::W,
+            corner(f.rows, k.at, o.at),
+        )),
+        _ => None,
     }
 }
 
@@ -80,33 +55,12 @@ fn add_product(
     ensures { matrices_in f work.new
         ≡ with_product (target branch f k o) k.size t.now y b.now o.size (matrices_in f work.old) }
 {
-    let Target::At(p, v) = target_of(branch, f, k, o) else {
+    let Some((p, v)) = target_of(branch, f, k, o) else {
         return;
     };
-    let left = View {
-        at: 0,
-        down: 1,
-        across: k.size,
-    };
-    let right = View {
-        at: 0,
-        down: 1,
-        across: y,
-    };
-    gemm_at(
-        work,
-        f,
-        p,
-        v,
-        k.size,
-        o.size,
-        Update::Add,
-        t,
-        left,
-        b,
-        right,
-        y,
-    );
+    let left = Matrix::new(t, k.size, y);
+    let right = Matrix::new(b, y, o.size);
+    gemm_at(work, f, p, v, Update::Add, left, right);
 }
 
 // The products of the block column of k with every block column of the factor.
@@ -130,11 +84,11 @@ fn add_products(
         (matrices_in f work.old) (length keys.now) }
 {
     let mut column = 0;
-    for j in 0..keys.len() {
-        let o = layout.find(keys[j]);
+    for &key in keys {
+        let o = layout.find(key);
         let b = block_at(a, y, column, o.size);
         add_product(work, f, branch, t, y, k, o, b);
-        column = column + o.size;
+        column += o.size;
     }
 }
 
@@ -157,17 +111,9 @@ fn times_at(
     ensures { matrices_in f work.new
         ≡ change which (λ x. product how v s b.now (flip (columns y)) c.now (columns y) y x w) (matrices_in f work.old) }
 {
-    let tall = View {
-        at: 0,
-        down: 1,
-        across: y,
-    };
-    let wide = View {
-        at: 0,
-        down: y,
-        across: 1,
-    };
-    gemm_at(work, f, which, v, s, w, how, b, wide, c, tall, y);
+    let left = Matrix::new(b, y, s);
+    let right = Matrix::new(c, y, w);
+    gemm_at(work, f, which, v, how, left.flip(), right);
 }
 
 // What B, the block column of k, adds without another key. k cleared: B'xi into h and, in z, B'W into G. k kept: in z B into A, in x B'xi into xi.
@@ -202,13 +148,9 @@ fn add_own(
     }
     match branch {
         Branch::Z => {
-            let tall = View {
-                at: 0,
-                down: 1,
-                across: y,
-            };
             let v = corner(f.rows, row, k.at);
-            stamp_at(work, f, Part::A, v, y, k.size, Update::Store, b, tall);
+            let block = Matrix::new(b, y, k.size);
+            stamp_at(work, f, Part::A, v, Update::Store, block);
         }
         Branch::X => {
             let v = corner(f.rows, k.at, 0);
@@ -248,17 +190,9 @@ fn add_key(
         down: 1,
         across: k.size,
     };
-    let tall = View {
-        at: 0,
-        down: 1,
-        across: y,
-    };
-    let wide = View {
-        at: 0,
-        down: y,
-        across: 1,
-    };
-    matrix::gemm(t, left, k.size, y, Update::Store, b, wide, w, tall, y);
+    let block = Matrix::new(b, y, k.size);
+    let weight = Matrix::new(w, y, y);
+    matrix::gemm_tr(t, left, Update::Store, block, weight);
     add_products(work, f, branch, layout, keys, y, a, k, &t[..]);
 }
 
@@ -286,11 +220,11 @@ fn add_keys(
         (length keys.now) }
 {
     let mut column = 0;
-    for i in 0..keys.len() {
-        let k = layout.find(keys[i]);
+    for &key in keys {
+        let k = layout.find(key);
         let b = block_at(a, y, column, k.size);
         add_key(work, t, f, branch, row, layout, keys, y, a, xi, w, k, b);
-        column = column + k.size;
+        column += k.size;
     }
 }
 
@@ -310,15 +244,10 @@ fn copy_rows(
 {
     match branch {
         Branch::Z => {
-            let tall = View {
-                at: 0,
-                down: 1,
-                across: y,
-            };
             let u = corner(f.rows, row, 0);
-            stamp_at(work, f, Part::Xi, u, y, 1, Update::Store, xi, tall);
+            stamp_at(work, f, Part::Xi, u, Update::Store, Matrix::new(xi, y, 1));
             let v = corner(f.rows, row, row);
-            stamp_at(work, f, Part::W, v, y, y, Update::Store, w, tall);
+            stamp_at(work, f, Part::W, v, Update::Store, Matrix::new(w, y, y));
         }
         Branch::X => {}
     }
@@ -332,16 +261,13 @@ fn add_prior(work: &mut [f64], f: Frame, branch: Branch, row: usize, k: Spot, xi
     ensures { matrices_in f work.new
         ≡ with_prior branch k.cleared f row k xi.now w.now (matrices_in f work.old) }
 {
-    let tall = View {
-        at: 0,
-        down: 1,
-        across: k.size,
-    };
+    let vector = Matrix::new(xi, k.size, 1);
+    let weight = Matrix::new(w, k.size, k.size);
     if k.cleared {
         let u = corner(f.cleared, k.at, 0);
-        stamp_at(work, f, Part::H, u, k.size, 1, Update::Add, xi, tall);
+        stamp_at(work, f, Part::H, u, Update::Add, vector);
         let v = corner(f.cleared, k.at, k.at);
-        stamp_at(work, f, Part::S, v, k.size, k.size, Update::Add, w, tall);
+        stamp_at(work, f, Part::S, v, Update::Add, weight);
         return;
     }
     match branch {
@@ -352,9 +278,9 @@ fn add_prior(work: &mut [f64], f: Frame, branch: Branch, row: usize, k: Spot, xi
         }
         Branch::X => {
             let u = corner(f.rows, k.at, 0);
-            stamp_at(work, f, Part::Xi, u, k.size, 1, Update::Add, xi, tall);
+            stamp_at(work, f, Part::Xi, u, Update::Add, vector);
             let v = corner(f.rows, k.at, k.at);
-            stamp_at(work, f, Part::W, v, k.size, k.size, Update::Add, w, tall);
+            stamp_at(work, f, Part::W, v, Update::Add, weight);
         }
     }
 }

@@ -3,7 +3,6 @@ use mathlib.Core.Path.{◌≡◌, refl, sym, ap, ◌∙◌}
 use mathlib.Core.Bool.{Bool, true, false, not, cond}
 use mathlib.Core.List.{List, []}
 use Prim.Native.Nat.{ℕ}
-use native.Mathlib.Omega.{arith}
 use lib.Ieee.{Float}
 use lib.ListN.{take}
 use Rattle.factor.specs.Told.{Told, value, refusal}
@@ -19,14 +18,12 @@ use Rattle.plan.specs.Factors.{keys_among, live_among, Lists}
 use Rattle.plan.specs.Plan.{plan_in}
 use Rattle.plan.specs.declared.plan.Plan.{Plan}
 use Rattle.plan.specs.declared.factors.Lives.{Lives}
-use Rattle.plan_answer.specs.Answer.{answer_of}
-use Rattle.plan_answer.specs.declared.Plan as struct
-use Rattle.solver.specs.Plan.{live_numbers, graph_plan, plan_along, no_plan, Answer, made, turned_back, planned, planned_along, struct_of}
+use Rattle.solver.specs.Plan.{live_numbers, graph_plan, plan_along, Answer, made, planned, planned_along, struct_of}
 use Rattle.solver.specs.Plan.{plan_answer, plan_along_answer}
 use Rattle.solver.specs.Run as run
 use Rattle.solver.specs.declared.Arranged.{Arranged}
 use Rattle.solver.specs.declared.Planned.{Planned}
-use Rattle.solver.specs.declared.Outcome.TheVariants.{Done, Refused}
+use Rattle.std.proofs.Common.{Result, Ok, Err}
 use Rattle.solver.specs.Told.{plan_outcome_told, plan_told, plan_along_told}
 use Rattle.solver.proofs.Tables.{same_keys}
 use Rattle.solver.specs.Stages.{read}
@@ -41,42 +38,26 @@ pub along_plan : (g : Graph) (live : Lives) (keys order : List ℕ) → Lists g.
 unfolding plan_along
 along_plan g live keys order l e = rw (l.are ∙ same_live g, e, same_keys g)
 
--- there are no messages along an order of no keys
-empty_plan : (K : ℕ → List ℕ) (N : List ℕ) → schedule.plan 0 K N [] ≡ no_plan
-unfolding schedule.plan
-empty_plan K N = refl
-
-pub none_held : (why : Refusal) (K : ℕ → List ℕ) (N : List ℕ) (p : Plan) → plan_in 0 p ≡ schedule.plan 0 K N []
-    → read (record { outcome = Refused why; keys = 0; plan = p }) ≡ turned_back why
-unfolding read
-none_held why K N p e = rw (e ∙ empty_plan K N)
-
 module _ (g : Graph) (order : List ℕ) where
   pub held : (p : Plan) → valid g ≡ true → each_once g.variables order ≡ true → plan_in g.variables p ≡ plan_along g order
-      → read (record { outcome = Done; keys = g.variables; plan = p }) ≡ planned_along g order
+      → read (Ok (record { keys = g.variables; plan = p })) ≡ planned_along g order
   unfolding read planned_along
   held p v o e = rw (v, o, e)
 
-  pub no_graph : valid g ≡ false → turned_back NoSuchGraph ≡ planned_along g order
-  unfolding planned_along
+  pub no_graph : valid g ≡ false → read (Err NoSuchGraph) ≡ planned_along g order
+  unfolding read planned_along
   no_graph v = rw v
 
-  pub no_order : valid g ≡ true → each_once g.variables order ≡ false → turned_back OrderUnlike ≡ planned_along g order
-  unfolding planned_along
+  pub no_order : valid g ≡ true → each_once g.variables order ≡ false → read (Err OrderUnlike) ≡ planned_along g order
+  unfolding read planned_along
   no_order v o = rw (v, o)
 
--- the struct that is copied out of the arrays
-pub told : (r : Arranged) (a : Answer) (p : struct.Plan) → read r ≡ a → p ≡ answer_of (plan_in r.keys r.plan)
-    → ◌≡◌ {A = Planned} (record { outcome = r.outcome; keys = r.keys; plan = p }) (struct_of a)
-unfolding read
-told r a p e h = rw (h, ← e)
-
--- what it tells in the numbers of the documents
-pub plan_tells : (g : Graph) (r : Planned) → r ≡ plan_answer g → plan_outcome_told r.outcome ≡ plan_told g
+-- what a plan's answer tells in the numbers of the documents
+pub plan_tells : (g : Graph) (r : Result Planned Refusal) → r ≡ plan_answer g → plan_outcome_told r ≡ plan_told g
 unfolding plan_answer planned plan_told plan_outcome_told
-plan_tells g r e = ap (λ (x : Planned). plan_outcome_told x.outcome) e ∙ go (valid g)
+plan_tells g r e = ap plan_outcome_told e ∙ go (valid g)
   where
-    go : (b : Bool) → plan_outcome_told (cond {A = Answer} b (made g (graph_plan g)) (turned_back NoSuchGraph)).outcome ≡ cond b (value []) (refusal 30 [])
+    go : (b : Bool) → plan_outcome_told (struct_of (cond b (made g (graph_plan g)) (Err NoSuchGraph))) ≡ cond b (value []) (refusal 30 [])
     go true = refl
     go false = refl
 
@@ -87,49 +68,35 @@ module _ (g : Graph) (order : List ℕ) where
   abbrev by : {A : Type 0} → (graph order : Bool) (x y z : A) → A
   by b o x y z = cond b (cond o x y) z
 
-  outcome : (planned_along g order).outcome ≡ by (valid g) (each_once g.variables order) Done (Refused OrderUnlike) (Refused NoSuchGraph)
-  unfolding planned_along
-  outcome = go (valid g) (each_once g.variables order)
+  pub along_tells : (r : Result Planned Refusal) → r ≡ plan_along_answer g order → plan_outcome_told r ≡ plan_along_told g order
+  unfolding plan_along_answer planned_along plan_along_told plan_outcome_told
+  along_tells r e = ap plan_outcome_told e ∙ go (valid g) (each_once g.variables order)
     where
-      go : (b o : Bool) → (by {A = Answer} b o (made g (plan_along g order)) (turned_back OrderUnlike) (turned_back NoSuchGraph)).outcome
-          ≡ by b o Done (Refused OrderUnlike) (Refused NoSuchGraph)
-      go true true = refl
-      go true false = refl
-      go false o = refl
-
-  pub along_tells : (r : Planned) → r ≡ plan_along_answer g order → plan_outcome_told r.outcome ≡ plan_along_told g order
-  unfolding plan_along_answer plan_along_told plan_outcome_told
-  along_tells r e = ap (λ (x : Planned). plan_outcome_told x.outcome) e ∙ ap plan_outcome_told outcome ∙ go (valid g) (each_once g.variables order)
-    where
-      go : (b o : Bool) → plan_outcome_told (by b o Done (Refused OrderUnlike) (Refused NoSuchGraph))
+      go : (b o : Bool) → plan_outcome_told (struct_of (by b o (made g (plan_along g order)) (Err OrderUnlike) (Err NoSuchGraph)))
           ≡ by {A = Told} b o (value []) (refusal 21 []) (refusal 30 [])
       go true true = refl
       go true false = refl
       go false o = refl
 
-  module _ (r : Arranged) (is : read r ≡ planned_along g order) where
-    ends : r.outcome ≡ by (valid g) (each_once g.variables order) Done (Refused OrderUnlike) (Refused NoSuchGraph)
-    unfolding read
-    ends = ap (λ (a : Answer). a.outcome) is ∙ outcome
+  -- a plan that is made
+  pub made_of : (a : Arranged) → read (Ok a) ≡ planned_along g order → (valid g ≡ true) × (each_once g.variables order ≡ true)
+  unfolding read planned_along
+  made_of a e = go (valid g) (each_once g.variables order) _ e
+    where
+      go : (b o : Bool) (x : Answer) → Ok x ≡ by b o (made g (plan_along g order)) (Err OrderUnlike) (Err NoSuchGraph) → (b ≡ true) × (o ≡ true)
+      go true true x z = (refl, refl)
+      go true false x z = absurd (cc)
+      go false o x z = absurd (cc)
 
-    -- a plan that is made
-    pub made_of : r.outcome ≡ Done → (valid g ≡ true) × (each_once g.variables order ≡ true)
-    made_of e = go (valid g) (each_once g.variables order) (sym e ∙ ends)
-      where
-        go : (b o : Bool) → Done ≡ by b o Done (Refused OrderUnlike) (Refused NoSuchGraph) → (b ≡ true) × (o ≡ true)
-        go true true z = (refl, refl)
-        go true false z = absurd (let x : ◌≡◌ {A = ℕ} 0 1 = cc in omega arith)
-        go false o z = absurd (let x : ◌≡◌ {A = ℕ} 0 1 = cc in omega arith)
-
-    -- a refused one refuses the run alike, with figure 0, stage 1, key 0
-    pub refused_run : (why : Refusal) → r.outcome ≡ Refused why → (factors messages : List Float) (work : ℕ) (marginals : List Float)
-        → run.run_verdict (run.refusal 0 why 1 0) messages marginals ≡ run.run_along g order factors messages work marginals
-    unfolding run.run_along
-    refused_run why e factors messages work marginals = go (valid g) (each_once g.variables order) _ (sym e ∙ ends)
-      where
-        go : (b o : Bool) (x : run.RunVerdict) → Refused why ≡ by b o Done (Refused OrderUnlike) (Refused NoSuchGraph)
-            → run.run_verdict (run.refusal 0 why 1 0) messages marginals
-            ≡ cond (not b) (run.refuse 0 NoSuchGraph 1 0 messages marginals) (cond (not o) (run.refuse 0 OrderUnlike 1 0 messages marginals) x)
-        go true true x z = absurd (let y : ◌≡◌ {A = ℕ} 0 1 = cc in omega arith)
-        go true false x z = let y : why ≡ OrderUnlike = cc in rw y
-        go false o x z = let y : why ≡ NoSuchGraph = cc in rw y
+  -- a refused one refuses the run alike, with figure 0, stage 1, key 0
+  pub refused_run : (why : Refusal) → read (Err why) ≡ planned_along g order → (factors messages : List Float) (work : ℕ) (marginals : List Float)
+      → run.run_verdict (run.refusal 0 why 1 0) messages marginals ≡ run.run_along g order factors messages work marginals
+  unfolding read planned_along run.run_along
+  refused_run why e factors messages work marginals = go (valid g) (each_once g.variables order) _ e
+    where
+      go : (b o : Bool) (x : run.RunVerdict) → Err why ≡ by b o (made g (plan_along g order)) (Err OrderUnlike) (Err NoSuchGraph)
+          → run.run_verdict (run.refusal 0 why 1 0) messages marginals
+          ≡ cond (not b) (run.refuse 0 NoSuchGraph 1 0 messages marginals) (cond (not o) (run.refuse 0 OrderUnlike 1 0 messages marginals) x)
+      go true true x z = absurd (cc)
+      go true false x z = let y : why ≡ OrderUnlike = cc in rw y
+      go false o x z = let y : why ≡ NoSuchGraph = cc in rw y

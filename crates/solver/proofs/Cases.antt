@@ -21,7 +21,7 @@ use Rattle.marginals.specs.Marginals.{marginal_numbers, Found, marginals_from, m
 use Rattle.solver.specs.Plan.{plan_along}
 use Rattle.solver.specs.Run as spec
 use Rattle.solver.specs.Run.{RunVerdict, figure_of, refuse, carried, checked, key_at, run_along}
-use Rattle.solver.specs.declared.run.Ended.TheVariants.{Done}
+use Rattle.std.proofs.Common.{Ok, Err}
 
 module _ (P : RunVerdict → Type 0) where
   by_test : (b : Bool) (v w : RunVerdict) → P v → (b ≡ true → P w) → P (cond (not b) v w)
@@ -52,25 +52,25 @@ module _ (P : RunVerdict → Type 0) where
           → P (refuse figure why 2 (key (g.variables - 1 - (at p.backward j).step)) laid marginals)
       pub third : (k : ℕ) (why : Refusal) → missing_from 0 found ≡ refused_at k why → P (refuse figure why 3 k laid marginals)
       pub done : refusal_from 0 fw ≡ none → refusal_from 0 bw ≡ none → missing_from 0 found ≡ none
-          → P (record { answer = record { figure = figure; ended = Done }; messages = laid; marginals = overlaid marginals (marginals_in found) })
+          → P (record { answer = record { figure = figure; ended = Ok tt }; messages = laid; marginals = overlaid marginals (marginals_in found) })
 
     module _ (ends : Ends) where
       thirds : (s : FirstRefusal) → refusal_from 0 fw ≡ none → refusal_from 0 bw ≡ none → missing_from 0 found ≡ s → P (spec.third figure laid marginals found s)
       unfolding spec.third
-      thirds none a b e = ends.done a b e
-      thirds (refused_at k why) a b e = ends.third k why e
+      thirds (Ok _) a b e = ends.done a b e
+      thirds (Err u) a b e = ends.third u.at u.why e
 
       seconds : (s : FirstRefusal) (next : RunVerdict) → refusal_from 0 bw ≡ s → (refusal_from 0 bw ≡ none → P next)
           → P (spec.second figure g.variables key p.backward laid marginals s next)
       unfolding spec.second
-      seconds none next e h = h e
-      seconds (refused_at j why) next e h = ends.second j why e
+      seconds (Ok _) next e h = h e
+      seconds (Err u) next e h = ends.second u.at u.why e
 
       firsts : (s : FirstRefusal) (next : RunVerdict) → refusal_from 0 fw ≡ s → (refusal_from 0 fw ≡ none → P next)
           → P (spec.first figure key p.forward (overlaid messages (finished_numbers fw)) marginals s next)
       unfolding spec.first
-      firsts none next e h = h e
-      firsts (refused_at j why) next e h = ends.first j why e
+      firsts (Ok _) next e h = h e
+      firsts (Err u) next e h = ends.first u.at u.why e
 
       carried-cases : P (carried g key p figure factors messages marginals)
       unfolding carried

@@ -7,14 +7,14 @@ use lib.Ieee.{Float}
 use Rattle.graph.specs.declared.Graph.{Graph}
 use Rattle.schedule.specs.Count.{from}
 use Rattle.solver.specs.Run.{RunVerdict, run, run_along}
-use Rattle.solver.specs.declared.run.Ended.TheVariants.{Done}
+use Rattle.std.proofs.Common.{Ok}
 use Rattle.solver.proofs.Cases.{along-cases}
 use Rattle.solver.proofs.Rising.{as_rising}
 
 module _ (g : Graph) (factors messages : List Float) (work : ℕ) (marginals : List Float) where
   -- the marginals are as they were unless the run is done
   abbrev Kept : RunVerdict → Type 0
-  Kept v = v.answer.ended ≢ Done → v.marginals ≡ marginals
+  Kept v = v.answer.ended ≢ Ok tt → v.marginals ≡ marginals
 
   pub along-kept : (order : List ℕ) → Kept (run_along g order factors messages work marginals)
   along-kept order =

@@ -9,7 +9,6 @@ use lib.ListN.{length, get_or, take}
 use Rattle.factor.specs.Limits.{max_variables}
 use Rattle.graph.specs.Record.{valid}
 use Rattle.graph.specs.declared.Graph.{Graph}
-use Rattle.graph.specs.declared.refusal.Refusal.{Refusal}
 use Rattle.graph.proofs.Validity.{valid-variables}
 use Rattle.schedule.specs.Count.{from, each_once}
 use Rattle.schedule.specs.Pass.{ClosedFactor, at}
@@ -17,7 +16,9 @@ use Rattle.schedule.specs.Plan as schedule
 use Rattle.schedule.proofs.Orders.{rising-each}
 use Rattle.plan.proofs.Membership.{sure_true}
 use Rattle.plan.proofs.Rising.{take-from}
-use Rattle.messages.specs.Values.{values, FirstRefusal, none, refused_at, refusal_from}
+use Rattle.messages.specs.Values.{values, FirstRefusal, refusal_from}
+use Rattle.messages.specs.declared.Undone.{Undone}
+use Rattle.std.proofs.Common.{Ok, Err}
 use Rattle.messages.proofs.Reading.{values_length}
 use Rattle.solver.specs.Plan.{graph_plan, plan_along, planned, planned_along}
 use Rattle.solver.specs.Run.{RunVerdict, first, second, carried, checked, run, key_at, run_along}
@@ -54,26 +55,26 @@ key-rising a (suc n) (suc i) h = key-rising (suc a) n i (omega arith) ∙ omega 
 -- keys that agree on all places name the same key with each refusal
 module _ (g : Graph) (p : schedule.Plan) (can : Runnable g p) (key key' : ℕ → ℕ) (same : (i : ℕ) → i < g.variables → key i ≡ key' i) where
   -- where a pass was stopped is one of its messages
-  stopped : (factors : List Float) (ms : List ClosedFactor) (j : ℕ) (why : Refusal) → refusal_from 0 (values g factors ms) ≡ refused_at j why → j < length ms
+  stopped : (factors : List Float) (ms : List ClosedFactor) (u : Undone) → refusal_from 0 (values g factors ms) ≡ Err u → u.at < length ms
   unfolding values
-  stopped factors ms j why e = omega (arith, stop-from 0 (values g factors ms) j why e, values_length g factors ms (length ms))
+  stopped factors ms u e = omega (arith, stop-from 0 (values g factors ms) u e, values_length g factors ms (length ms))
 
   firsts : (figure : ℕ) (factors messages marginals : List Float) (s : FirstRefusal) (next next' : RunVerdict)
       → refusal_from 0 (values g factors p.forward) ≡ s → next ≡ next'
       → first figure key p.forward messages marginals s next ≡ first figure key' p.forward messages marginals s next'
   unfolding first
-  firsts figure factors messages marginals none next next' e h = h
-  firsts figure factors messages marginals (refused_at j why) next next' e h =
-      rw (same (at p.forward j).step (can.forward_steps j (stopped factors p.forward j why e)))
+  firsts figure factors messages marginals (Ok _) next next' e h = h
+  firsts figure factors messages marginals (Err u) next next' e h =
+      rw (same (at p.forward u.at).step (can.forward_steps u.at (stopped factors p.forward u e)))
 
   seconds : (figure : ℕ) (factors messages marginals : List Float) (s : FirstRefusal) (next : RunVerdict)
       → refusal_from 0 (values g factors p.backward) ≡ s
       → second figure g.variables key p.backward messages marginals s next ≡ second figure g.variables key' p.backward messages marginals s next
   unfolding second
-  seconds figure factors messages marginals none next e = refl
-  seconds figure factors messages marginals (refused_at j why) next e =
-      let l : (at p.backward j).step < g.variables = can.backward_steps j (stopped factors p.backward j why e) in
-      rw (same (g.variables - 1 - (at p.backward j).step) (omega arith))
+  seconds figure factors messages marginals (Ok _) next e = refl
+  seconds figure factors messages marginals (Err u) next e =
+      let l : (at p.backward u.at).step < g.variables = can.backward_steps u.at (stopped factors p.backward u e) in
+      rw (same (g.variables - 1 - (at p.backward u.at).step) (omega arith))
 
   carried_same : (figure : ℕ) (factors messages marginals : List Float) → carried g key p figure factors messages marginals
       ≡ carried g key' p figure factors messages marginals
@@ -109,25 +110,25 @@ module _ (g : Graph) (factors messages : List Float) (work : ℕ) (marginals : L
 -- ---- as the calls without an order lend it
 
 -- as much of all keys, rising, as the record has variables; a record that has more isn't valid
-module _ (g : Graph) (all : List ℕ) (rises : all ≡ from 0 max_variables) (n : ℕ) (least : n ≡ min max_variables g.variables) where
-  lent : valid g ≡ true → take (n - 0) all ≡ from 0 g.variables
+module _ (g : Graph) (all : List ℕ) (rises : all ≡ from 0 max_variables) (n : ℕ) (least : n ≡ min g.variables max_variables) where
+  lent : valid g ≡ true → take n all ≡ from 0 g.variables
   lent v =
-      let m : n - 0 ≡ g.variables = omega (arith, valid-variables g v) in
+      let m : n ≡ g.variables = omega (arith, valid-variables g v) in
       rw (rises, m) (take-from 0 max_variables g.variables (valid-variables g v))
 
-  pub lent-plan : planned_along g (take (n - 0) all) ≡ planned g
+  pub lent-plan : planned_along g (take n all) ≡ planned g
   unfolding planned_along planned
   lent-plan = go (valid g) refl
     where
-      go : (b : Bool) → valid g ≡ b → planned_along g (take (n - 0) all) ≡ planned g
+      go : (b : Bool) → valid g ≡ b → planned_along g (take n all) ≡ planned g
       go true v = ap (planned_along g) (lent v) ∙ rising-plan g
       go false v = rw v refl
 
   pub lent-run : (factors messages : List Float) (work : ℕ) (marginals : List Float)
-      → run_along g (take (n - 0) all) factors messages work marginals ≡ run g factors messages work marginals
+      → run_along g (take n all) factors messages work marginals ≡ run g factors messages work marginals
   unfolding run_along run
   lent-run factors messages work marginals = go (valid g) refl
     where
-      go : (b : Bool) → valid g ≡ b → run_along g (take (n - 0) all) factors messages work marginals ≡ run g factors messages work marginals
+      go : (b : Bool) → valid g ≡ b → run_along g (take n all) factors messages work marginals ≡ run g factors messages work marginals
       go true v = ap (λ (order : List ℕ). run_along g order factors messages work marginals) (lent v) ∙ rising-run g factors messages work marginals
       go false v = rw v refl

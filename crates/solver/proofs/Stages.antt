@@ -37,7 +37,9 @@ use Rattle.plan.specs.Pass as pass
 use Rattle.plan.proofs.Sending.{messages-length}
 use Rattle.plan.proofs.Stepping.{ready_later}
 use Rattle.gaussian.specs.Elimination.{Outcome, pivot, not_finite, message}
-use Rattle.messages.specs.Values.{values, none, refused_at, refusal_from, finished_numbers, overlaid}
+use Rattle.messages.specs.Values.{FirstRefusal, values, none, refusal_from, finished_numbers, overlaid}
+use Rattle.messages.specs.declared.Undone.{Undone}
+use Rattle.std.proofs.Common.{Result, Ok, Err}
 use Rattle.messages.specs.Figure.{rows_at, width_at, need_to, need}
 use Rattle.messages.proofs.Members.{at_map}
 use Rattle.messages.proofs.Rows.{products}
@@ -45,9 +47,7 @@ use Rattle.messages.proofs.Slots.{message-rows-most, message-kept, message-few}
 use Rattle.messages.proofs.Reading.{values_length}
 use Rattle.messages.proofs.Carrying.{stored-stays}
 use Rattle.messages.specs.Tables.{Carriable, AllStored, Tables, PlacedTo, Before, keys_length, heads_length, first_key}
-use Rattle.messages.specs.Asked.{most_start, refusal_in}
-use Rattle.messages.specs.declared.Carried.{Carried}
-use Rattle.messages.specs.declared.Carried.TheVariants as carried-pass
+use Rattle.messages.specs.Asked.{most_start}
 use Rattle.graph.specs.Moments.{start_of}
 use Rattle.graph.proofs.Moments.{start_none, start_more}
 use Rattle.marginals.specs.Asked.{Findable, PlanCarried, Finds, FindsPlanned}
@@ -58,13 +58,10 @@ use Rattle.factor.proofs.Laying.{lay-lay}
 use Rattle.solver.specs.Plan.{plan_along, planned_along}
 use Rattle.solver.specs.Plan as spec
 use Rattle.solver.specs.declared.Arranged as calls
-use Rattle.solver.specs.declared.Outcome.TheVariants as solver
 use Rattle.solver.specs.Run.{RunVerdict, refusal, refuse, first, second, third, carried, checked, figure_of, key_at, run_along, run_verdict}
-use Rattle.solver.specs.Stages.{Planned, RunReady, Enough, stores_of, ThirdPlanned, read}
+use Rattle.solver.specs.Stages.{Planned, RunReady, Enough, stores_of, ran, ThirdPlanned, read}
 use Rattle.solver.specs.declared.run.Places.{Places}
-use Rattle.solver.specs.declared.run.Ran.{Ran}
-use Rattle.solver.specs.declared.run.Ended.TheVariants.{Done}
-use Rattle.solver.specs.declared.run.Stores.TheVariants as stores
+use Rattle.solver.specs.declared.run.Stopped.{Stopped}
 use Rattle.solver.proofs.Answers.{made_of}
 use Rattle.solver.proofs.Carriable.{along-runnable}
 use Rattle.tables.specs.Heads.{Originals}
@@ -98,26 +95,26 @@ pub with_room : {g : Graph} {at : List arrays.Gathered} {factors messages : List
 with_room {g} f results h = record { sound = f.sound; long = f.long; held = f.held; asked = f.asked; room = omega (arith, numbers-most g f.sound) }
 
 module _ (g : Graph) (at : List arrays.Gathered) (figure : ℕ) (factors messages : List Float) (keys heads : List ℕ) (marginals : List Float)
-    (r : Carried) (before after : List Float)
+    (r : FirstRefusal) (before after : List Float)
     (finds : FindsPlanned g at factors messages keys heads r before after) where
-  pub third-refused : (k : ℕ) (why : Refusal) → r ≡ carried-pass.Refused k why
-      → ThirdPlanned g at figure factors messages keys heads marginals (refusal figure why 3 k) marginals
+  pub third-refused : (u : Undone) → r ≡ Err u
+      → ThirdPlanned g at figure factors messages keys heads marginals (Err (record { why = u.why; stage = 3; key = u.at })) marginals
   unfolding third
-  third-refused k why e q ga =
-      let s : missing_from 0 (planned_marginals g factors q) ≡ refused_at k why = sym (finds q ga).tells ∙ ap refusal_in e in
+  third-refused u e q ga =
+      let s : missing_from 0 (planned_marginals g factors q) ≡ Err u = sym (finds q ga).tells ∙ e in
       rw s refl
 
-  pub third-done : (n : ℕ) (t marginals' : List Float) → r ≡ carried-pass.Done → n ≡ marginal_numbers g → t ≡ part after 0 n → marginals'
-      ≡ splice marginals 0 n t
-      → ThirdPlanned g at figure factors messages keys heads marginals (record { figure = figure; ended = Done }) marginals'
+  pub third-done : (n : ℕ) (t marginals' : List Float) → r ≡ none → n ≡ marginal_numbers g → t ≡ take n after → marginals'
+      ≡ t ++ drop n marginals
+      → ThirdPlanned g at figure factors messages keys heads marginals (Ok tt) marginals'
   unfolding third
   third-done n t marginals' e en et em q ga =
       let found : Finds (planned_marginals g factors q) (marginal_numbers g) r before after = finds q ga in
       let l : List Float = marginals_in (planned_marginals g factors q) in
-      let s : missing_from 0 (planned_marginals g factors q) ≡ none = sym found.tells ∙ ap refusal_in e in
-      let k : length l ≡ n - 0 = found.count e ∙ sym en ∙ omega arith in
-      let el : t ≡ l = et ∙ ap (take (n - 0)) (found.stand e) ∙ take_at l (drop (length l) before) (n - 0) k in
-      let em' : marginals' ≡ overlaid marginals l = em ∙ ap (λ (x : List Float). x ++ drop (n - 0) marginals) el
+      let s : missing_from 0 (planned_marginals g factors q) ≡ none = sym found.tells ∙ e in
+      let k : length l ≡ n = found.count e ∙ sym en in
+      let el : t ≡ l = et ∙ ap (take n) (found.stand e) ∙ take_at l (drop (length l) before) n k in
+      let em' : marginals' ≡ overlaid marginals l = em ∙ ap (λ (x : List Float). x ++ drop n marginals) el
       ∙ ap (λ (i : ℕ). l ++ drop i marginals) (sym k) in
       rw (s, em') refl
 
@@ -148,20 +145,19 @@ unfolding need
 need-most g ms c = omega (arith, need_to_most g ms c (length ms) (omega arith), c.few)
 
 -- where a pass was stopped is one of its messages
-pub stop-from : (i : ℕ) (vs : List Outcome) (j : ℕ) (why : Refusal) → refusal_from i vs ≡ refused_at j why → j < i + length vs
+pub stop-from : (i : ℕ) (vs : List Outcome) (u : Undone) → refusal_from i vs ≡ Err u → u.at < i + length vs
 unfolding refusal_from
-stop-from i [] j why e = absurd (let z : ◌≡◌ {A = ℕ} 0 1 = cc in omega arith)
-stop-from i (pivot ∷ vs) j why e = let z : i ≡ j = cc in omega arith
-stop-from i (not_finite ∷ vs) j why e = let z : i ≡ j = cc in omega arith
-stop-from i (message r a xi w ∷ vs) j why e = omega (arith, stop-from (i + 1) vs j why e)
+stop-from i [] u e = absurd (cc)
+stop-from i (pivot ∷ vs) u e = let z : i ≡ u.at = cc in omega arith
+stop-from i (not_finite ∷ vs) u e = let z : i ≡ u.at = cc in omega arith
+stop-from i (message r a xi w ∷ vs) u e = omega (arith, stop-from (i + 1) vs u e)
 
-pub stop-low : (g : Graph) (factors : List Float) (p : Pass) (j : ℕ) (why : Refusal) (r : Carried) → refusal_in r
-    ≡ refusal_from 0 (values g factors (messages_of p)) → r ≡ carried-pass.Refused j why → j < p.count
+pub stop-low : (g : Graph) (factors : List Float) (p : Pass) (u : Undone) → Err u ≡ refusal_from 0 (values g factors (messages_of p)) → u.at < p.count
 unfolding values
-stop-low g factors p j why r e er =
+stop-low g factors p u e =
     omega (
       arith,
-      stop-from 0 (values g factors (messages_of p)) j why (sym e ∙ ap refusal_in er),
+      stop-from 0 (values g factors (messages_of p)) u (sym e),
       values_length g factors (messages_of p) (length (messages_of p)),
       messages-length p,
     )
@@ -191,19 +187,15 @@ module _ (g : Graph) (p : Plan) (pl : Planned g p (plan_in g.variables p)) where
   forward-most = need-most g (messages_of p.forward) forwards.1
 
   -- a refused message has a step
-  pub step-forward : (factors : List Float) (j : ℕ) (why : Refusal) (r : Carried) → refusal_in r ≡ refusal_from 0 (values g factors (messages_of p.forward))
-      → r ≡ carried-pass.Refused j why
-      → (at (messages_of p.forward) j).step < g.variables
+  pub step-forward : (factors : List Float) (u : Undone) → Err u ≡ refusal_from 0 (values g factors (messages_of p.forward))
+      → (at (messages_of p.forward) u.at).step < g.variables
   unfolding plan_in
-  step-forward factors j why r et er = pl.runnable.forward_steps j
-      (omega (arith, stop-low g factors p.forward j why r et er, messages-length p.forward))
+  step-forward factors u e = pl.runnable.forward_steps u.at (omega (arith, stop-low g factors p.forward u e, messages-length p.forward))
 
-  pub step_fits : (factors : List Float) (j : ℕ) (why : Refusal) (r : Carried) → refusal_in r ≡ refusal_from 0 (values g factors (messages_of p.backward))
-      → r ≡ carried-pass.Refused j why
-      → (at (messages_of p.backward) j).step < g.variables
+  pub step_fits : (factors : List Float) (u : Undone) → Err u ≡ refusal_from 0 (values g factors (messages_of p.backward))
+      → (at (messages_of p.backward) u.at).step < g.variables
   unfolding plan_in
-  step_fits factors j why r et er = pl.runnable.backward_steps j
-      (omega (arith, stop-low g factors p.backward j why r et er, messages-length p.backward))
+  step_fits factors u e = pl.runnable.backward_steps u.at (omega (arith, stop-low g factors p.backward u e, messages-length p.backward))
 
   -- ---- with their places
   module _ (places : Places) (keys heads : List ℕ) (ready : RunReady g (plan_in g.variables p) places keys heads) where
@@ -302,40 +294,29 @@ module _ (g : Graph) (key : ℕ → ℕ) (q : schedule.Plan) (figure : ℕ) (fac
   abbrev bw : List Outcome
   bw = values g factors q.backward
 
-  pub first-refused : (after : List Float) (j k : ℕ) (why : Refusal) (r : Carried) → refusal_in r ≡ refusal_from 0 fw → r ≡ carried-pass.Refused j why → after
-      ≡ lay messages 0 (finished_numbers fw) → k ≡ key (at q.forward j).step
-      → run_verdict (refusal figure why 1 k) after marginals ≡ carried g key q figure factors messages marginals
+  pub first-refused : (after : List Float) (u : Undone) (k : ℕ) → Err u ≡ refusal_from 0 fw → after ≡ lay messages 0 (finished_numbers fw)
+      → k ≡ key (at q.forward u.at).step → run_verdict (refusal figure u.why 1 k) after marginals ≡ carried g key q figure factors messages marginals
   unfolding carried first
-  first-refused after j k why r et er ea es =
-      let s : refusal_from 0 fw ≡ refused_at j why = sym et ∙ ap refusal_in er in
-      rw (s, es, ea, laid-first messages (finished_numbers fw)) refl
+  first-refused after u k e ea es = rw (← e, es, ea, laid-first messages (finished_numbers fw)) refl
 
   -- the forward pass is through
-  module _ (forward-need : ℕ) (r₁ r₂ : Carried) (after₁ after₂ : List Float) (et₁ : refusal_in r₁ ≡ refusal_from 0 fw)
-      (et₂ : refusal_in r₂ ≡ refusal_from 0 bw) (er₁ : r₁ ≡ carried-pass.Done)
+  module _ (forward-need : ℕ) (after₁ after₂ : List Float) (through : none ≡ refusal_from 0 fw)
       (ea₁ : after₁ ≡ lay messages 0 (finished_numbers fw)) (ea₂ : after₂ ≡ lay after₁ forward-need (finished_numbers bw))
       (eh : forward-need ≡ 0 + length (finished_numbers fw)) where
-    through : refusal_from 0 fw ≡ none
-    through = sym et₁ ∙ ap refusal_in er₁
-
     both : after₂ ≡ overlaid messages (finished_numbers fw ++ finished_numbers bw)
     both = ea₂ ∙ rw ea₁ (lay-lay messages (finished_numbers fw) 0 (omega arith) (finished_numbers bw) _ eh)
         ∙ laid-first messages (finished_numbers fw ++ finished_numbers bw)
 
-    pub second-refused : (j k : ℕ) (why : Refusal) → r₂ ≡ carried-pass.Refused j why → k ≡ key (g.variables - 1 - (at q.backward j).step)
-        → run_verdict (refusal figure why 2 k) after₂ marginals ≡ carried g key q figure factors messages marginals
+    pub second-refused : (u : Undone) (k : ℕ) → Err u ≡ refusal_from 0 bw → k ≡ key (g.variables - 1 - (at q.backward u.at).step)
+        → run_verdict (refusal figure u.why 2 k) after₂ marginals ≡ carried g key q figure factors messages marginals
     unfolding carried first second
-    second-refused j k why er es =
-        let s : refusal_from 0 bw ≡ refused_at j why = sym et₂ ∙ ap refusal_in er in
-        rw (through, s, es, both) refl
+    second-refused u k e es = rw (← through, ← e, es, both) refl
 
-    pub third-told : (r : Ran) (marginals' : List Float) → r₂ ≡ carried-pass.Done → run_verdict r after₂ marginals'
+    pub third-told : (r : Result (Unit {0}) Stopped) (marginals' : List Float) → none ≡ refusal_from 0 bw → run_verdict (ran figure r) after₂ marginals'
         ≡ third figure after₂ marginals (planned_marginals g factors q) (missing_from 0 (planned_marginals g factors q))
-        → run_verdict r after₂ marginals' ≡ carried g key q figure factors messages marginals
+        → run_verdict (ran figure r) after₂ marginals' ≡ carried g key q figure factors messages marginals
     unfolding carried first second
-    third-told r marginals' er e =
-        let s : refusal_from 0 bw ≡ none = sym et₂ ∙ ap refusal_in er in
-        e ∙ rw (through, s, both) refl
+    third-told r marginals' e et = et ∙ rw (← through, ← e, both) refl
 
 -- the lengths of the stores stay
 pub enough_later : {g : Graph} {figure factors messages messages' work work' marginals : ℕ} → Enough g figure factors messages work marginals
@@ -345,14 +326,14 @@ enough_later e em ew = rw (em, ew) e
 -- ---- the tests of the stores
 
 -- long enough as the test has it, and in numbers
-pub enough-told : (g : Graph) (figure factors messages work marginals : ℕ) → stores_of g figure factors messages work marginals ≡ stores.Enough
+pub enough-told : (g : Graph) (figure factors messages work marginals : ℕ) → stores_of g figure factors messages work marginals ≡ Ok tt
     → Enough g figure factors messages work marginals
 unfolding stores_of
 enough-told g figure factors messages work marginals e = go (leb (offset g g.count) factors)
     (every (leb figure messages ∷ leb work_numbers work ∷ leb (marginal_numbers g) marginals ∷ [])) refl refl e
   where
     go : (a b : Bool) → leb (offset g g.count) factors ≡ a → every (leb figure messages ∷ leb work_numbers work ∷ leb (marginal_numbers g) marginals ∷ []) ≡ b
-        → cond (not a) (stores.Refused FactorStoreShort) (cond (not b) (stores.Refused StoreShort) stores.Enough) ≡ stores.Enough
+        → cond (not a) (Err FactorStoreShort) (cond (not b) (Err StoreShort) (Ok (tt {0}))) ≡ Ok (tt {0})
         → Enough g figure factors messages work marginals
     go true true ea eb z =
         let l : List Bool = leb figure messages ∷ leb work_numbers work ∷ leb (marginal_numbers g) marginals ∷ [] in
@@ -363,24 +344,24 @@ enough-told g figure factors messages work marginals e = go (leb (offset g g.cou
           of_marginals =
               leb-true _ _ (every-at l 2 eb);
         }
-    go true false ea eb z = absurd (let x : ◌≡◌ {A = ℕ} 0 1 = cc in omega arith)
-    go false b ea eb z = absurd (let x : ◌≡◌ {A = ℕ} 0 1 = cc in omega arith)
+    go true false ea eb z = absurd (cc)
+    go false b ea eb z = absurd (cc)
 
 -- the test is the definition's
 module _ (g : Graph) (key : ℕ → ℕ) (q : schedule.Plan) (figure : ℕ) (factors messages marginals : List Float) (work : ℕ) where
-  pub short-checked : (why : Refusal) → stores_of g figure (length factors) (length messages) work (length marginals) ≡ stores.Refused why
+  pub short-checked : (why : Refusal) → stores_of g figure (length factors) (length messages) work (length marginals) ≡ Err why
       → run_verdict (refusal figure why 1 0) messages marginals ≡ checked g key q figure factors messages work marginals
   unfolding stores_of checked
   short-checked why e = go (leb (offset g g.count) (length factors))
       (every (leb figure (length messages) ∷ leb work_numbers work ∷ leb (marginal_numbers g) (length marginals) ∷ [])) e
     where
-      go : (a b : Bool) → cond (not a) (stores.Refused FactorStoreShort) (cond (not b) (stores.Refused StoreShort) stores.Enough) ≡ stores.Refused why
+      go : (a b : Bool) → cond (not a) (Err FactorStoreShort) (cond (not b) (Err StoreShort) (Ok (tt {0}))) ≡ Err why
           → run_verdict (refusal figure why 1 0) messages marginals
           ≡ cond (not a) (refuse figure FactorStoreShort 1 0 messages marginals)
           (cond (not b) (refuse figure StoreShort 1 0 messages marginals) (carried g key q figure factors messages marginals))
       go false b z = let x : why ≡ FactorStoreShort = cc in rw x
       go true false z = let x : why ≡ StoreShort = cc in rw x
-      go true true z = absurd (let x : ◌≡◌ {A = ℕ} 0 1 = cc in omega arith)
+      go true true z = absurd (cc)
 
   pub enough-checked : Enough g figure (length factors) (length messages) work (length marginals) → carried g key q figure factors messages marginals
       ≡ checked g key q figure factors messages work marginals
@@ -425,16 +406,18 @@ all-ready g p forward-need figure keys heads keys' heads' pl eh ef fw b t bw =
 
 -- ---- the run
 
-pub made-planned : (r : calls.Arranged) (g : Graph) (order : List ℕ) → read r ≡ planned_along g order → Bounded r.keys r.plan
-    → r.outcome ≡ solver.Done → Planned g r.plan (plan_along g order)
+pub made-planned : (r : calls.Arranged) (g : Graph) (order : List ℕ) → read (Ok r) ≡ planned_along g order → Bounded r.keys r.plan
+    → Planned g r.plan (plan_along g order)
 unfolding read planned_along
-made-planned r g order e b h =
-    let of : (valid g ≡ true) × (each_once g.variables order ≡ true) = made_of g order r e h in
-    let a : read r ≡ spec.made g (plan_along g order) = e ∙ rw (of.0, of.1) refl in
-    let k : r.keys ≡ g.variables = ap (λ (x : spec.Answer). x.keys) a in
+made-planned r g order e h =
+    let of : (valid g ≡ true) × (each_once g.variables order ≡ true) = made_of g order r e in
+    let a : read (Ok r) ≡ spec.made g (plan_along g order) = e ∙ rw (of.0, of.1) refl in
+    let b : ◌≡◌ {A = spec.Answer} (record { keys = r.keys; plan = plan_in r.keys r.plan }) (record { keys = g.variables; plan = plan_along g order }) = cc in
+    let k : r.keys ≡ g.variables = ap (λ (x : spec.Answer). x.keys) b in
+    let q : plan_in r.keys r.plan ≡ plan_along g order = ap (λ (x : spec.Answer). x.plan) b in
     record {
-      bounded = subst (λ (n : ℕ). Bounded n r.plan) k b;
-      is = ap (λ (n : ℕ). plan_in n r.plan) (sym k) ∙ ap (λ (x : spec.Answer). x.plan) a;
+      bounded = subst (λ (n : ℕ). Bounded n r.plan) k h;
+      is = ap (λ (n : ℕ). plan_in n r.plan) (sym k) ∙ q;
       runnable = along-runnable g order of.0 of.1;
     }
 

@@ -15,7 +15,8 @@ use Rattle.graph.specs.declared.refusal.Refusal.TheVariants.{FactorStoreShort, S
 use Rattle.schedule.specs.Pass.{ClosedFactor}
 use Rattle.schedule.specs.Plan as schedule
 use Rattle.workspace.specs.Frames.{work_numbers}
-use Rattle.messages.specs.Values.{FirstRefusal, none, refused_at, overlaid}
+use Rattle.messages.specs.Values.{FirstRefusal, overlaid}
+use Rattle.std.proofs.Common.{Ok, Err}
 use Rattle.marginals.specs.Marginals.{Found, marginal_numbers, marginals_in}
 use Rattle.solver.specs.Run.{RunVerdict, refuse, third, second, first, carried, checked, figure_of, run}
 use Rattle.solver.specs.Plan.{graph_plan}
@@ -37,20 +38,20 @@ module _ (m m' r r' : List Float) where
 
   thirds : (figure : ℕ) (n n' : List Float) (all : List Found) (s : FirstRefusal) → Alike r r' (third figure n r all s) (third figure n' r' all s)
   unfolding third
-  thirds figure n n' all none = record { answers = refl; found = marginals_in all; laid = refl; laid' = refl }
-  thirds figure n n' all (refused_at k why) = refusals figure why 3 k n n'
+  thirds figure n n' all (Ok _) = record { answers = refl; found = marginals_in all; laid = refl; laid' = refl }
+  thirds figure n n' all (Err u) = refusals figure u.why 3 u.at n n'
 
   seconds : (figure k : ℕ) (key : ℕ → ℕ) (bw : List ClosedFactor) (n n' : List Float) (s : FirstRefusal) (v v' : RunVerdict) → Alike r r' v v'
       → Alike r r' (second figure k key bw n r s v) (second figure k key bw n' r' s v')
   unfolding second
-  seconds figure k key bw n n' none v v' a = a
-  seconds figure k key bw n n' (refused_at j why) v v' a = refusals figure why 2 _ n n'
+  seconds figure k key bw n n' (Ok _) v v' a = a
+  seconds figure k key bw n n' (Err u) v v' a = refusals figure u.why 2 _ n n'
 
   firsts : (figure : ℕ) (key : ℕ → ℕ) (fw : List ClosedFactor) (n n' : List Float) (s : FirstRefusal) (v v' : RunVerdict) → Alike r r' v v'
       → Alike r r' (first figure key fw n r s v) (first figure key fw n' r' s v')
   unfolding first
-  firsts figure key fw n n' none v v' a = a
-  firsts figure key fw n n' (refused_at j why) v v' a = refusals figure why 1 _ n n'
+  firsts figure key fw n n' (Ok _) v v' a = a
+  firsts figure key fw n n' (Err u) v v' a = refusals figure u.why 1 _ n n'
 
   carries : (g : Graph) (key : ℕ → ℕ) (p : schedule.Plan) (figure : ℕ) (factors : List Float)
       → Alike r r' (carried g key p figure factors m r) (carried g key p figure factors m' r')

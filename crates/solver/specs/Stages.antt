@@ -1,8 +1,9 @@
 -- Inner: between the functions of a run: what each asks for, and what each comes to.
-use Rattle.std.specs.Prelude.{◌≡◌, not, cond, List, [], ◌∷◌, ℕ, ◌+◌, ◌≤◌, ◌<◌, leb, length, get_or, Float}
+use Rattle.std.specs.Prelude.{◌≡◌, not, cond, List, [], ◌∷◌, ℕ, ◌+◌, ◌≤◌, ◌<◌, leb, length, get_or, Float, Result, Ok, Err}
 use Rattle.factor.specs.Counting.{every}
 use Rattle.graph.specs.Record.{offset, factor_keys}
 use Rattle.graph.specs.declared.Graph.{Graph}
+use Rattle.graph.specs.declared.refusal.Refusal.{Refusal}
 use Rattle.graph.specs.declared.refusal.Refusal.TheVariants.{FactorStoreShort, StoreShort}
 use Rattle.schedule.specs.Count.{from}
 use Rattle.schedule.specs.Pass.{at}
@@ -21,8 +22,7 @@ use Rattle.marginals.specs.Marginals.{marginal_numbers, planned_marginals, missi
 use Rattle.solver.specs.Run.{third, run_verdict}
 use Rattle.solver.specs.declared.run.Places.{Places}
 use Rattle.solver.specs.declared.run.Ran.{Ran}
-use Rattle.solver.specs.declared.run.Stores.{Stores}
-use Rattle.solver.specs.declared.run.Stores.TheVariants as stores
+use Rattle.solver.specs.declared.run.Stopped.{Stopped}
 use Rattle.solver.specs.declared.Arranged.{Arranged}
 use Rattle.solver.specs.Plan.{Answer}
 
@@ -59,18 +59,23 @@ pub record Enough (g : Graph) (figure factors messages work marginals : ℕ) : T
   pub of_marginals : marginal_numbers g ≤ marginals
 
 -- whether they are
-unfoldable pub stores_of : Graph → (figure factors messages work marginals : ℕ) → Stores
+unfoldable pub stores_of : Graph → (figure factors messages work marginals : ℕ) → Result (Unit {0}) Refusal
 stores_of g figure factors messages work marginals =
-    cond (not (leb (offset g g.count) factors)) (stores.Refused FactorStoreShort)
-    (cond (not (every (leb figure messages ∷ leb work_numbers work ∷ leb (marginal_numbers g) marginals ∷ []))) (stores.Refused StoreShort) stores.Enough)
+    cond (not (leb (offset g g.count) factors)) (Err FactorStoreShort)
+    (cond (not (every (leb figure messages ∷ leb work_numbers work ∷ leb (marginal_numbers g) marginals ∷ []))) (Err StoreShort) (Ok tt))
+
+-- an end with its figure beside it
+abbrev pub ran : (figure : ℕ) → Result (Unit {0}) Stopped → Ran
+ran figure ended = record { figure = figure; ended = ended }
 
 -- what stage 3 comes to, for every plan whose messages stand in these tables and stores
 abbrev pub ThirdPlanned : (g : Graph) (at : List arrays.Gathered) (figure : ℕ) (factors messages : List Float) (keys heads : List ℕ)
-    (before : List Float) (r : Ran) (after : List Float) → Type 0
+    (before : List Float) (r : Result (Unit {0}) Stopped) (after : List Float) → Type 0
 ThirdPlanned g at figure factors messages keys heads before r after =
     (q : schedule.Plan) → PlanCarried g q at factors messages keys heads
-    → run_verdict r messages after ≡ third figure messages before (planned_marginals g factors q) (missing_from 0 (planned_marginals g factors q))
+    → run_verdict (ran figure r) messages after ≡ third figure messages before (planned_marginals g factors q) (missing_from 0 (planned_marginals g factors q))
 
 -- what the arrays of an answer hold
-unfoldable pub read : Arranged → Answer
-read r = record { outcome = r.outcome; keys = r.keys; plan = plan_in r.keys r.plan }
+unfoldable pub read : Result Arranged Refusal → Result Answer Refusal
+read (Ok r) = Ok (record { keys = r.keys; plan = plan_in r.keys r.plan })
+read (Err why) = Err why

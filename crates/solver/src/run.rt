@@ -1,5 +1,5 @@
 // A run: the plan of a graph, carried out over lent stores.
-ghost use Rattle.std.specs.Prelude.{◌≡◌, true, ◌+◌, ◌*◌, ◌<◌, ◌≤◌, length};
+ghost use Rattle.std.specs.Prelude.{◌≡◌, true, ℕ, ◌+◌, ◌*◌, ◌<◌, ◌≤◌, length};
 ghost use Rattle.factor.specs.Limits.{max_variables};
 ghost use Rattle.graph.specs.Record.{valid};
 ghost use Rattle.plan.specs.Pass.{PassReady, messages_of};
@@ -13,34 +13,33 @@ ghost use Rattle.solver.specs.Stages as stages;
 ghost use Rattle.solver.specs.Told.{ran_told};
 ghost use Rattle.solver.specs.Run.{run_verdict};
 
-use crate::Outcome;
 use factor::limits::{FACTORS, KEYS, SIZE, TOTAL, VARIABLES};
-use factor::lists::least;
-use factor::wide;
 use graph::Graph;
 use graph::refusal::Refusal;
 use lists::BACKWARD;
 use marginals::find_marginals;
-use messages::{Carried, carry_pass, place_pass};
+use messages::{carry_pass, place_pass};
 use plan::gather::Gathered;
 use plan::pass::Pass;
 use plan::plan::{Plan, rise};
 use slots::limits::HEAD;
+use slots::{Sources, Tables};
 use tables::fill_originals;
-use workspace::{WORK, copy};
+use workspace::WORK;
 
-// How a run ended: with a mean and a covariance for each key, or refused, with the stage and the key.
-#[derive(Drop)]
-pub enum Ended {
-    Done,
-    Refused(Refusal, usize, usize),
+// Why a run was refused, in which stage and at which key.
+#[derive(Clone, Copy)]
+pub struct Stopped {
+    pub why: Refusal,
+    pub stage: usize,
+    pub key: usize,
 }
 
-// How many numbers the messages take, and how the run ended.
+// How many numbers the messages take, and how the run ended: with a mean and a covariance for each key, or refused.
 #[derive(Drop)]
 pub struct Ran {
     pub figure: usize,
-    pub ended: Ended,
+    pub ended: Result<(), Stopped>,
 }
 
 // How many numbers of the message store the forward messages need, after which the backward ones follow; and the figure, the need of both together.
@@ -48,13 +47,6 @@ pub struct Ran {
 struct Places {
     forward: usize,
     figure: usize,
-}
-
-// Whether the stores are long enough for a run.
-#[derive(Drop)]
-enum Stores {
-    Enough,
-    Refused(Refusal),
 }
 
 // The lengths of the tables: a head for each slot; the keys of an original and of a message.
@@ -65,12 +57,16 @@ const LISTED: usize = KEYS * FACTORS + VARIABLES * (2 * BACKWARD);
 // No graph has more numbers in its means and covariances.
 const RESULTS: usize = TOTAL + SIZE * TOTAL;
 
-fn refused(figure: usize, why: Refusal, stage: usize, key: usize) -> Ran
-    ensures { result ≡ spec.refusal figure why stage key }
-{
-    Ran {
-        figure,
-        ended: Ended::Refused(why, stage, key),
+// A refusal before any message is told in stage 1, with key 0.
+impl From<Refusal> for Stopped {
+    ghost from_gives = { λ why s. s ≡ record { why = why; stage = 1; key = 0 } };
+
+    fn from(why: Refusal) -> Stopped {
+        Stopped {
+            why,
+            stage: 1,
+            key: 0,
+        }
     }
 }
 
@@ -79,10 +75,9 @@ fn marginal_numbers(g: Graph) -> usize
     requires { valid g ≡ true }
     ensures { (result ≡ marginal_numbers g) × (result ≤ 224) }
 {
-    let sizes = g.sizes;
     let mut sum = 0;
-    for key in 0..VARIABLES {
-        let s = factor::size_of(sizes, key);
+    for &size in &g.sizes {
+        let s = usize::from(size);
         sum += s + s * s;
     }
     sum
@@ -93,7 +88,7 @@ fn step_of(p: Pass, j: usize) -> usize
     requires { PassReady max_variables p × (j < p.count) }
     ensures { result ≡ (at (messages_of p) j).step }
 {
-    p.steps[j] as usize
+    usize::from(p.steps[j])
 }
 
 // The messages of a plan get their places in the tables and in the message store.
@@ -121,125 +116,136 @@ fn check_stores(
     messages: usize,
     work: usize,
     marginals: usize,
-) -> Stores
+) -> Result<(), Refusal>
     requires { valid g ≡ true }
     ensures { result ≡ stages.stores_of g figure factors messages work marginals }
 {
     let n = g.count;
     if factors < g.offset(n) {
-        return Stores::Refused(Refusal::FactorStoreShort);
+        return Err(Refusal::FactorStoreShort);
     }
     if messages < figure {
-        return Stores::Refused(Refusal::StoreShort);
+        return Err(Refusal::StoreShort);
     }
     if work < WORK {
-        return Stores::Refused(Refusal::StoreShort);
+        return Err(Refusal::StoreShort);
     }
     if marginals < marginal_numbers(g) {
-        return Stores::Refused(Refusal::StoreShort);
+        return Err(Refusal::StoreShort);
     }
-    Stores::Enough
+    Ok(())
 }
 
 // Stage 3: the marginals of all keys are found, and only then stored.
 fn third_stage<'a>(
     g: Graph,
     at: [Gathered; VARIABLES],
-    figure: usize,
-    factors: &'a [f64],
-    messages: &'a [f64],
+    s: Sources<'a>,
     work: &mut [f64],
-    keys: &[usize],
-    heads: &[usize],
     marginals: &mut [f64],
-) -> Ran
-    requires { Findable g at factors.now messages.now (length work.old) keys.now heads.now (length marginals.old) }
-    ensures { stages.ThirdPlanned g at figure factors.now messages.now keys.now heads.now
+) -> Result<(), Stopped>
+    requires { Findable g at s.factors.now s.messages.now (length work.old) s.tables.keys.now s.tables.heads.now (length marginals.old) }
+    ensures { (figure : ℕ) → stages.ThirdPlanned g at figure s.entry.factors.now s.entry.messages.now s.entry.tables.keys.now s.entry.tables.heads.now
         marginals.old result marginals.new }
 {
     let mut results = [0.0; RESULTS];
-    match find_marginals(g, at, factors, messages, work, keys, heads, &mut results) {
-        Carried::Done => {}
-        Carried::Refused(k, why) => return refused(figure, why, 3, k),
+    if let Err(u) = find_marginals(g, at, s, work, &mut results) {
+        return Err(Stopped {
+            why: u.why,
+            stage: 3,
+            key: u.at,
+        });
     }
     let n = marginal_numbers(g);
-    copy(&mut marginals[0..n], &results[0..n]);
-    Ran {
-        figure,
-        ended: Ended::Done,
-    }
-}
-
-// The key at a place of the order.
-fn key_at(order: &[u8], place: usize) -> usize
-    requires { place < length order.now }
-    ensures { result ≡ spec.key_at order.now place }
-{
-    wide(order[place])
+    marginals[..n].copy_from_slice(&results[..n]);
+    Ok(())
 }
 
 // The plan is carried out: the forward pass, the backward pass, the marginals. The forward pass follows the order, the backward pass reverses it: its step t
 // is the key at the place n - 1 - t.
-fn carry_out(
+fn carry_out<'a>(
     g: Graph,
     order: &[u8],
     p: Plan,
     places: Places,
-    factors: &[f64],
+    factors: &'a [f64],
     messages: &mut [f64],
     work: &mut [f64],
-    keys: &[usize],
-    heads: &[usize],
+    tables: Tables<'a>,
     marginals: &mut [f64],
-) -> Ran
-    requires planned { stages.Planned g p (plan_in g.variables p) × stages.RunReady g (plan_in g.variables p) places keys.now heads.now }
+) -> Result<(), Stopped>
+    requires planned { stages.Planned g p (plan_in g.variables p) × stages.RunReady g (plan_in g.variables p) places tables.keys.now tables.heads.now }
     requires enough { stages.Enough g places.figure (length factors.now) (length messages.old) (length work.old) (length marginals.old) }
     requires order_len { length order.now ≡ g.variables }
-    ensures { run_verdict result messages.new marginals.new ≡
+    ensures { run_verdict (stages.ran places.figure result) messages.new marginals.new ≡
         spec.carried g (spec.key_at order.now) (plan_in g.variables p) places.figure factors.now messages.old
         marginals.old }
 {
-    let n = g.variables;
     let fw = p.forward;
     let bw = p.backward;
-    let at = p.at;
-    let forward_need = places.forward;
-    let figure = places.figure;
-    match carry_pass(g, fw, 0, 0, factors, messages, work, keys, heads) {
-        Carried::Done => {}
-        Carried::Refused(j, why) => return refused(figure, why, 1, key_at(order, step_of(fw, j))),
+    if let Err(u) = carry_pass(g, fw, 0, 0, factors, messages, work, tables) {
+        let key = usize::from(order[step_of(fw, u.at)]);
+        return Err(Stopped {
+            why: u.why,
+            stage: 1,
+            key,
+        });
     }
-    match carry_pass(
-        g,
-        bw,
-        BACKWARD,
-        forward_need,
-        factors,
-        messages,
-        work,
-        keys,
-        heads,
-    ) {
-        Carried::Done => {}
-        Carried::Refused(j, why) => {
-            return refused(figure, why, 2, key_at(order, n - 1 - step_of(bw, j)));
-        }
+    let start = places.forward;
+    if let Err(u) = carry_pass(g, bw, BACKWARD, start, factors, messages, work, tables) {
+        let key = usize::from(order[g.variables - 1 - step_of(bw, u.at)]);
+        return Err(Stopped {
+            why: u.why,
+            stage: 2,
+            key,
+        });
     }
-    third_stage(
-        g,
-        at,
-        figure,
+    let s = Sources {
         factors,
-        &messages[..],
-        work,
-        keys,
-        heads,
-        marginals,
+        messages: &messages[..],
+        tables,
+    };
+    third_stage(g, p.at, s, work, marginals)
+}
+
+// The stages of a run: the plan is made and placed, which gives the figure; the stores are tested; then both passes and the marginals are
+// carried out. The figure stays 0 where no plan is made.
+fn all_stages(
+    g: Graph,
+    order: &[u8],
+    figure: &mut usize,
+    factors: &[f64],
+    messages: &mut [f64],
+    work: &mut [f64],
+    marginals: &mut [f64],
+) -> Result<(), Stopped>
+    requires { figure.old ≡ 0 }
+    ensures { run_verdict (stages.ran figure.new result) messages.new marginals.new ≡
+        spec.run_along g order.now factors.now messages.old (length work.old) marginals.old }
+{
+    let p = crate::arrange_along(g, order)?.plan;
+    let mut keys = [0; LISTED];
+    let mut heads = [0; HEADS];
+    let places = place_plan(g, p, &mut keys, &mut heads);
+    *figure = places.figure;
+    check_stores(
+        g,
+        places.figure,
+        factors.len(),
+        messages.len(),
+        work.len(),
+        marginals.len(),
+    )?;
+    let tables = Tables {
+        keys: &keys,
+        heads: &heads,
+    };
+    carry_out(
+        g, order, p, places, factors, messages, work, tables, marginals,
     )
 }
 
-// The run of a graph along a lent order of its keys: its plan is made and placed, which gives the figure; the stores are tested; then both
-// passes and the marginals are carried out. Each refusal comes with the figure, the stage and the key.
+// The run of a graph along a lent order of its keys. Each refusal comes with the figure, the stage and the key.
 pub fn run_along(
     g: Graph,
     order: &[u8],
@@ -253,31 +259,9 @@ pub fn run_along(
     ensures result_value { ran_told result ≡ ran_told (spec.run_along g order.now factors.now messages.old
         (length work.old) marginals.old).answer }
 {
-    let made = crate::arrange_along(g, order);
-    let outcome = made.outcome;
-    match outcome {
-        Outcome::Refused(why) => return refused(0, why, 1, 0),
-        Outcome::Done => {}
-    }
-    let p = made.plan;
-    let mut keys = [0; LISTED];
-    let mut heads = [0; HEADS];
-    let places = place_plan(g, p, &mut keys, &mut heads);
-    let figure = places.figure;
-    match check_stores(
-        g,
-        figure,
-        factors.len(),
-        messages.len(),
-        work.len(),
-        marginals.len(),
-    ) {
-        Stores::Enough => {}
-        Stores::Refused(why) => return refused(figure, why, 1, 0),
-    }
-    carry_out(
-        g, order, p, places, factors, messages, work, &keys, &heads, marginals,
-    )
+    let mut figure = 0;
+    let ended = all_stages(g, order, &mut figure, factors, messages, work, marginals);
+    Ran { figure, ended }
 }
 
 // The same with keys rising.
@@ -297,7 +281,7 @@ pub fn run(
     rise(&mut order);
     run_along(
         g,
-        &order[0..least(VARIABLES, g.variables)],
+        &order[..g.variables.min(VARIABLES)],
         factors,
         messages,
         work,

@@ -1,24 +1,17 @@
 -- Inner: what is known of a reading. No contract can say which bytes a file or a terminal gives.
-use Rattle.std.specs.Prelude.{ℕ, zero, suc, ◌<◌, ◌≤◌, Result, Ok, Err}
-use Rattle.streams.specs.declared.Input.{Input}
-use Rattle.streams.specs.declared.Input.TheVariants as input
-use Rattle.streams.specs.declared.Chunk.{Chunk}
-use Rattle.streams.specs.declared.Chunk.TheVariants as chunk
+use Rattle.std.specs.Prelude.{ℕ, ◌≤◌, ◌<◌, List, Option, Result, IfOk, length}
+use Rattle.std.specs.Io.{ReadsAtMost}
+use Rattle.std.specs.Io.KnownBytes.{ReadConsumes, IsAtEnd}
 
--- an input that ended did so within the room: a full room is told as such
-abbrev pub InputWithin : Input → ℕ → Type 0
-InputWithin (input.Ended n) room = n < room
-InputWithin input.Full room = Unit {0}
-InputWithin input.Failed room = Unit {0}
+-- an input that was read was read within the room
+abbrev pub InputWithin : {E : Type 0} → Result ℕ E → ℕ → Type 0
+InputWithin result room = IfOk result (λ n. n ≤ room)
 
--- one read moves some bytes, and no more than there is room for
-abbrev pub Moved : Chunk → ℕ → Type 0
-Moved (chunk.Bytes n) room = (0 < n) × (n ≤ room)
-Moved chunk.End room = Unit {0}
-Moved chunk.Failed room = Unit {0}
+-- one read moves no more bytes than there is room for. An error is a failure, which moves nothing, and 0 the end of the input; the bytes that are left
+-- are known of a reader over memory alone.
+abbrev pub Moved : {E : Type 0} → Option (List ℕ) → Option (List ℕ) → Result ℕ E → List ℕ → Type 0
+Moved before after result room = ReadsAtMost result room × ReadConsumes before after result room
 
--- what the answer of a read says: an error, a failure; 0, the end of the input; otherwise how many bytes it moved
-abbrev pub chunk_of : {E : Type 0} → Result ℕ E → Chunk
-chunk_of (Err e) = chunk.Failed
-chunk_of (Ok zero) = chunk.End
-chunk_of (Ok (suc k)) = chunk.Bytes (suc k)
+-- bytes that fill the room, or that end the input
+abbrev pub IsWhole : List ℕ → ℕ → Option (List ℕ) → Type 0
+IsWhole bytes room left = (length bytes ≤ room) × (length bytes < room → IsAtEnd left)

@@ -1,155 +1,178 @@
 // A program's input and output: the end of the input is told from a read that failed, and text that could not be written is told too.
 #![tactic(auto)]
 
-ghost use Rattle.std.specs.Prelude.{◌≤◌, ◌<◌, length, ◌≡◌};
+ghost use Rattle.std.specs.Prelude.{◌≤◌, ◌<◌, ◌^◌, ◌-◌, ℕ, List, [], ◌∷◌, ◌++◌, false, length, OnOk, IfOk, IfSome};
+ghost use Rattle.std.specs.Fmt.{decimal, digits, padded_integral, format_spec};
+ghost use Rattle.std.specs.Fn.{FnOnceReturnsAt};
+ghost use Rattle.std.specs.Io.KnownBytes.{Appends, IsAtEnd};
 ghost use Rattle.streams.specs.Reading as spec;
 
 use std::io;
-use std::io::{Read, Write};
+use std::io::{ErrorKind, Read, Write};
 
-// The input ended after so many bytes; or the room is full, and what follows was not read; or a read failed.
-#[derive(Drop)]
-pub enum Input {
-    Ended(usize),
-    Full,
-    Failed,
-}
-
-// One read: so many bytes, the end of the input, or a failure.
-#[derive(Drop)]
-enum Chunk {
-    Bytes(usize),
-    End,
-    Failed,
-}
-
-// What the answer of a read says: an error is a failure, 0 the end of the input.
-fn chunk_of(got: io::Result<usize>) -> Chunk
-    ensures { result ≡ spec.chunk_of got }
-{
-    let Ok(n) = got else {
-        return Chunk::Failed;
-    };
-    if n == 0 {
-        return Chunk::End;
-    }
-    Chunk::Bytes(n)
-}
-
-// A failed read is tried again, up to this many reads in all. A read that a signal interrupted before it moved a byte fails like any other, and
-// the reason of a failure isn't looked at. A failed read moves nothing, so no byte is lost or read twice.
+// A failed read of `read_all` is tried again, up to this many reads in all. A read that a signal interrupted before it moved a byte fails like any other,
+// and the reason of a failure isn't looked at. A failed read moves nothing, so no byte is lost or read twice.
 const TRIES: usize = 16;
 
-fn read_chunk<R: Read>(input: &mut R, room: &mut [u8]) -> Chunk
-    requires { 0 < length room.old }
-    ensures { spec.Moved result (length room.old) }
+// One read, tried again where it failed, up to `tries` reads in all.
+fn read_chunk<R: Read>(input: &mut R, room: &mut [u8], tries: usize) -> io::Result<usize>
+    ensures { spec.Moved (R.remaining input.old) (R.remaining input.new) result room.new }
 {
-    for _ in 0..TRIES {
-        let got = input.read(room);
-        match chunk_of(got) {
-            Chunk::Bytes(n) => return Chunk::Bytes(n),
-            Chunk::End => return Chunk::End,
-            Chunk::Failed => {}
+    for _ in 1..tries {
+        if let Ok(n) = input.read(room) {
+            return Ok(n);
         }
     }
-    Chunk::Failed
+    input.read(room)
 }
 
-// Reads until the input ends, the room is full or a read fails.
-pub fn read_all<R: Read>(input: &mut R, room: &mut [u8]) -> Input
-    ensures { spec.InputWithin result (length room.new) }
+// Reads until the room is full, the input ends or a read fails. `done` counts the bytes at the start of the room, before a failed read too.
+fn read_room<R: Read>(
+    input: &mut R,
+    room: &mut [u8],
+    tries: usize,
+    done: &mut usize,
+) -> io::Result<()>
+    requires { done.old ≤ length room.old }
+    ensures within { done.new ≤ length room.new }
+    ensures end { OnOk result (done.new < length room.new → IsAtEnd (R.remaining input.new)) }
+{
+    while *done < room.len() {
+        match read_chunk(input, &mut room[*done..], tries)? {
+            0 => return Ok(()),
+            n => *done += n,
+        }
+    }
+    Ok(())
+}
+
+// Reads until the input ends or the room is full, and answers how many bytes it put at the start of the room; or a read failed.
+pub fn read_all<R: Read>(input: &mut R, room: &mut [u8]) -> io::Result<usize>
+    ensures within { spec.InputWithin result (length room.new) }
+    ensures end { IfOk result (λ n. n < length room.new → IsAtEnd (R.remaining input.new)) }
 {
     let mut done = 0;
-    while done < room.len() {
-        match read_chunk(input, &mut room[done..]) {
-            Chunk::Bytes(n) => {
-                done += n;
-            }
-            Chunk::End => return Input::Ended(done),
-            Chunk::Failed => return Input::Failed,
-        }
-    }
-    Input::Full
-}
-
-// Writes all of a text, or stops at the first write that takes nothing or fails. The answer is whether all was written.
-pub fn write_all<W: Write>(output: &mut W, text: &[u8]) -> bool {
-    let mut done = 0;
-    while done < text.len() {
-        match output.write(&text[done..]) {
-            Ok(0) => return false,
-            Ok(n) => {
-                done += n;
-            }
-            Err(_) => return false,
-        }
-    }
-    true
-}
-
-// Writes a number in decimal, with no line end. The answer is whether all was written.
-pub fn write_decimal<W: Write>(output: &mut W, n: u64) -> bool {
-    write!(output, "{n}").is_ok()
-}
-
-// Writes a number as 16 hexadecimal digits in lower case, with no line end. The answer is whether all was written.
-pub fn write_hex<W: Write>(output: &mut W, n: u64) -> bool {
-    write!(output, "{n:016x}").is_ok()
-}
-
-// Writes a text to standard output. If not all of it could be written, the complaint goes to standard error.
-pub fn print<O: Write, E: Write>(output: &mut O, error: &mut E, text: &[u8], complaint: &[u8]) {
-    if !write_all(output, text) {
-        write_all(error, complaint);
-    }
-}
-
-// The room that a counted text needs, and the answer where there is none: more bytes than two bytes can count.
-pub const COUNTED: usize = 65536;
-
-fn wide(x: u8) -> usize
-    ensures { result < 256 }
-{
-    x as usize
+    read_room(input, room, TRIES, &mut done)?;
+    Ok(done)
 }
 
 // Reads until the room is full, the input ends or a read fails. The answer is how many bytes it put at the start of the room.
+// `Read::read_exact` would try an interrupted read again, and doesn't say how many bytes it read.
 pub fn read_full<R: Read>(input: &mut R, room: &mut [u8]) -> usize
     ensures { result ≤ length room.new }
 {
     let mut done = 0;
-    while done < room.len() {
-        match input.read(&mut room[done..]) {
-            Ok(0) => return done,
-            Ok(n) => {
-                done += n;
-            }
-            Err(_) => return done,
-        }
-    }
+    let _ = read_room(input, room, 1, &mut done);
     done
 }
 
-// The first n bytes of the room are read, or as many as there are.
-fn fill<R: Read>(input: &mut R, room: &mut [u8], n: usize) -> usize
-    requires { n ≤ length room.old }
+// Writes all of a text, or stops at the first write that takes nothing or fails. `Write::write_all` would try an interrupted write again.
+pub fn write_all<W: Write>(output: &mut W, text: &[u8]) -> io::Result<()>
+    ensures { OnOk result (Appends (W.contents output.old) (W.contents output.new) text.now) }
 {
-    read_full(input, &mut room[0..n])
+    let mut rest = text;
+    while !rest.is_empty() {
+        match output.write(rest)? {
+            0 => return Err(io::Error::from(ErrorKind::WriteZero)),
+            n => rest = &rest[n..],
+        }
+    }
+    Ok(())
 }
 
+// Writes a number in decimal, with no line end.
+pub fn write_decimal<W: Write>(output: &mut W, n: u64) -> io::Result<()>
+    ensures { OnOk result (Appends (W.contents output.old) (W.contents output.new) (decimal n)) }
+{
+    write!(output, "{n}")
+}
+
+// Writes a number as 16 hexadecimal digits in lower case, with no line end.
+pub fn write_hex<W: Write>(output: &mut W, n: u64) -> io::Result<()>
+    ensures { OnOk result (Appends (W.contents output.old) (W.contents output.new)
+        (padded_integral (format_spec 32 0 4 16 (2 ^ 64 - 1)) false [] (digits 16 false n))) }
+{
+    write!(output, "{n:016x}")
+}
+
+// Writes a text to standard output. If not all of it could be written, the complaint goes to standard error.
+pub fn print<O: Write, E: Write>(output: &mut O, error: &mut E, text: &[u8], complaint: &[u8]) {
+    if write_all(output, text).is_err() {
+        let _ = write_all(error, complaint);
+    }
+}
+
+// Writes a word and a number. The number is tried even if the word failed: what a program went on to print is compared.
+pub fn print_named<W: Write>(output: &mut W, word: &[u8], number: usize) -> io::Result<()>
+    ensures { OnOk result (Appends (W.contents output.old) (W.contents output.new) (word.now ++ decimal number)) }
+{
+    let first = write_all(output, word);
+    let second = write_decimal(output, number as u64);
+    first.and(second)
+}
+
+// Writes the number of a case on a line of its own, and below it the case's text; each write is tried, as in `print_named`.
+pub fn print_numbered<W: Write>(output: &mut W, number: usize, text: &[u8]) -> io::Result<()>
+    ensures { OnOk result (Appends (W.contents output.old) (W.contents output.new) (decimal number ++ 10 ∷ text.now)) }
+{
+    let first = write_decimal(output, number as u64);
+    let second = write_all(output, b"\n");
+    let third = write_all(output, text);
+    first.and(second).and(third)
+}
+
+// The room that a counted text needs: more bytes than two bytes can count.
+pub const COUNTED: usize = 65536;
+
 // The next text of the input that stands behind the count of its bytes, which takes two bytes, the lower one first. The answer is
-// that count, or COUNTED where no whole text follows.
-pub fn read_counted<R: Read>(input: &mut R, room: &mut [u8]) -> usize
+// that count, or None where no whole text follows.
+pub fn read_counted<R: Read>(input: &mut R, room: &mut [u8]) -> Option<usize>
     requires { 65536 ≤ length room.old }
-    ensures { result ≤ 65536 }
+    ensures { IfSome result (λ n. n < 65536) }
 {
     let mut head = [0u8; 2];
-    if read_full(input, &mut head) < 2 {
-        return COUNTED;
+    if read_full(input, &mut head) < head.len() {
+        return None;
     }
-    let n = wide(head[0]) + 256 * wide(head[1]);
-    if fill(input, room, n) < n {
-        return COUNTED;
+    let n = usize::from(u16::from_le_bytes(head));
+    if read_full(input, &mut room[..n]) < n {
+        return None;
     }
-    n
+    Some(n)
+}
+
+// Hands each counted text of the input in turn to `visit`, with its number from 0, and answers how many it handed on. It ends where no whole text follows,
+// where `visit` answers None, and after `most` texts.
+pub fn each_counted<R: Read, F: FnMut(usize, &[u8]) -> Option<()>>(
+    input: &mut R,
+    most: usize,
+    mut visit: F,
+) -> usize
+    requires { F.IsAlwaysCallable visit }
+    ensures { result ≤ most }
+{
+    let mut room = [0u8; COUNTED];
+    for number in 0..most {
+        let Some(n) = read_counted(input, &mut room) else {
+            return number;
+        };
+        if visit(number, &room[..n]).is_none() {
+            return number + 1;
+        }
+    }
+    most
+}
+
+// What `answer` makes of all of the input that the room takes; or a read failed, and part of the input might be missing.
+pub fn answer_all<R: Read, T, F: FnOnce(&[u8]) -> T>(
+    input: &mut R,
+    room: &mut [u8],
+    answer: F,
+) -> io::Result<T>
+    requires { F.IsAlwaysCallable answer }
+    ensures { IfOk result (λ t. (bytes : List ℕ) × spec.IsWhole bytes (length room.new) (R.remaining input.new)
+        × FnOnceReturnsAt F.FnOnce answer bytes t) }
+{
+    let n = read_all(input, room)?;
+    Ok(answer(&room[..n]))
 }

@@ -1,7 +1,7 @@
 // The heads and the keys of a graph's factors in lent tables, as an elimination of slots reads them.
 #![tactic(auto)]
 
-ghost use Rattle.std.specs.Prelude.{◌≡◌, true, cond, ◌+◌, ◌*◌, ◌<◌, ◌≤◌, length};
+ghost use Rattle.std.specs.Prelude.{◌≡◌, true, ◌+◌, ◌*◌, ◌<◌, ◌≤◌, length};
 ghost use Rattle.factor.specs.Limits.{max_factors, max_keys};
 ghost use Rattle.factor.specs.Factor.{lay};
 ghost use Rattle.graph.specs.Record.{valid};
@@ -9,17 +9,10 @@ ghost use Rattle.slots.specs.Limits.{numbers_per_head};
 ghost use Rattle.tables.specs.Originals.{width_of};
 ghost use Rattle.tables.specs.Heads.{Originals, with_head};
 
+use factor::Factor;
 use factor::limits::{KEYS, VARIABLES};
-use factor::{Factor, wide};
 use graph::Graph;
 use slots::limits::HEAD;
-
-// 1 for a prior.
-fn mark(prior: bool) -> usize
-    ensures { result ≡ cond prior 1 0 }
-{
-    if prior { 1 } else { 0 }
-}
 
 // The head of the slot of a number.
 pub fn put_head(
@@ -36,7 +29,7 @@ pub fn put_head(
     ensures { heads.new ≡ with_head heads.old number prior at rows width first count }
 {
     let p = HEAD * number;
-    heads[p] = mark(prior);
+    heads[p] = usize::from(prior);
     heads[p + 1] = at;
     heads[p + 2] = rows;
     heads[p + 3] = width;
@@ -49,8 +42,8 @@ fn put_keys(keys: &mut [usize], first: usize, f: Factor)
     requires { first + max_keys ≤ length keys.old }
     ensures { (keys.new ≡ lay keys.old first f.keys) × (length f.keys ≡ max_keys) }
 {
-    for place in 0..KEYS {
-        keys[first + place] = wide(f.keys[place]);
+    for (place, &key) in f.keys.iter().enumerate() {
+        keys[first + place] = usize::from(key);
     }
 }
 
@@ -87,10 +80,10 @@ fn put_original(
         number,
         f.prior,
         at,
-        wide(f.rows),
+        usize::from(f.rows),
         width_of(f, sizes),
         first,
-        wide(f.touched),
+        usize::from(f.touched),
     );
 }
 

@@ -4,27 +4,16 @@
 
 ghost use Rattle.std.specs.Prelude.{◌≡◌, [], ◌∷◌, ◌≤◌, length};
 ghost use Rattle.text.specs.Decimals.{decimal, field_text};
-ghost use Rattle.text.specs.Putting.{Puts, next_place};
+ghost use Rattle.text.specs.Putting.{Puts};
 
-// Places are counted up to this one, the largest number of a machine word.
-const LAST_PLACE: usize = 18446744073709551615;
-
-// The place after one byte.
-fn after(at: usize) -> usize
-    ensures { result ≡ next_place at }
-{
-    if at < LAST_PLACE { at + 1 } else { at }
-}
-
-// One byte.
+// One byte. Places are counted up to the largest number of a machine word.
 pub fn put(out: &mut [u8], at: usize, byte: u8) -> usize
     ensures { Puts out.old out.new at result (byte ∷ []) }
 {
-    if out.len() <= at {
-        return after(at);
+    if at < out.len() {
+        out[at] = byte;
     }
-    out[at] = byte;
-    after(at)
+    at.saturating_add(1)
 }
 
 // The bytes of a word, in order.
@@ -32,8 +21,8 @@ pub fn put_word(out: &mut [u8], at: usize, word: &[u8]) -> usize
     ensures { Puts out.old out.new at result word.now }
 {
     let mut to = at;
-    for i in 0..word.len() {
-        to = put(out, to, word[i]);
+    for &byte in word {
+        to = put(out, to, byte);
     }
     to
 }

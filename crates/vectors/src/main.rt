@@ -4,75 +4,59 @@
 // The output is a line for each number: a root or `refused`; of a record `stopped`, or `done` and the factor, the solution and the inverse.
 #![tactic(auto)]
 
-ghost use Rattle.std.specs.Prelude.{◌≤◌, ◌<◌, ◌*◌, length};
+ghost use Rattle.std.specs.Prelude.{◌≡◌, ◌≤◌, ◌<◌, ◌*◌, length};
 
-use cholesky::Factored;
-use matrix::View;
-use root::Pivot;
+use matrix::{Matrix, View};
+use std::num::f64_from_bits_with_nan;
 use streams::{read_full, write_all, write_hex};
 
 fn main(rt: HostRuntime) {
-    let mut buffer = [0u8; 65536];
-    let got = read_full(&mut rt.stdin(), &mut buffer);
-    let text: &[u8] = &buffer;
-    let count = least(word(text, 0), 3855);
-    roots(&rt, text, count);
-    factorisations(&rt, text, count + 1, got / 17);
+    let mut text = [0u8; 65536];
+    let got = read_full(&mut rt.stdin(), &mut text);
+    let count = count_at(&text, 0, 3855);
+    roots(&rt, &text, count);
+    factorisations(&rt, &text, count + 1, got / 17);
 }
 
-fn least(a: u64, b: usize) -> usize
-    ensures { result ≤ b }
-{
-    if a < b as u64 { a as usize } else { b }
-}
-
+// A digit, or what stands in its place.
 fn digit(b: u8) -> u64
     ensures { result < 16 }
 {
-    if 65 <= b {
-        ((b - 55) % 16) as u64
-    } else {
-        (b % 16) as u64
-    }
+    let value = if 65 <= b { b - 55 } else { b };
+    u64::from(value % 16)
 }
 
 // Word number at, or 0 past the end.
 fn word(text: &[u8], at: usize) -> u64
     requires { at ≤ 65536 }
 {
-    let from = at * 17;
-    if text.len() < from + 16 {
-        return 0;
+    let from = 17 * at;
+    match text.get(from..from + 16) {
+        Some(digits) => digits.iter().fold(0, |value, &b| (value << 4) | digit(b)),
+        None => 0,
     }
-    let mut value: u64 = 0;
-    for i in 0..16 {
-        value = value % 0x1000_0000_0000_0000 * 16 + digit(text[from + i]);
-    }
-    value
 }
 
-// The float with a bit pattern; every NaN is one.
-fn float(bits: u64) -> f64 {
-    if 0x7ff0_0000_0000_0000 < bits % 0x8000_0000_0000_0000 {
-        return 0.0 / 0.0;
-    }
-    f64::from_bits(bits)
+// The number that a word is, cut to the most that there may be.
+fn count_at(text: &[u8], at: usize, most: usize) -> usize
+    requires { at ≤ 65536 }
+    ensures { result ≤ most }
+{
+    usize::try_from(word(text, at)).unwrap_or(most).min(most)
 }
 
 fn print(rt: &HostRuntime, x: f64) {
-    if x != x {
-        write_all(&mut rt.stdout(), b"nan\n");
+    if x.is_nan() {
+        let _ = write_all(&mut rt.stdout(), b"nan\n");
         return;
     }
-    write_hex(&mut rt.stdout(), f64::to_bits(x));
-    write_all(&mut rt.stdout(), b"\n");
+    let _ = write_hex(&mut rt.stdout(), x.to_bits());
+    let _ = write_all(&mut rt.stdout(), b"\n");
 }
 
-fn print_all(rt: &HostRuntime, s: &[f64], count: usize)
-    requires { count ≤ length s.now }
-{
-    for i in 0..count {
-        print(rt, s[i]);
+fn print_all(rt: &HostRuntime, values: &[f64]) {
+    for &x in values {
+        print(rt, x);
     }
 }
 
@@ -80,20 +64,20 @@ fn roots(rt: &HostRuntime, text: &[u8], count: usize)
     requires { count ≤ 4096 }
 {
     for i in 0..count {
-        match root::root(float(word(text, i + 1))) {
-            Pivot::Root(r) => print(rt, r),
-            Pivot::Refused => {
-                write_all(&mut rt.stdout(), b"refused\n");
+        match root::root(f64_from_bits_with_nan(word(text, i + 1))) {
+            Some(r) => print(rt, r),
+            None => {
+                let _ = write_all(&mut rt.stdout(), b"refused\n");
             }
         }
     }
 }
 
-fn numbers(text: &[u8], from: usize, s: &mut [f64], count: usize)
-    requires { (from ≤ 16384) × (count ≤ 1024) × (count ≤ length s.old) }
+fn numbers(text: &[u8], from: usize, out: &mut [f64])
+    requires { (from ≤ 16384) × (length out.old ≤ 1024) }
 {
-    for i in 0..count {
-        s[i] = float(word(text, from + i));
+    for (i, x) in out.iter_mut().enumerate() {
+        *x = f64_from_bits_with_nan(word(text, from + i));
     }
 }
 
@@ -102,11 +86,19 @@ fn factorisations(rt: &HostRuntime, text: &[u8], from: usize, end: usize)
 {
     let mut at = from;
     while at < end {
-        let n = least(word(text, at), 32);
+        let n = count_at(text, at, 32);
         let mut l = [0.0; 1024];
         let mut x = [0.0; 1024];
         let mut b = [0.0; 32];
-        factorisation(rt, text, at + 1, n, &mut l, &mut x, &mut b);
+        factorisation(
+            rt,
+            text,
+            at + 1,
+            n,
+            &mut l[..n * n],
+            &mut x[..n * n],
+            &mut b[..n],
+        );
         at += 1 + n * n + n;
     }
 }
@@ -121,26 +113,20 @@ fn factorisation(
     b: &mut [f64],
 )
     requires at_bound { (at ≤ 8192) × (n ≤ 32) }
-    requires in_bounds { (1024 ≤ length l.old) × (1024 ≤ length x.old) × (32 ≤ length b.old) }
+    requires in_bounds { (length l.old ≡ n * n) × (length x.old ≡ n * n) × (length b.old ≡ n) }
 {
-    let v = View {
-        at: 0,
-        down: 1,
-        across: n,
-    };
-    numbers(text, at, l, n * n);
-    numbers(text, at + n * n, b, n);
-    match cholesky::cholesky(l, v, n) {
-        Factored::Refused => {
-            write_all(&mut rt.stdout(), b"stopped\n");
-        }
-        Factored::Done => {
-            write_all(&mut rt.stdout(), b"done\n");
-            cholesky::solve(&l[..], v, n, b, v, 0);
-            cholesky::inverse(&l[..], v, n, x, v);
-            print_all(rt, &l[..], n * n);
-            print_all(rt, &b[..], n);
-            print_all(rt, &x[..], n * n);
-        }
+    let v = View::columns(n);
+    numbers(text, at, l);
+    numbers(text, at + n * n, b);
+    if cholesky::cholesky(l, v, n).is_err() {
+        let _ = write_all(&mut rt.stdout(), b"stopped\n");
+        return;
     }
+    let _ = write_all(&mut rt.stdout(), b"done\n");
+    let factor = Matrix::new(&l[..], n, n);
+    cholesky::solve(factor, b, v, 0);
+    cholesky::inverse(factor, x, v);
+    print_all(rt, l);
+    print_all(rt, b);
+    print_all(rt, x);
 }

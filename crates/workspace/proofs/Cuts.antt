@@ -2,9 +2,9 @@
 use Prim.Native.Nat.{ℕ, ◌+◌, ◌-◌, ◌*◌, ◌≤◌}
 use mathlib.Core.Path.{◌≡◌, refl, ap, ◌∙◌, sym, subst}
 use native.Mathlib.Nat.{mul-le-mul}
-use mathlib.Core.List.{List}
+use mathlib.Core.List.{List, ◌++◌}
 use native.Mathlib.Omega.{arith}
-use lib.ListN.{length}
+use lib.ListN.{length, take, drop}
 use lib.Ieee.{Float}
 use Rattle.matrix.specs.Views.{part, splice}
 use Rattle.workspace.specs.Sums.{pick, change}
@@ -12,7 +12,7 @@ use Rattle.workspace.specs.Frames.{frame_of, work_numbers}
 use Rattle.workspace.specs.declared.Part.{Part}
 use Rattle.workspace.specs.declared.Part.TheVariants.{S, H, G, A, Xi, W}
 use Rattle.workspace.specs.declared.Frame.{Frame}
-use Rattle.workspace.proofs.Parts.{part_same, part-below, part-above, length_part}
+use Rattle.workspace.proofs.Parts.{part_same, part-below, part-above, length_part, part_drop, splice_drop}
 use Rattle.workspace.specs.Parts.{FrameLaid, matrices_in, part_from, part_to}
 
 pub bounds : {f : Frame} {len : ℕ} → FrameLaid f len → (p : Part) → (part_from f p ≤ part_to f p) × (part_to f p ≤ len)
@@ -122,6 +122,18 @@ pub at_part : (f : Frame) (t x : List Float) (which : Part) (g : List Float → 
     → length x ≡ length (part t p q) → x ≡ g (part t p q) → matrices_in f (splice t p q x) ≡ change which g (matrices_in f t)
 at_part f t x which g p q l ep eq lx ex =
     rw (ep, eq) (cut-splice f t x l which g (lx ∙ long f t l which p q ep eq) (ex ∙ ap g (rw (ep, eq) (picked f t which))))
+
+-- the same where the store was cut in two before the part, and what the part becomes is said by the first piece
+pub behind : (f : Frame) (t lo hi x : List Float) (which : Part) (g : List Float → List Float → List Float) (h : List Float → List Float) (a p q : ℕ)
+    → FrameLaid f (length t) → a ≤ part_from f which
+    → lo ≡ take a t → hi ≡ drop a t → p ≡ part_from f which - a → q ≡ part_to f which - a
+    → length x ≡ length (part hi p q) → x ≡ g lo (part hi p q) → ((y : List Float) → g (take a t) y ≡ h y)
+    → matrices_in f (lo ++ splice hi p q x) ≡ change which h (matrices_in f t)
+behind f t lo hi x which g h a p q l low el eh ep eq lx ex same =
+    let d : part hi p q ≡ part t (part_from f which) (part_to f which) = rw (eh, ep, eq) (part_drop t a (part_from f which) (part_to f which) low) in
+    rw (el, eh, ep, eq, splice_drop t a (part_from f which) (part_to f which) x low)
+    (at_part f t x which h (part_from f which) (part_to f which) l refl refl (lx ∙ ap length d)
+    (rw (← el, ← d) ex ∙ same (part t (part_from f which) (part_to f which))))
 
 -- the same store after a call that kept its length
 pub relaid : (f : Frame) {m n : ℕ} → n ≡ m → FrameLaid f m → FrameLaid f n

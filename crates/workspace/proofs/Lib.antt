@@ -1,4 +1,3 @@
 -- Laws of the work store.
 pub mod Parts
 pub mod Cuts
-pub mod InPlace

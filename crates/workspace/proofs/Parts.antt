@@ -1,29 +1,20 @@
 -- Parts of a list, and a list with one of its parts changed. Assumes nothing.
-use Prim.Native.Nat.{ℕ, zero, suc, ◌+◌, ◌-◌, ◌*◌, ◌≤◌, ◌<◌}
+use Prim.Native.Nat.{ℕ, min, ◌+◌, ◌-◌, ◌*◌, ◌≤◌, ◌<◌}
 use mathlib.Core.Path.{◌≡◌, refl, ap, ◌∙◌, sym, subst}
-use mathlib.Core.List.{List, [], ◌∷◌, ◌++◌}
-use native.Mathlib.Nat.{mul-le-mul_right, zero-add, suc-add}
+use mathlib.Core.List.{List, ◌++◌, append_assoc}
+use native.Mathlib.Nat.{mul-le-mul_right}
 use native.Mathlib.Omega.{arith}
-use lib.ListN.{length, get_or, set, take, drop, length-append, length-take, length-drop, get_or-append, replicate, length-replicate, get_or-replicate}
-use lib.ListN.{take-append-drop}
-use lib.Seq.{get_or-take, get_or-drop, get_or-append-add, ext_get_or, length-take-le, get_or-set_same, get_or-set_other, set-append_left, take-add, drop-drop}
-use borrow.Author.Count.{below_more}
+use lib.ListN.{length, get_or, take, drop, length-append, length-take, length-drop, get_or-append}
+use lib.Seq.{get_or-take, get_or-drop, get_or-append-add, ext_get_or, length-take-le, take-add, drop-drop}
 use lib.Ieee.{Float, nan}
 use Rattle.matrix.specs.Views.{Inside, part, splice}
-use Rattle.matrix.specs.Sums.{plus_zero}
-use Rattle.matrix.specs.Stores.{steps, sweep}
-use Rattle.matrix.proofs.Entries.{steps-length, sweep-length, steps-at}
-use Rattle.workspace.specs.Blocks.{corner, zeroed}
+use Rattle.workspace.specs.Blocks.{corner}
 
 pub length_part : (s : List Float) (p q : ℕ) → q ≤ length s → length (part s p q) ≡ q - p
 length_part s p q h = simp (length-take, length-drop) (omega arith)
 
 pub get_d_part : (s : List Float) (p q k : ℕ) → k < q - p → get_or (part s p q) k nan ≡ get_or s (p + k) nan
 get_d_part s p q k h = get_or-take (q - p) (drop p s) k nan h ∙ get_or-drop p s k nan
-
-set-append-add : (xs ys : List Float) (k : ℕ) (x : Float) → set (xs ++ ys) (length xs + k) x ≡ xs ++ set ys k x
-set-append-add [] ys k x = ap (λ (n : ℕ). set ys n x) (zero-add k)
-set-append-add (y ∷ xs) ys k x = ap (λ (n : ℕ). set (y ∷ (xs ++ ys)) n x) (suc-add (length xs) k) ∙ ap (λ (r : List Float). y ∷ r) (set-append-add xs ys k x)
 
 module _ (s : List Float) (p q : ℕ) (t : List Float) (pq : p ≤ q) (qs : q ≤ length s) (lt : length t ≡ q - p) where
   front : length (take p s) ≡ p
@@ -69,15 +60,6 @@ module _ (s : List Float) (p q : ℕ) (t : List Float) (pq : p ≤ q) (qs : q �
       (λ k l. let m : k < b - a = omega (arith, length_part (splice s p q t) a b (rw length-splice bs)) in
       get_d_part (splice s p q t) a b k m ∙ splice-above (a + k) (omega arith) ∙ sym (get_d_part s a b k m))
 
-  pub set-splice : (k : ℕ) (x : Float) → k < q - p → set (splice s p q t) (p + k) x ≡ splice s p q (set t k x)
-  set-splice k x h =
-      subst (λ (n : ℕ). set (splice s p q t) (n + k) x ≡ splice s p q (set t k x)) front
-      (set-append-add (take p s) (t ++ drop (q - p) (drop p s)) k x
-      ∙ ap (λ (l : List Float). take p s ++ l) (set-append_left t (drop (q - p) (drop p s)) k x (rw lt h)))
-
-pub splice-part : (s : List Float) (p q : ℕ) → splice s p q (part s p q) ≡ s
-splice-part s p q = ap (λ (l : List Float). take p s ++ l) (take-append-drop (q - p) (drop p s)) ∙ take-append-drop p s
-
 -- two parts, one after the other
 pub part_join : (t : List Float) (a b c : ℕ) → a ≤ b → b ≤ c → part t a b ++ part t b c ≡ part t a c
 part_join t a b c ab bc =
@@ -87,30 +69,34 @@ part_join t a b c ab bc =
     ∙ sym (take-add (b - a) (c - b) (drop a t))
     ∙ ap (λ (k : ℕ). take k (drop a t)) e
 
--- ---- changes of one part
+-- ---- a list cut in two at a
 
--- stores that all go into one part are the stores in that part
-pub steps-part : (x : List Float) (p q : ℕ) (at at' : ℕ → ℕ) (f f' : ℕ → List Float → Float) (n : ℕ) → p ≤ q → q ≤ length x
-    → ((i : ℕ) → i < n → at i ≡ p + at' i) → ((i : ℕ) → i < n → at' i < q - p)
-    → (t : List Float) → length t ≡ q - p → ((i : ℕ) → i < n → (t : List Float) → length t ≡ q - p → f i (splice x p q t) ≡ f' i t)
-    → steps at f (splice x p q t) n ≡ splice x p q (steps at' f' t n)
-unfolding steps
-steps-part x p q at at' f f' zero pq qx ea ba t lt ef = refl
-steps-part x p q at at' f f' (suc n) pq qx ea ba t lt ef =
-    let ih = steps-part x p q at at' f f' n pq qx (λ i h. ea i (omega arith)) (λ i h. ba i (omega arith)) t lt (λ i h. ef i (omega arith)) in
-    let l : length (steps at' f' t n) ≡ q - p = steps-length at' f' t n ∙ lt in
-    rw (ih, ea n (omega arith), ef n (omega arith) (steps at' f' t n) l)
-    (set-splice x p q (steps at' f' t n) pq qx l (at' n) (f' n (steps at' f' t n)) (ba n (omega arith)))
+pub part_first : (s : List Float) (a : ℕ) → take a s ≡ part s 0 a
+part_first s a = let e : a ≡ a - 0 = omega arith in ap (λ (n : ℕ). take n s) e
 
-pub sweep-part : (x : List Float) (p q : ℕ) (g g' : ℕ → List Float → List Float) (n : ℕ) (t : List Float) → length t ≡ q - p
-    → ((j : ℕ) (t : List Float) → length (g' j t) ≡ length t)
-    → ((j : ℕ) → j < n → (t : List Float) → length t ≡ q - p → g j (splice x p q t) ≡ splice x p q (g' j t))
-    → sweep g (splice x p q t) n ≡ splice x p q (sweep g' t n)
-unfolding sweep
-sweep-part x p q g g' zero t lt hl hg = refl
-sweep-part x p q g g' (suc n) t lt hl hg =
-    rw (sweep-part x p q g g' n t lt hl (λ j h. hg j (omega arith)))
-    (hg n (omega arith) (sweep g' t n) (sweep-length g' t n hl ∙ lt))
+module _ (s : List Float) (a p q : ℕ) where
+  -- a part before the cut
+  pub part_take : q ≤ a → q ≤ length s → part (take a s) p q ≡ part s p q
+  part_take h l =
+      let n : length (take a s) ≡ min a (length s) = length-take a s in
+      let m : q ≤ length (take a s) = omega arith in
+      ext_get_or nan _ _ (length_part (take a s) p q m ∙ sym (length_part s p q l))
+      (λ k r. let b : k < q - p = omega (arith, length_part (take a s) p q m) in
+      get_d_part (take a s) p q k b ∙ get_or-take a s (p + k) nan (omega arith) ∙ sym (get_d_part s p q k b))
+
+  -- a part behind it
+  pub part_drop : a ≤ p → part (drop a s) (p - a) (q - a) ≡ part s p q
+  part_drop h =
+      let e : a + (p - a) ≡ p = omega arith in
+      let d : q - a - (p - a) ≡ q - p = omega arith in
+      rw (d, drop-drop (p - a) a s, e) refl
+
+  -- changed behind the cut, and joined again
+  pub splice_drop : (x : List Float) → a ≤ p → take a s ++ splice (drop a s) (p - a) (q - a) x ≡ splice s p q x
+  splice_drop x h =
+      let e : a + (p - a) ≡ p = omega arith in
+      let d : q - a - (p - a) ≡ q - p = omega arith in
+      rw (d, drop-drop (p - a) a s, ← append_assoc, ← take-add, e) refl
 
 -- ---- blocks
 
@@ -120,20 +106,3 @@ inner n m i j a b hi hj k l hk hl = omega (arith, mul-le-mul_right n (lower j l 
   where
     lower : (j l b m : ℕ) → l < b → j + b ≤ m → j + l + 1 ≤ m
     lower j l b m h g = omega arith
-
--- ---- zeros
-
-pub zeroed-is : (c : List Float) → zeroed c (length c) ≡ replicate (length c) plus_zero
-unfolding zeroed
-zeroed-is c =
-    ext_get_or nan _ _ (steps-length (λ i. i) (λ i t. plus_zero) c (length c) ∙ sym (length-replicate (length c) plus_zero))
-    (λ k h. let l : k < length c = omega (arith, steps-length (λ i. i) (λ i t. plus_zero) c (length c)) in
-    steps-at (λ i. i) (λ i t. plus_zero) c k (length c) (λ j a b e. omega arith) l l ∙ sym (get_or-replicate (length c) k plus_zero nan l))
-
--- one element more is copied
-pub copied_more : (to from : List Float) (i : ℕ) → i < length to → ((k : ℕ) → k < i → get_or to k nan ≡ get_or from k nan)
-    → (k : ℕ) → k < i + 1 → get_or (set to i (get_or from i nan)) k nan ≡ get_or from k nan
-copied_more to from i l h =
-    below_more (λ k. get_or (set to i (get_or from i nan)) k nan ≡ get_or from k nan) i
-    (λ k p. get_or-set_other to i k (get_or from i nan) nan (omega arith) ∙ h k p)
-    (get_or-set_same to i (get_or from i nan) nan l)

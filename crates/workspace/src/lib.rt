@@ -8,14 +8,14 @@ ghost use Rattle.matrix.specs.Sums.{one};
 ghost use Rattle.matrix.specs.Products.{product};
 ghost use Rattle.matrix.specs.Triangles.{filled_diagonal, filled_upper};
 ghost use Rattle.cholesky.specs.Factor.{factor};
-ghost use Rattle.workspace.specs.Blocks.{corner, stamp_entry, stamp, solved_columns, solved_in, subtracted_column_in, subtracted_in, zeroed};
+ghost use Rattle.workspace.specs.Blocks.{corner, stamp_entry, stamp, solved_columns};
 ghost use Rattle.workspace.specs.Sums.{pick, change};
 ghost use Rattle.workspace.specs.Frames.{frame_of};
 ghost use Rattle.cholesky.specs.Answers.{factored_as, list_of};
 ghost use Rattle.workspace.specs.Parts.{FrameLaid, matrices_in, part_from, part_to};
 
-use cholesky::Factored;
-use matrix::{Update, View};
+use cholesky::Fault;
+use matrix::{Matrix, Update, View};
 
 // How many numbers a work store has at least: enough for every frame within the limits.
 pub const WORK: usize = 2304;
@@ -109,134 +109,83 @@ pub fn corner(n: usize, i: usize, j: usize) -> View
     }
 }
 
-// Column j of a block of c, m rows: the entries of A are added or stored.
-fn stamp_column(c: &mut [f64], cv: View, m: usize, j: usize, how: Update, a: &[f64], av: View)
-    requires by_index { (i : ℕ) → i < m → place cv i j < length c.old }
-    requires by_index_2 { (i : ℕ) → i < m → place av i j < length a.now }
-    ensures { c.new ≡ block_column cv (stamp_entry how a.now av) j c.old m }
+// Column j of a block of c: the entries of A are added or stored.
+fn stamp_column<'a>(c: &mut [f64], cv: View, j: usize, how: Update, a: Matrix<'a>)
+    requires shape { j < a.columns }
+    requires by_index { (i : ℕ) → i < a.rows → place cv i j < length c.old }
+    ensures { c.new ≡ block_column cv (stamp_entry how a.entry.s.now a.entry.v) j c.old a.entry.rows }
 {
-    for i in 0..m {
-        let x = matrix::get(a, av, i, j);
+    for i in 0..a.rows {
+        let x = matrix::get(a.s, a.v, i, j);
         let old = matrix::get(&c[..], cv, i, j);
         matrix::put(c, cv, i, j, matrix::updated(how, old, x));
     }
 }
 
-// A(m × n) is added to a block of c, or stored there.
-fn stamp(c: &mut [f64], cv: View, m: usize, n: usize, how: Update, a: &[f64], av: View)
-    requires inside { Inside cv m n (length c.old) }
-    requires inside_2 { Inside av m n (length a.now) }
-    ensures { c.new ≡ stamp how cv m a.now av c.old n }
+// A is added to a block of c, or stored there.
+fn stamp<'a>(c: &mut [f64], cv: View, how: Update, a: Matrix<'a>)
+    requires { Inside cv a.rows a.columns (length c.old) }
+    ensures { c.new ≡ stamp how cv a.entry.rows a.entry.s.now a.entry.v c.old a.entry.columns }
 {
-    for j in 0..n {
-        stamp_column(c, cv, m, j, how, a, av);
+    for j in 0..a.columns {
+        stamp_column(c, cv, j, how, a);
     }
 }
 
-// m columns of X, solved with a lower triangle L(n × n) in the same slice.
-fn solve_in(x: &mut [f64], lv: View, n: usize, xv: View, m: usize)
-    requires inside { Inside lv n n (length x.old) }
-    requires inside_2 { Inside xv n m (length x.old) }
-    ensures { x.new ≡ solved_in lv n xv x.old m }
+// m columns of X, each of u rows, solved with the lower triangle L(u × u).
+fn solve_columns(l: &[f64], u: usize, x: &mut [f64], m: usize)
+    requires l_fits { u * u ≤ length l.now }
+    requires x_fits { u * m ≤ length x.old }
+    ensures { x.new ≡ solved_columns l.now u x.old m }
 {
+    let v = View {
+        at: 0,
+        down: 1,
+        across: u,
+    };
+    let triangle = Matrix {
+        s: l,
+        v,
+        rows: u,
+        columns: u,
+    };
     for j in 0..m {
-        cholesky::solve_lower_in(x, lv, n, xv, j);
-    }
-}
-
-// Column j of C less A times B, m rows, all in one slice.
-fn subtract_column_in(c: &mut [f64], cv: View, m: usize, j: usize, av: View, bv: View, n: usize)
-    requires by_index { (i : ℕ) → i < m → place cv i j < length c.old }
-    requires inside { Inside av m n (length c.old) }
-    requires by_index_2 { (k : ℕ) → k < n → place bv k j < length c.old }
-    ensures { c.new ≡ subtracted_column_in cv av bv n j c.old m }
-{
-    for i in 0..m {
-        let s = &c[..];
-        let x = matrix::dot(s, av, i, s, bv, j, n);
-        let old = matrix::get(&c[..], cv, i, j);
-        matrix::put(c, cv, i, j, old - x);
-    }
-}
-
-// C(m × w) less A(m × n) times B(n × w), all in one slice.
-fn subtract_in(c: &mut [f64], cv: View, m: usize, w: usize, av: View, bv: View, n: usize)
-    requires inside { Inside cv m w (length c.old) }
-    requires inside_2 { Inside av m n (length c.old) }
-    requires inside_3 { Inside bv n w (length c.old) }
-    ensures { c.new ≡ subtracted_in cv m av bv n c.old w }
-{
-    for j in 0..w {
-        subtract_column_in(c, cv, m, j, av, bv, n);
-    }
-}
-
-// All numbers become +0.0.
-pub fn zero(c: &mut [f64])
-    ensures { c.new ≡ zeroed c.old (length c.old) }
-{
-    for i in 0..c.len() {
-        c[i] = 0.0;
-    }
-}
-
-// The whole of one slice goes into another of the same length.
-pub fn copy(to: &mut [f64], from: &[f64])
-    requires { length to.old ≡ length from.now }
-    ensures { to.new ≡ from.now }
-{
-    for i in 0..to.len() {
-        to[i] = from[i];
+        cholesky::solve_lower(triangle, x, v, j);
     }
 }
 
 // A product goes into a block of one of the matrices.
-pub fn gemm_at(
+pub fn gemm_at<'a>(
     work: &mut [f64],
     f: Frame,
     which: Part,
     cv: View,
-    m: usize,
-    w: usize,
     how: Update,
-    a: &[f64],
-    av: View,
-    b: &[f64],
-    bv: View,
-    n: usize,
+    a: Matrix<'a>,
+    b: Matrix<'a>,
 )
     requires frame_laid { FrameLaid f (length work.old) }
-    requires inside { Inside cv m w (part_to f which - part_from f which) }
-    requires inside_2 { Inside av m n (length a.now) }
-    requires inside_3 { Inside bv n w (length b.now) }
+    requires shape { a.columns ≡ b.rows }
+    requires inside { Inside cv a.rows b.columns (part_to f which - part_from f which) }
     ensures { matrices_in f work.new
-        ≡ change which (λ c. product how cv m a.now av b.now bv n c w) (matrices_in f work.old) }
+        ≡ change which (λ c. product how cv a.entry.rows a.entry.s.now a.entry.v b.entry.s.now b.entry.v a.entry.columns c b.entry.columns)
+        (matrices_in f work.old) }
 {
     let p = begin(f, which);
     let q = end(f, which);
-    matrix::gemm(&mut work[p..q], cv, m, w, how, a, av, b, bv, n);
+    matrix::gemm(&mut work[p..q], cv, how, a, b);
 }
 
 // Numbers are added to a block of one of the matrices, or stored there.
-pub fn stamp_at(
-    work: &mut [f64],
-    f: Frame,
-    which: Part,
-    cv: View,
-    m: usize,
-    n: usize,
-    how: Update,
-    a: &[f64],
-    av: View,
-)
+pub fn stamp_at<'a>(work: &mut [f64], f: Frame, which: Part, cv: View, how: Update, a: Matrix<'a>)
     requires frame_laid { FrameLaid f (length work.old) }
-    requires inside { Inside cv m n (part_to f which - part_from f which) }
-    requires inside_2 { Inside av m n (length a.now) }
-    ensures { matrices_in f work.new ≡ change which (λ c. stamp how cv m a.now av c n) (matrices_in f work.old) }
+    requires inside { Inside cv a.rows a.columns (part_to f which - part_from f which) }
+    ensures { matrices_in f work.new
+        ≡ change which (λ c. stamp how cv a.entry.rows a.entry.s.now a.entry.v c a.entry.columns) (matrices_in f work.old) }
 {
     let p = begin(f, which);
     let q = end(f, which);
-    stamp(&mut work[p..q], cv, m, n, how, a, av);
+    stamp(&mut work[p..q], cv, how, a);
 }
 
 // Ones go on the diagonal of a block of A.
@@ -266,7 +215,7 @@ pub fn fill_upper_at(work: &mut [f64], f: Frame)
 }
 
 // S becomes its Cholesky factor L.
-pub fn cholesky_at(work: &mut [f64], f: Frame) -> Factored
+pub fn cholesky_at(work: &mut [f64], f: Frame) -> Result<(), Fault>
     requires { FrameLaid f (length work.old) }
     ensures value { result ≡ factored_as (factor (columns f.cleared) f.cleared (matrices_in f work.old).s f.cleared) }
     ensures work_after { matrices_in f work.new
@@ -289,18 +238,10 @@ pub fn solve_at(work: &mut [f64], f: Frame, which: Part, m: usize)
     ensures { matrices_in f work.new
         ≡ change which (λ c. solved_columns (matrices_in f work.old).s f.cleared c m) (matrices_in f work.old) }
 {
-    let p = begin(f, which);
-    let l = View {
-        at: 0,
-        down: 1,
-        across: f.cleared,
-    };
-    let x = View {
-        at: p,
-        down: 1,
-        across: f.cleared,
-    };
-    solve_in(work, l, f.cleared, x, m);
+    let (s, rest) = work.split_at_mut(f.h);
+    let p = begin(f, which) - f.h;
+    let q = end(f, which) - f.h;
+    solve_columns(&s[..], f.cleared, &mut rest[p..q], m);
 }
 
 // w columns of xi or W lose G transposed times h or G.
@@ -314,20 +255,30 @@ pub fn subtract_at(work: &mut [f64], f: Frame, which: Part, right: Part, w: usiz
         (pick right (matrices_in f work.old)) (columns f.cleared) f.cleared c w)
         (matrices_in f work.old) }
 {
+    let (low, high) = work.split_at_mut(f.a);
+    let p = begin(f, which) - f.a;
+    let q = end(f, which) - f.a;
     let c = View {
-        at: begin(f, which),
+        at: 0,
         down: 1,
         across: f.rows,
     };
-    let a = View {
-        at: f.g,
-        down: f.cleared,
-        across: 1,
-    };
-    let b = View {
-        at: begin(f, right),
+    let v = View {
+        at: 0,
         down: 1,
         across: f.cleared,
     };
-    subtract_in(work, c, f.rows, w, a, b, f.cleared);
+    let g = Matrix {
+        s: &low[f.g..f.a],
+        v,
+        rows: f.cleared,
+        columns: f.rows,
+    };
+    let b = Matrix {
+        s: &low[begin(f, right)..end(f, right)],
+        v,
+        rows: f.cleared,
+        columns: w,
+    };
+    matrix::gemm_tr(&mut high[p..q], c, Update::Subtract, g, b);
 }

@@ -1,19 +1,32 @@
 -- `cholesky::cholesky` meets its contract. The inner loop's invariant: the rows of column j that were passed are the definition's; the outer one's:
 -- so are the columns.
 -- The turns are in `proofs/Turns.antt`. Assumes nothing.
-use mathlib.Core.Path.{◌≡◌, refl, ◌∙◌}
+use mathlib.Core.Path.{◌≡◌, refl}
 use native.Mathlib.Omega.{arith}
 use Rattle.cholesky.specs.Factor.{factor}
-use Rattle.cholesky.proofs.Turns.{first_turn, next_turn, no_turn, column_done, all_done}
+use Rattle.cholesky.proofs.Turns.{first_turn, next_turn, no_turn, column_done}
+use Rattle.cholesky.specs.Answers.{factored_as, list_of}
+use Rattle.std.proofs.lemmas.Result.{err_from_is_err_and}
 use Rattle.cholesky.proofs.cholesky.Goals as goal
-use Rattle.cholesky.proofs.cholesky.Goals.{then-i-j+in-Root, else-i-j}
+use Rattle.cholesky.proofs.cholesky.Goals.{then-i-j+in_ok-y, else-i-j}
 
-pub columns-init : goal.columns-init
+pub loop-j-init : goal.loop-j-init
 unfolding factor
-columns-init c = (omega arith, refl, refl, refl)
+loop-j-init c = refl
 
-pub loop-i-init : goal.loop-i-init
-loop-i-init c = (omega arith, omega arith, refl, refl, λ _. refl, λ h. absurd (omega arith))
+-- the way out by a refused pivot
+refused : (c : goal.After-from_residual) → (c.from_residual.result ≡ factored_as (factor c.args.v c.args.n c.args.s.now c.args.n))
+    × (c.loop-i.s ≡ list_of (factor c.args.v c.args.n c.args.s.now c.args.n))
+refused c =
+    let p = err_from_is_err_and c.from_residual.result c.from_residual.ensures.1 in
+    rw (p.1, p.2) (no_turn _ _ _ _ _ _ _ _ _ _ _ (omega arith) c.loop-j.invariant c.if-i-j.true (c.loop-i.invariant.0 c.if-i-j.true)
+    c.reduced-x.ensures c.get-d.ensures c.pivot.ensures c.in_err-y.ensures.ok_part c.in_err-y.ensures.value)
+
+pub returns-in_err-y-clause-value : goal.returns-in_err-y-clause-value
+returns-in_err-y-clause-value c = (refused c).0
+
+pub returns-in_err-y-clause-s_after : goal.returns-in_err-y-clause-s_after
+returns-in_err-y-clause-s_after c = (refused c).1
 
 pub loop-i-preserved : goal.loop-i-preserved
 loop-i-preserved c =
@@ -21,37 +34,18 @@ loop-i-preserved c =
     let x = c.reduced-x.ensures in
     let d = c.get-d.ensures in
     elim c.if-i-j.branch [
-      | then-i-j+in-Root w ↦ (
-        omega arith,
-        omega arith,
-        omega arith,
-        l.invariant.3,
+      | then-i-j+in_ok-y w ↦ (
         λ e. absurd (omega arith),
-        λ _. first_turn _ _ _ _ _ _ _ _ _ _ w.if-i-j.true (l.invariant.4 w.if-i-j.true) x d w.pivot.ensures w.in-Root.is (w.s-is ∙ w.put.ensures),
+        λ _. first_turn _ _ _ _ _ _ _ _ _ _ w.if-i-j.true (l.invariant.0 w.if-i-j.true) x d w.pivot.ensures w.in_ok-y.ensures.ok_part
+            (rw (← w.y-is) c.put.ensures),
       )
       | else-i-j w ↦ (
-        omega arith,
-        omega arith,
-        omega arith,
-        l.invariant.3,
         λ e. absurd (omega arith),
-        λ _. next_turn _ _ _ _ _ _ _ _ (omega arith) (l.invariant.5 (omega arith)) x d (w.s-is ∙ w.put-else-i-j.ensures),
+        λ _. next_turn _ _ _ _ _ _ _ _ (omega arith) (l.invariant.1 (omega arith)) x d (rw (← w.y-is) c.put.ensures),
       )
     ]
 
-pub columns-preserved : goal.columns-preserved
-columns-preserved c =
+pub loop-j-preserved : goal.loop-j-preserved
+loop-j-preserved c =
     let e : c.loop-i.i ≡ c.args.n = omega arith in
-    (omega arith, omega arith, cc, column_done _ _ _ _ _ _ _ e c.columns.invariant.3 (c.loop-i.invariant.5 (omega arith)))
-
-pub returns-after-columns : goal.returns-after-columns
-returns-after-columns c =
-    let e : c.columns.j ≡ c.args.n = omega arith in
-    let all = all_done _ _ _ _ _ _ e c.columns.invariant.2 c.columns.invariant.3 in record { value = all.0; s_after = all.1 }
-
-pub returns-in-Refused : goal.returns-in-Refused
-returns-in-Refused c =
-    let ij = c.if-i-j.true in
-    let all = no_turn _ _ _ _ _ _ _ _ _ _ (omega arith) c.columns.invariant.3 ij (c.loop-i.invariant.4 ij)
-    c.reduced-x.ensures c.get-d.ensures
-    c.pivot.ensures c.in-Refused.is in record { value = all.0; s_after = all.1 }
+    column_done _ _ _ _ _ _ _ e c.loop-j.invariant (c.loop-i.invariant.1 (omega arith))

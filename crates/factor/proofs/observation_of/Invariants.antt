@@ -1,10 +1,9 @@
-use Prim.Native.Nat.{◌-◌, ◌≤◌}
+use Prim.Native.Nat.{◌-◌}
 use mathlib.Core.List.{◌++◌}
 use mathlib.Core.Path.{◌≡◌}
-use lib.ListN.{length, replicate, take}
+use lib.ListN.{replicate, take}
 use Rattle.factor.specs.Limits.{max_keys}
 use Rattle.factor.proofs.observation_of.Given as goal
 
 abbrev pub invariant-loop-place : goal.invariant-loop-place
-invariant-loop-place l = (l.place ≤ l.place-end) × (l.place-end ≡ length l.keys) ×
-    (l.packed ≡ take l.place l.keys ++ replicate (max_keys - l.place) 0)
+invariant-loop-place l = l.packed ≡ take l.place l.keys ++ replicate (max_keys - l.place) 0

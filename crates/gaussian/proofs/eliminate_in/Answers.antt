@@ -19,14 +19,14 @@ dim_of-d-requires c = c.requires.kept_listed
 
 pub eliminate_by-requires : goal.eliminate_by-requires
 eliminate_by-requires c =
-    let n : length c.args.sizes ≡ 32 = omega arith in
+    let n : length c.args.a.sizes ≡ 32 = omega arith in
     rw (c.layout_of-layout.ensures, c.dim_of-u.ensures, c.dim_of-d.ensures)
     (enough n c.requires)
 
 pub returns : goal.returns
 returns c =
     let args = c.args in
-    let all = slots-are args.factors.now args.messages.now args.keys.now args.heads.now args.slots.now args.kept.now
-    args.cleared.now args.sizes _ _ _ _ _ c.dim_of-u.ensures
+    let all = slots-are args.s.factors.now args.s.messages.now args.s.tables.keys.now args.s.tables.heads.now args.a.slots.now args.a.kept.now
+    args.a.cleared.now args.a.sizes _ _ _ _ _ c.dim_of-u.ensures
     c.dim_of-d.ensures c.layout_of-layout.ensures
     c.eliminate_by.ensures.value c.eliminate_by.ensures.slots_after in record { value = all.0; sizes_after = all.1 }

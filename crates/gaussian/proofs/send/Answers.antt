@@ -1,50 +1,37 @@
 -- `gaussian::send` meets its contract: the message is a part of the work store, and the copy is as long. Assumes nothing.
-use mathlib.Core.Path.{refl}
-use native.Mathlib.Omega.{arith}
-use Rattle.gaussian.proofs.Branches.{spans, sent_is}
+use Rattle.std.proofs.Common.{◌≡◌, ◌-◌, length, arith, ap, ◌+◌}
+use Rattle.matrix.specs.Views.{part}
+use Rattle.workspace.proofs.Parts.{length_part}
+use Rattle.gaussian.proofs.Branches.{Spans, spans, sent_is}
 use Rattle.gaussian.proofs.send.Goals as goal
+use Rattle.gaussian.proofs.send.Goals.{After-frame_of-f}
 
-pub frame_of-f-requires : goal.frame_of-f-requires
-frame_of-f-requires c =
-    let s = c.requires.d_bound.0 in let h = c.requires.d_bound.1 in (omega arith, omega arith, omega arith)
+ends : (c : After-frame_of-f) → Spans c.args.rows c.args.d c.frame_of-f.result
+ends c = spans _ _ _ _ c.frame_of-f.ensures c.requires.d_bound.0 c.requires.d_bound.1
 
-pub overflow_sub-e : goal.overflow_sub-e
-overflow_sub-e c =
-    let s = spans _ _ _ _ c.frame_of-f.ensures c.requires.d_bound.0 c.requires.d_bound.1 in
-    omega (arith, s.ends, s.within, c.requires.d_bound.2, c.requires.d_in_bounds)
+pub offset_bounds-work-f : goal.offset_bounds-work-f
+offset_bounds-work-f c = let s = ends (goal.at.offset_bounds-work-f c).After-frame_of-f in omega arith
 
-pub overflow_add-e : goal.overflow_add-e
-overflow_add-e c =
-    let s = spans _ _ _ _ c.frame_of-f.ensures c.requires.d_bound.0 c.requires.d_bound.1 in
-    omega (arith, s.ends, s.within, c.requires.d_bound.2, c.requires.d_in_bounds)
+pub slice_bounds-message-count : goal.slice_bounds-message-count
+slice_bounds-message-count c = let s = ends (goal.at.slice_bounds-message-count c).After-frame_of-f in omega arith
 
-pub slice_bounds-copy-end : goal.slice_bounds-copy-end
-slice_bounds-copy-end c =
-    let s = spans _ _ _ _ c.frame_of-f.ensures c.requires.d_bound.0 c.requires.d_bound.1 in
-    omega (arith, s.ends, s.within, c.requires.d_bound.2, c.requires.d_in_bounds)
+pub slice_bounds-message-start : goal.slice_bounds-message-start
+slice_bounds-message-start c = let s = ends (goal.at.slice_bounds-message-start c).After-frame_of-f in omega arith
 
-pub offset_bounds-work-p : goal.offset_bounds-work-p
-offset_bounds-work-p c =
-    let s = spans _ _ _ _ c.frame_of-f.ensures c.requires.d_bound.0 c.requires.d_bound.1 in
-    omega (arith, s.ends, s.within, c.requires.d_bound.2, c.requires.d_in_bounds)
+pub slice_bounds-message-end : goal.slice_bounds-message-end
+slice_bounds-message-end c = let s = ends (goal.at.slice_bounds-message-end c).After-frame_of-f in omega arith
 
-pub slice_bounds-copy-count-2 : goal.slice_bounds-copy-count-2
-slice_bounds-copy-count-2 c =
-    let s = spans _ _ _ _ c.frame_of-f.ensures c.requires.d_bound.0 c.requires.d_bound.1 in
-    omega (arith, s.ends, s.within, c.requires.d_bound.2, c.requires.d_in_bounds)
-
-pub slice_bounds-copy-start-2 : goal.slice_bounds-copy-start-2
-slice_bounds-copy-start-2 c =
-    let s = spans _ _ _ _ c.frame_of-f.ensures c.requires.d_bound.0 c.requires.d_bound.1 in
-    omega (arith, s.ends, s.within, c.requires.d_bound.2, c.requires.d_in_bounds)
-
-pub slice_bounds-copy-end-2 : goal.slice_bounds-copy-end-2
-slice_bounds-copy-end-2 c =
-    let s = spans _ _ _ _ c.frame_of-f.ensures c.requires.d_bound.0 c.requires.d_bound.1 in
-    omega (arith, s.ends, s.within, c.requires.d_bound.2, c.requires.d_in_bounds)
+pub slice_bounds-copy_from_slice-end : goal.slice_bounds-copy_from_slice-end
+slice_bounds-copy_from_slice-end c =
+    let f = c.frame_of-f.result in
+    let s = ends (goal.at.slice_bounds-copy_from_slice-end c).After-frame_of-f in
+    let n : length (part c.args.work.now f.a f.end) ≡ f.end - f.a = length_part c.args.work.now f.a f.end (omega arith) in
+    omega arith
 
 pub returns : goal.returns
 returns c =
     let args = c.args in
-    sent_is args.u args.rows args.d args.to _ _ args.messages.now args.work.now _
-    c.frame_of-f.ensures refl c.copy.ensures
+    let f = c.frame_of-f.result in
+    let s = ends (goal.at.returns c).After-frame_of-f in
+    let n : length (part args.work.now f.a f.end) ≡ f.end - f.a = length_part args.work.now f.a f.end (omega arith) in
+    sent_is args.u args.rows args.d args.to _ f args.messages.now args.work.now _ c.frame_of-f.ensures (ap (λ k. args.to + k) n) c.copy_from_slice.ensures.after

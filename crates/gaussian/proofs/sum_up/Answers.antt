@@ -11,6 +11,6 @@ add_slots-requires c = record { frame_laid = relaid c.args.f c.begin_sums.auto.w
 pub returns : goal.returns
 returns c =
     let args = c.args in
-    views-from args.branch args.f args.layout (view_at args.factors.now args.messages.now args.keys.now args.heads.now
+    views-from args.branch args.f args.layout (view_at args.s.factors.now args.s.messages.now args.s.tables.keys.now args.s.tables.heads.now
     args.slots.now) (length args.slots.now) _ c.begin_sums.ensures _
     c.add_slots.ensures

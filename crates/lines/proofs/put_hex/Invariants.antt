@@ -1,8 +1,7 @@
-use Prim.Native.Nat.{◌+◌, ◌≤◌}
-use mathlib.Core.Path.{◌≡◌}
-use lib.ListN.{length}
-use Rattle.lines.specs.Lines.{PutsWithin, hex_by}
+-- `lines::put_hex`. The loop's invariant: the digits passed are put.
+use Rattle.text.specs.Putting.{Puts}
+use Rattle.lines.specs.Lines.{hex_by}
 use Rattle.lines.proofs.put_hex.Given as goal
 
 abbrev pub invariant-loop-i : goal.invariant-loop-i
-invariant-loop-i l = (l.i ≤ 16) × (length l.out ≡ length l.initial.out) × PutsWithin l.initial.out l.out l.at (l.at + l.i) (hex_by l.i l.bits)
+invariant-loop-i l = Puts l.initial.out l.out l.at l.to (hex_by l.i l.bits)

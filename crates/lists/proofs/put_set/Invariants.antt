@@ -1,5 +1,4 @@
-use Prim.Native.Nat.{◌+◌, ◌-◌}
-use lib.ListN.{set}
+use Prim.Native.Nat.{◌+◌}
 use Rattle.plan.specs.Mask.{has}
 use Rattle.lists.proofs.Writing.{Put}
 use Rattle.lists.proofs.put_set.Given as goal

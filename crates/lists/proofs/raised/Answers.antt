@@ -8,8 +8,8 @@ use Rattle.lists.proofs.raised.Goals as goal
 
 pub returns-then-n-lt-FACTORS : goal.returns-then-n-lt-FACTORS
 unfolding raised
-returns-then-n-lt-FACTORS c = rw (lt-ltb c.args.s max_factors c.if-n-lt-FACTORS.true) refl
+returns-then-n-lt-FACTORS c = rw (c.from-n.ensures, lt-ltb c.args.s max_factors (omega (arith, c.from-n.ensures))) refl
 
 pub returns-else-n-lt-FACTORS : goal.returns-else-n-lt-FACTORS
 unfolding raised
-returns-else-n-lt-FACTORS c = rw (le-ltb c.args.s max_factors (omega arith)) refl
+returns-else-n-lt-FACTORS c = rw (c.from-n.ensures, le-ltb c.args.s max_factors (omega (arith, c.from-n.ensures))) refl

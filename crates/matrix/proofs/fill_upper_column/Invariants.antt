@@ -1,8 +1,6 @@
-use Prim.Native.Nat.{◌-◌, ◌≤◌}
 use mathlib.Core.Path.{◌≡◌}
-use lib.ListN.{length}
 use Rattle.matrix.specs.Triangles.{filled_column}
 use Rattle.matrix.proofs.fill_upper_column.Given as goal
 
 abbrev pub invariant-loop-i : goal.invariant-loop-i
-invariant-loop-i l = (l.i ≤ l.j) × (length l.c ≡ length l.initial.c) × (l.c ≡ filled_column l.v l.j l.initial.c l.i)
+invariant-loop-i l = l.c ≡ filled_column l.v l.j l.initial.c l.i

@@ -1,39 +1,12 @@
--- `matrix::finite` meets its contract. The loop's invariant: the numbers passed are finite, so the rest decides. Assumes nothing.
-use Prim.Native.Nat.{◌-◌}
-use mathlib.Core.Path.{refl, ◌∙◌, sym}
-use native.Mathlib.Omega.{arith}
-use borrow.Author.Tests.{not-true, not-false}
-use Rattle.matrix.proofs.Numbers.{rest_decides, one_settles, none_left}
+-- `matrix::finite` meets its contract, by what the library says of `all`. Assumes nothing.
+use Rattle.std.proofs.Common.{◌≡◌, true, false, rules}
+use Rattle.std.proofs.lemmas.Iterator.{cases_from_all, YieldsList-from_slice}
+use borrow.Author.Tests.{tests}
+use Rattle.matrix.specs.Finite.{is_finite}
+use Rattle.matrix.proofs.Numbers.{finite_is, settles}
 use Rattle.matrix.proofs.finite.Goals as goal
 
-pub loop-i-init : goal.loop-i-init
-loop-i-init c = (refl, omega arith, refl)
-
-pub offset_bounds-s-i : goal.offset_bounds-s-i
-offset_bounds-s-i c = omega arith
-
-pub bounds-s-i : goal.bounds-s-i
-bounds-s-i c = omega arith
-
-pub is_finite-requires : goal.is_finite-requires
-is_finite-requires c = tt
-
-pub returns-then-not-is_finite : goal.returns-then-not-is_finite
-returns-then-not-is_finite c = sym (one_settles _ _ (omega arith) c.loop-i.invariant.2
-    (sym c.is_finite.ensures ∙ not-true _ c.if-not-is_finite.true-raw))
-
-pub overflow_step-i : goal.overflow_step-i
-overflow_step-i c = omega arith
-
-pub loop-i-smaller : goal.loop-i-smaller
-loop-i-smaller c = omega arith
-
-pub loop-i-preserved : goal.loop-i-preserved
-loop-i-preserved c = (
-  refl,
-  omega arith,
-  rest_decides _ _ (omega arith) c.loop-i.invariant.2 (sym c.is_finite.ensures ∙ not-false _ c.if-not-is_finite.false-raw),
-)
-
 pub returns : goal.returns
-returns c = sym (none_left c.args.s.now c.loop-i.i (omega arith) c.loop-i.invariant.2)
+returns c =
+    settles c.args.s.now c.all.result (cases_from_all _ _ _ (λ x. is_finite x ≡ true) (λ x. is_finite x ≡ false) c.all.ensures.ran
+    (YieldsList-from_slice c.args.s.now cc) (λ x q k. search (rules, tests, finite_is)) (λ x q k. search (rules, tests, finite_is)))

@@ -1,12 +1,8 @@
-use Prim.Native.Nat.{◌≤◌, ◌-◌}
+use Prim.Native.Nat.{◌*◌}
 use mathlib.Core.Path.{◌≡◌}
-use lib.ListN.{length}
 use Rattle.matrix.specs.Products.{product_entry}
 use Rattle.matrix.specs.Stores.{block_column}
 use Rattle.matrix.proofs.gemm_column.Given as goal
 
-abbrev pub invariant-loop-i : goal.invariant-loop-i
-invariant-loop-i l = (l.i ≤ l.m) × (length l.c ≡ length l.initial.c) × (l.c ≡ block_column l.cv (product_entry l.how l.a l.av l.b l.bv l.n) l.j l.initial.c l.i)
-
-abbrev pub decreases-loop-i : goal.decreases-loop-i
-decreases-loop-i l = l.m - l.i
+abbrev pub invariant-loop-q : goal.invariant-loop-q
+invariant-loop-q l = l.c ≡ block_column l.cv (product_entry l.how l.a.s.now l.a.v l.b.s.now l.b.v l.a.columns) l.j l.initial.c (l.q * 4)

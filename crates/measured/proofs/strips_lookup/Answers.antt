@@ -1,43 +1,52 @@
--- `measured::strips_lookup` meets its contract: no more than 256 keys are read, so the number fits. Assumes nothing.
-use Prim.Native.Nat.{◌*◌, ◌+◌, ◌≤◌, ℕ}
-use mathlib.Core.List.{List}
-use mathlib.Core.Path.{◌≡◌, sym}
-use native.Mathlib.Omega.{arith}
-use lib.ListN.{take}
+-- `measured::strips_lookup`: no more than 256 keys are read, so the number fits.
+use Rattle.std.proofs.Common.{◌≡◌, ◌≤◌, ℕ, ◌+◌, ◌*◌, ◌-◌, List, length, take, min, refl, sym, arith, ap, ◌∙◌}
+use Rattle.std.specs.Prelude.{Option, Some, None}
+use Rattle.std.specs.Option.{unwrap_or}
 use Rattle.factor.proofs.Lookups.{few-read, lent, place-within}
 use Rattle.factor.specs.Factor.{lookup}
 use Rattle.factor.specs.declared.lists.Looked.{Looked}
-use Rattle.factor.specs.declared.lists.Place.{Place}
 use Rattle.measured.specs.Measured.{lookup_number, most_rising, place_number}
 use Rattle.measured.proofs.strips_lookup.Goals as goal
 
-few : (keys : List ℕ) (key : ℕ) (r : Looked) → r ≡ lookup (take most_rising keys) key → r.read ≤ most_rising
-few keys key r e = rw e (few-read keys key most_rising)
+place-number : (p : Option ℕ) → unwrap_or p 255 ≡ place_number p
+place-number (Some j) = refl
+place-number None = refl
 
--- over plain values: the number told
-told : (keys : List ℕ) (key : ℕ) (r : Looked) (p : Place) → r ≡ lookup (take most_rising keys) key → r.place ≡ p
-    → 256 * r.read + place_number p ≡ lookup_number keys key
+low : (keys : List ℕ) (key : ℕ) (p : Option ℕ) → (lookup (take most_rising keys) key).place ≡ p → place_number p ≤ 255
+low keys key (Some j) e = omega (arith, (place-within keys key most_rising j e).0)
+low keys key None e = omega arith
+
+-- over plain values: the number told, whose parts are small
+told : (keys : List ℕ) (key v : ℕ) (r : Looked) → r ≡ lookup (take most_rising keys) key → v ≡ unwrap_or r.place 255
+    → (r.read ≤ 256) × (v ≤ 255) × (256 * r.read + v ≡ lookup_number keys key)
 unfolding lookup_number
-told keys key r p e h = rw (sym e, h)
+told keys key v r e ev =
+    let n : v ≡ place_number r.place = ev ∙ place-number r.place in (
+      rw e (few-read keys key most_rising),
+      rw n (low keys key r.place (ap (λ (x : Looked). x.place) (sym e))),
+      rw (n, e) refl,
+    )
 
--- The keys lent are those that can rise.
-pub overflow_mul-read : goal.overflow_mul-read
-overflow_mul-read c = omega (arith, few c.args.keys.now c.args.key c.lookup-looked.result (lent c.args.keys.now c.args.key most_rising c.least.result c.lookup-looked.result c.least.ensures c.lookup-looked.ensures))
+-- the keys lent are those that can rise
+looked : (keys : List ℕ) (key used : ℕ) (r : Looked) → used ≡ min (length keys) most_rising → r ≡ lookup (take (used - 0) keys) key
+    → r ≡ lookup (take most_rising keys) key
+looked keys key used r eu er = lent keys key most_rising used r (omega arith) er
+
+pub overflow_mul-result : goal.overflow_mul-result
+overflow_mul-result c =
+    omega (
+      arith,
+      (told c.args.keys.now c.args.key _ c.lookup-looked.result
+          (looked c.args.keys.now c.args.key c.min.result c.lookup-looked.result c.min.ensures c.lookup-looked.ensures) refl).0,
+    )
 
 pub overflow_add-result : goal.overflow_add-result
 overflow_add-result c =
-    let e = lent c.args.keys.now c.args.key most_rising c.least.result c.lookup-looked.result c.least.ensures c.lookup-looked.ensures in
-    omega (
-      arith,
-      few c.args.keys.now c.args.key c.lookup-looked.result e,
-      (place-within c.args.keys.now c.args.key most_rising c.in-At.place (rw (sym e) c.in-At.is)).0,
-    )
+    let all = told c.args.keys.now c.args.key c.unwrap_or.result c.lookup-looked.result
+    (looked c.args.keys.now c.args.key c.min.result c.lookup-looked.result c.min.ensures c.lookup-looked.ensures) c.unwrap_or.ensures in
+    omega (arith, all.0, all.1)
 
-pub overflow_add-result-in-Nowhere : goal.overflow_add-result-in-Nowhere
-overflow_add-result-in-Nowhere c = omega (arith, few c.args.keys.now c.args.key c.lookup-looked.result (lent c.args.keys.now c.args.key most_rising c.least.result c.lookup-looked.result c.least.ensures c.lookup-looked.ensures))
-
-pub returns-in-At : goal.returns-in-At
-returns-in-At c = told c.args.keys.now c.args.key c.lookup-looked.result _ (lent c.args.keys.now c.args.key most_rising c.least.result c.lookup-looked.result c.least.ensures c.lookup-looked.ensures) c.in-At.is
-
-pub returns-in-Nowhere : goal.returns-in-Nowhere
-returns-in-Nowhere c = told c.args.keys.now c.args.key c.lookup-looked.result _ (lent c.args.keys.now c.args.key most_rising c.least.result c.lookup-looked.result c.least.ensures c.lookup-looked.ensures) c.in-Nowhere.is
+pub returns : goal.returns
+returns c =
+    (told c.args.keys.now c.args.key c.unwrap_or.result c.lookup-looked.result
+    (looked c.args.keys.now c.args.key c.min.result c.lookup-looked.result c.min.ensures c.lookup-looked.ensures) c.unwrap_or.ensures).2

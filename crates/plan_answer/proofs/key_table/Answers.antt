@@ -1,6 +1,6 @@
 -- `plan_answer::key_table` meets its contract. The loop's invariant: what the keys passed gather stands in the first places, the others are blank.
 -- Assumes nothing.
-use mathlib.Core.Path.{refl, ap, ◌∙◌}
+use mathlib.Core.Path.{ap, ◌∙◌}
 use mathlib.Core.List.{map}
 use native.Mathlib.Omega.{arith}
 use lib.ListN.{take}
@@ -13,26 +13,18 @@ use Rattle.plan_answer.proofs.Filling.{map_more, map-done}
 use Rattle.plan_answer.proofs.Copies.{keys_length, key-at}
 use Rattle.plan_answer.proofs.key_table.Goals as goal
 
-pub loop-k-init : goal.loop-k-init
-loop-k-init c = (omega arith, refl)
-
-pub key_plan_of-requires : goal.key_plan_of-requires
-key_plan_of-requires c = c.requires.1 c.loop-k.k c.loop-k-test.true
-
 pub loop-k-preserved : goal.loop-k-preserved
 loop-k-preserved c =
     let args = c.args in
-    let loop = c.loop-k in (
-      omega arith,
-      map_more key_plan_of (map gathered_of (take args.n args.at)) _ loop.keys loop.k (gathered_of no_gathered) _
-          (omega (arith, keys_length args.at args.n (omega arith))) (omega arith) loop.invariant.1
-          (c.key_plan_of.ensures ∙ ap key_plan_of (key-at args.at args.n loop.k c.loop-k-test.true)),
-    )
+    let loop = c.loop-k in
+    map_more key_plan_of (map gathered_of (take args.n args.at)) _ loop.keys loop.k (gathered_of no_gathered) _
+    (omega (arith, keys_length args.at args.n (omega arith))) (omega arith) loop.invariant
+    (c.key_plan_of.ensures ∙ ap key_plan_of (key-at args.at args.n loop.k c.loop-k-test.true))
 
 pub returns : goal.returns
 unfolding spec.key_table
 returns c =
     let args = c.args in
     let loop = c.loop-k in
-    loop.invariant.1 ∙ map-done key_plan_of (map gathered_of (take args.n args.at)) spec.no_key_plan max_variables loop.k
+    loop.invariant ∙ map-done key_plan_of (map gathered_of (take args.n args.at)) spec.no_key_plan max_variables loop.k
     (omega (arith, keys_length args.at args.n (omega arith)))

@@ -1,10 +1,9 @@
 use mathlib.Core.Path.{◌≡◌}
 use mathlib.Core.List.{◌++◌, map}
-use Prim.Native.Nat.{◌≤◌}
 use lib.ListN.{take, drop}
 use Rattle.plan.specs.Pass.{messages_of}
 use Rattle.plan_answer.specs.Answer.{message_of}
 use Rattle.plan_answer.proofs.message_table.Given as goal
 
 abbrev pub invariant-loop-j : goal.invariant-loop-j
-invariant-loop-j l = (l.j ≤ l.n) × (l.messages ≡ map message_of (take l.j (messages_of l.p)) ++ drop l.j l.initial.messages)
+invariant-loop-j l = l.messages ≡ map message_of (take l.j (messages_of l.p)) ++ drop l.j l.initial.messages

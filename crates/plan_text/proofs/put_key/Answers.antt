@@ -1,28 +1,23 @@
--- `plan_text::put_key` meets its contract: the parts of the line, one after another. Assumes nothing.
+-- `plan_text::put_key`: the parts of the line, one after another.
+use Rattle.std.proofs.Common.{◌≡◌, ℕ, ◌-◌, List, ap, take, arith, rules}
+use Rattle.schedule.specs.Count.{joined}
+use Rattle.text.specs.Decimals.{field_text}
+use Rattle.text.specs.Putting.{Puts}
+use Rattle.text.proofs.Putting.{both, same}
 use Rattle.plan.specs.Gather.{gathered_of}
-use Rattle.plan_text.specs.Text.{key_text}
-use Rattle.text.proofs.Putting.{both, long}
+use Rattle.plan_text.specs.Text.{list_text, key_text}
+use Rattle.plan_text.proofs.Growing.{slice_part}
 use Rattle.plan_text.proofs.put_key.Goals as goal
 
-pub shape_of-out : goal.shape_of-out
-shape_of-out c =
-    let lead = c.put_named-to.ensures in
-    let forward = c.put_set-to.ensures in
-    let backward = c.put_set-to-2.ensures in
-    let originals = c.put_items-to.ensures in
-    let leaves = c.put_items-to-2.ensures in
-    let last = c.put_set-to-3.ensures in
-    let end = c.put.ensures in
-    long (both (both (both (both (both (both lead forward) backward) originals) leaves) last) end)
+first : (n : ℕ) (l : List ℕ) → take (n - 0) l ≡ take n l
+first n l = ap (λ (k : ℕ). take k l) (omega arith)
 
 pub returns : goal.returns
-unfolding key_text gathered_of
+unfolding key_text gathered_of list_text
 returns c =
-    let lead = c.put_named-to.ensures in
-    let forward = c.put_set-to.ensures in
-    let backward = c.put_set-to-2.ensures in
-    let originals = c.put_items-to.ensures in
-    let leaves = c.put_items-to-2.ensures in
-    let last = c.put_set-to-3.ensures in
-    let end = c.put.ensures in
-    both (both (both (both (both (both lead forward) backward) originals) leaves) last) end
+    let q = c.args.q in
+    let originals = both c.put_word-to.ensures (same (ap (joined field_text) (slice_part q.covered q.count q.items c.requires.covered))
+    (c.put_each-to.ensures field_text (λ out at x r out' p. let put : Puts out.now out'.now at r (field_text x) = search rules in put))) in
+    let leaves = both c.put_word-to-2.ensures (same (ap (joined field_text) (first q.count q.items))
+    (c.put_each-to-2.ensures field_text (λ out at x r out' p. let put : Puts out.now out'.now at r (field_text x) = search rules in put))) in
+    both (both (both (both (both (both c.put_named-to.ensures c.put_set-to.ensures) c.put_set-to-2.ensures) originals) leaves) c.put_set-to-3.ensures) c.put.ensures

@@ -1,201 +1,63 @@
 -- `records::read_observation` meets its contract. Assumes nothing.
 use Prim.Native.Nat.{ℕ, ◌+◌}
-use mathlib.Core.Path.{◌≡◌, refl, ◌∙◌, ap}
+use mathlib.Core.Path.{◌≡◌, sym}
 use mathlib.Core.Bool.{true, false}
-use mathlib.Core.List.{List}
-use native.Mathlib.Omega.{arith}
-use borrow.Author.Tests.{not-true, not-false}
+use mathlib.Core.List.{List, [], ◌∷◌}
 use lib.Ieee.{Float}
-use lib.ListN.{length}
+use lib.ListN.{length, take}
+use lib.Seq.{length-take-le}
+use Rattle.std.specs.Prelude.{Some}
+use Rattle.std.proofs.lemmas.Grind.{common_steps}
+use native.Mathlib.Omega.{arith}
 use Rattle.factor.proofs.Counting.{tells}
 use Rattle.graph.specs.Registration.{counts_fit}
 use Rattle.graph.specs.declared.Graph.{Graph}
-use Rattle.graph.specs.declared.refusal.Refusal.TheVariants.{BadRecord, CountOutside}
-use Rattle.records.specs.Bytes.{byte_at, cut, keys_read}
-use Rattle.records.specs.Records.{refuse, meaning, flag_known, observed, observation_at}
-use Rattle.records.specs.declared.kinds.Flag.{Flag}
 use Rattle.graph.proofs.Checking.{few-keys}
-use Rattle.records.proofs.Listing.{listed-length, front}
-use Rattle.records.proofs.Requests.{turned, met, there}
+use Rattle.records.specs.Bytes.{byte_at, cut, keys_read}
+use Rattle.records.specs.Records.{header_bytes, meaning, observed, observation_at}
+use Rattle.records.specs.declared.kinds.Flag.{Flag}
+use Rattle.records.proofs.Listing.{listed-length}
 use Rattle.records.proofs.read_observation.Goals as goal
 
-counted : (bytes : List ℕ) (at count rows : ℕ) (keys : List ℕ) → keys ≡ keys_read bytes at count → counts_fit count rows ≡ true
-    → counts_fit (length keys) rows ≡ true
-counted bytes at count rows keys e h = rw (e, listed-length (λ i. byte_at bytes (at + i)) count) h
+-- a whole header with fitting counts, and its keys
+from-keys : (g : Graph) (store : List Float) (bytes : List ℕ) (at count rows : ℕ) (flag : Flag) (keys : List ℕ) → cut bytes at header_bytes ≡ false
+    → count ≡ byte_at bytes at → rows ≡ byte_at bytes (at + 1) → Some flag ≡ meaning (byte_at bytes (at + 2)) → counts_fit count rows ≡ true
+    → cut bytes (at + header_bytes) count ≡ false → keys ≡ keys_read bytes (at + header_bytes) count
+    → observation_at g store bytes at ≡ observed g store bytes keys rows flag (at + header_bytes + count)
+unfolding observation_at
+from-keys g store bytes at count rows flag keys h ec er ef h4 h8 ek = rw (h, ← ef, ← ec, ← er, h4, h8, ← ek)
 
-meant : (bytes : List ℕ) (at b : ℕ) (flag : Flag) → b ≡ byte_at bytes (at + 2) → flag ≡ meaning b → flag ≡ meaning (byte_at bytes (at + 2))
-meant bytes at b flag e m = m ∙ ap meaning e
+-- as many keys as were counted
+abbrev zeros : List ℕ
+zeros = 0 ∷ 0 ∷ 0 ∷ 0 ∷ []
 
-module _ (g : Graph) (store : List Float) (bytes : List ℕ) (at : ℕ) where
-  cut_short : cut bytes at 3 ≡ true → observation_at g store bytes at ≡ refuse BadRecord
-  unfolding observation_at
-  cut_short h = rw h
+counted : (bytes : List ℕ) (at count rows : ℕ) (keys : List ℕ) → counts_fit count rows ≡ true → keys ≡ keys_read bytes at (length (take count zeros))
+    → (keys ≡ keys_read bytes at count) × (counts_fit (length keys) rows ≡ true)
+counted bytes at count rows keys h e =
+    let z : length (take count zeros) ≡ count = length-take-le count zeros (few-keys count rows h) in
+    let k : keys ≡ keys_read bytes at count = rw z at e in
+    (k, rw (k, listed-length (λ i. byte_at bytes (at + i)) count) h)
 
-  module _ (h : cut bytes at 3 ≡ false) (count rows : ℕ) (flag : Flag) (ec : count ≡ byte_at bytes at) (er : rows ≡ byte_at bytes (at + 1))
-      (ef : flag ≡ meaning (byte_at bytes (at + 2))) where
-    no_flag : flag_known flag ≡ false → observation_at g store bytes at ≡ refuse BadRecord
-    unfolding observation_at
-    no_flag hf = rw (h, ← ef, hf)
+pub slice_bounds-keys-end : goal.slice_bounds-keys-end
+slice_bounds-keys-end c = few-keys _ _ (tells c.counts_fit.ensures c.if-not-counts_fit.false)
 
-    module _ (hf : flag_known flag ≡ true) where
-      outside : counts_fit count rows ≡ false → observation_at g store bytes at ≡ refuse CountOutside
-      unfolding observation_at
-      outside h4 = rw (h, ← ef, hf, ← ec, ← er, h4)
+pub slice_bounds-keys-end-2 : goal.slice_bounds-keys-end-2
+slice_bounds-keys-end-2 c = sym (length-take-le _ zeros (few-keys _ _ (tells c.counts_fit.ensures c.if-not-counts_fit.false)))
 
-      module _ (h4 : counts_fit count rows ≡ true) where
-        keys-cut : cut bytes (at + 3) count ≡ true → observation_at g store bytes at ≡ refuse BadRecord
-        unfolding observation_at
-        keys-cut h8 = rw (h, ← ef, hf, ← ec, ← er, h4, h8)
-
-        from-keys : cut bytes (at + 3) count ≡ false → (keys : List ℕ) → keys ≡ keys_read bytes (at + 3) count → observation_at g store bytes at
-            ≡ observed g store bytes keys rows flag (at + 3 + count)
-        unfolding observation_at
-        from-keys h8 keys ek = rw (h, ← ef, hf, ← ec, ← er, h4, h8, ← ek)
-
-pub returns-then-cut : goal.returns-then-cut
-returns-then-cut c =
-    let args = c.args in
-    let all = turned args.g args.store.now _ _ BadRecord _ (cut_short args.g args.store.now args.bytes.now args.at
-    (tells c.cut.ensures c.if-cut.true)) c.stop.ensures refl in record { value = all.0; store_after = all.1 }
-
-pub byte-count-requires : goal.byte-count-requires
-byte-count-requires c =
-    let args = c.args in
-    omega (arith, there args.bytes.now args.at 3 (tells c.cut.ensures c.if-cut.false))
-
-pub overflow_add-at : goal.overflow_add-at
-overflow_add-at c =
-    let args = c.args in
-    omega (arith, there args.bytes.now args.at 3 (tells c.cut.ensures c.if-cut.false))
-
-pub byte-rows-requires : goal.byte-rows-requires
-byte-rows-requires c =
-    let args = c.args in
-    omega (arith, there args.bytes.now args.at 3 (tells c.cut.ensures c.if-cut.false))
-
-pub overflow_add-at-2 : goal.overflow_add-at-2
-overflow_add-at-2 c =
-    let args = c.args in
-    omega (arith, there args.bytes.now args.at 3 (tells c.cut.ensures c.if-cut.false))
-
-pub byte-requires : goal.byte-requires
-byte-requires c =
-    let args = c.args in
-    omega (arith, there args.bytes.now args.at 3 (tells c.cut.ensures c.if-cut.false))
-
-pub returns-then-not-flag_known : goal.returns-then-not-flag_known
-returns-then-not-flag_known c =
-    let args = c.args in
-    let all = turned args.g args.store.now _ _ BadRecord _ (no_flag args.g args.store.now args.bytes.now args.at
-    (tells c.cut.ensures
-    c.if-cut.false) c.byte-count.result c.byte-rows.result c.meaning-flag.result c.byte-count.ensures.0
-    c.byte-rows.ensures.0 (meant args.bytes.now args.at c.byte.result c.meaning-flag.result c.byte.ensures.0 c.meaning-flag.ensures)
-    (tells c.flag_known.ensures (not-true _ c.if-not-flag_known.true-raw))) c.stop-then-not-flag_known.ensures refl in record { value = all.0; store_after = all.1 }
-
-pub returns-then-not-counts_fit : goal.returns-then-not-counts_fit
-returns-then-not-counts_fit c =
-    let args = c.args in
-    let all = turned args.g args.store.now _ _ CountOutside _ (outside args.g args.store.now args.bytes.now args.at
-    (tells c.cut.ensures
-    c.if-cut.false) c.byte-count.result c.byte-rows.result c.meaning-flag.result
-    c.byte-count.ensures.0 c.byte-rows.ensures.0 (meant args.bytes.now args.at c.byte.result c.meaning-flag.result c.byte.ensures.0
-    c.meaning-flag.ensures) (tells c.flag_known.ensures (not-false _ c.if-not-flag_known.false-raw))
-    (tells c.counts_fit.ensures (not-true _ c.if-not-counts_fit.true-raw))) c.stop-then-not-counts_fit.ensures refl in record { value = all.0; store_after = all.1 }
-
-pub overflow_add-at-3 : goal.overflow_add-at-3
-overflow_add-at-3 c =
-    let args = c.args in
-    omega (
-      arith,
-      there args.bytes.now args.at 3 (tells c.cut.ensures c.if-cut.false),
-    )
-
-pub cut-requires-2 : goal.cut-requires-2
-cut-requires-2 c =
-    let args = c.args in
-    omega (
-      arith,
-      there args.bytes.now args.at 3 (tells c.cut.ensures c.if-cut.false),
-    )
-
-pub returns-then-cut-2 : goal.returns-then-cut-2
-returns-then-cut-2 c =
-    let args = c.args in
-    let all = turned args.g args.store.now _ _ BadRecord _ (keys-cut args.g args.store.now args.bytes.now args.at
-    (tells c.cut.ensures c.if-cut.false) c.byte-count.result c.byte-rows.result
-    c.meaning-flag.result c.byte-count.ensures.0 c.byte-rows.ensures.0 (meant args.bytes.now args.at c.byte.result c.meaning-flag.result
-    c.byte.ensures.0 c.meaning-flag.ensures) (tells c.flag_known.ensures
-    (not-false _ c.if-not-flag_known.false-raw))
-    (tells c.counts_fit.ensures (not-false _ c.if-not-counts_fit.false-raw))
-    (tells c.cut-2.ensures c.if-cut-2.true)) c.stop-then-cut-2.ensures refl in record { value = all.0; store_after = all.1 }
-
-pub overflow_add-at-4 : goal.overflow_add-at-4
-overflow_add-at-4 c =
-    let args = c.args in
-    omega (
-      arith,
-      there args.bytes.now args.at 3 (tells c.cut.ensures c.if-cut.false),
-    )
-
-pub keys-requires : goal.keys-requires
-keys-requires c =
-    let args = c.args in (
-      there args.bytes.now (args.at + 3) c.byte-count.result
-          (tells c.cut-2.ensures c.if-cut-2.false),
-      few-keys _ _ (tells c.counts_fit.ensures (not-false _ c.if-not-counts_fit.false-raw)),
-    )
-
-pub overflow_add-at-5 : goal.overflow_add-at-5
-overflow_add-at-5 c =
-    let args = c.args in
-    omega (
-      arith,
-      there args.bytes.now args.at 3 (tells c.cut.ensures c.if-cut.false),
-    )
-
-pub overflow_add-at-6 : goal.overflow_add-at-6
-overflow_add-at-6 c =
-    let args = c.args in
-    omega (
-      arith,
-      there args.bytes.now (args.at + 3) c.byte-count.result (tells c.cut-2.ensures c.if-cut-2.false),
-    )
-
-pub slice_bounds-read_observed-end : goal.slice_bounds-read_observed-end
-slice_bounds-read_observed-end c = omega (
-  arith,
-  few-keys c.byte-count.result c.byte-rows.result
-      (tells c.counts_fit.ensures
-      c.if-not-counts_fit.false),
-)
-
-pub read_observed-requires : goal.read_observed-requires
-read_observed-requires c =
-    let args = c.args in
-    let byte = c.byte-count in
-    record {
-      g_value = (
-        c.requires.0,
-        there args.bytes.now (args.at + 3) byte.result
-            (tells c.cut-2.ensures c.if-cut-2.false),
-      );
-      rows_value = (
-        counted args.bytes.now (args.at + 3) byte.result c.byte-rows.result _ (front (λ i. byte_at args.bytes.now (args.at + 3 + i)) byte.result _ _
-            c.keys.ensures) (tells c.counts_fit.ensures c.if-not-counts_fit.false),
-        (tells c.flag_known.ensures
-            c.if-not-flag_known.false),
-      );
-    }
+pub read_observed-requires-clause-counts : goal.read_observed-requires-clause-counts
+read_observed-requires-clause-counts c =
+    (counted _ _ _ _ _ (tells c.counts_fit.ensures c.if-not-counts_fit.false) c.keys.ensures).1
 
 pub returns : goal.returns
 returns c =
-    let args = c.args in
-    let all = met args.g args.store.now _ _ _ _ (from-keys args.g args.store.now args.bytes.now args.at
-    (tells c.cut.ensures c.if-cut.false) c.byte-count.result c.byte-rows.result
-    c.meaning-flag.result c.byte-count.ensures.0 c.byte-rows.ensures.0 (meant args.bytes.now args.at c.byte.result c.meaning-flag.result
-    c.byte.ensures.0 c.meaning-flag.ensures) (tells c.flag_known.ensures
-    c.if-not-flag_known.false)
-    (tells c.counts_fit.ensures c.if-not-counts_fit.false)
-    (tells c.cut-2.ensures c.if-cut-2.false) _
-    (front (λ i. byte_at args.bytes.now (args.at + 3 + i)) c.byte-count.result _ _
-    c.keys.ensures)) (c.read_observed.ensures.value, c.read_observed.ensures.store_after) in record { value = all.0; store_after = all.1 }
+    let b = c.args.r.bytes.now in
+    let at = c.args.r.at in
+    let on = c.past-r.ensures in
+    let fit = tells c.counts_fit.ensures c.if-not-counts_fit.false in
+    let whole : cut b at header_bytes ≡ false = grind (arith, common_steps) in
+    let count : c.from-count.result ≡ byte_at b at = grind (arith, common_steps) in
+    let rows : c.from-rows.result ≡ byte_at b (at + 1) = grind (arith, common_steps) in
+    let flag : Some c.in_ok-flag.flag ≡ meaning (byte_at b (at + 2)) = grind (arith, common_steps) in
+    rw (from-keys c.args.g.now c.args.store.now b at _ _ _ _ whole count rows flag fit (rw (on.0, on.1) at (tells c.cut.ensures c.if-cut.false))
+    (rw (on.0, on.1) at (counted _ _ _ _ _ fit c.keys.ensures).0))
+    (rw (c.past.ensures.0, c.past.ensures.1, on.0, on.1) at c.read_observed.ensures)

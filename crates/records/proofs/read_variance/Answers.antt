@@ -1,58 +1,61 @@
--- `records::read_variance` meets its contract, by the meanings of the flag. Assumes nothing.
-use Prim.Native.Nat.{ℕ, ◌+◌, ◌*◌, ◌≤◌}
-use mathlib.Core.Path.{◌≡◌}
-use mathlib.Core.Bool.{true, false}
-use mathlib.Core.List.{List, ◌++◌}
-use native.Mathlib.Nat.{mul-le-mul}
+-- `records::read_variance` meets its contract: zeros whose diagonal is filled with x are x on the diagonal and 0 elsewhere. Assumes nothing.
+use Prim.Native.Nat.{ℕ, ◌*◌, ◌/◌, ◌%◌, ◌<◌}
+use mathlib.Core.Path.{◌≡◌, refl, sym, ap, ◌∙◌}
+use mathlib.Core.List.{List}
+use native.Mathlib.Decide.{ℕ_discrete}
 use native.Mathlib.Omega.{arith}
-use lib.Ieee.{Float}
-use lib.ListN.{drop}
-use Rattle.matrix.specs.Triangles.{diagonal_of}
-use Rattle.records.specs.Bytes.{numbers_at}
-use Rattle.records.specs.Records.{flag_known, given_numbers, variance_read}
-use Rattle.records.specs.declared.kinds.Flag.{Flag}
-use Rattle.records.specs.declared.kinds.Flag.TheVariants.{Diagonal, Given, Unknown}
+use lib.Ieee.{Float, nan, of_bits}
+use lib.ListN.{length, replicate, length-replicate, get_or-replicate}
+use lib.Seq.{ext_get_or}
+use Rattle.matrix.specs.Views.{place, entry, Apart, columns}
+use Rattle.matrix.specs.Sums.{plus_zero}
+use Rattle.matrix.specs.Triangles.{filled_diagonal, diagonal_of}
+use Rattle.matrix.proofs.Dense.{dense, whole-at}
+use Rattle.matrix.proofs.Diagonal.{on_diagonal, same_place, other_place, diagonal-length, diagonal-at}
+use Rattle.matrix.proofs.Entries.{apart, steps-length, steps-at, steps_other}
 use Rattle.records.proofs.read_variance.Goals as goal
 
-has_room : (flag : Flag) (rows at len : ℕ) → flag ≡ Given → at + 8 * given_numbers flag rows ≤ len → at + 8 * (rows * rows) ≤ len
-has_room flag rows at len e h = rw e at h
+module _ (x : Float) (n : ℕ) where
+  abbrev made : List Float
+  made = filled_diagonal (columns n) x (replicate (n * n) plus_zero) n
 
-module _ (flag : Flag) (bytes : List ℕ) (at rows : ℕ) (out t : List Float) where
-  of-diagonal : (x : Float) → flag ≡ Diagonal x → t ≡ diagonal_of x rows ++ drop (rows * rows) out
-      → t ≡ variance_read flag bytes at rows ++ drop (rows * rows) out
-  of-diagonal x e h = rw e h
+  separate : Apart (columns n) n n
+  separate = apart (columns n) n n refl (omega arith)
 
-  of-given : flag ≡ Given → t ≡ numbers_at bytes at (rows * rows) ++ drop (rows * rows) out → t ≡ variance_read flag bytes at rows ++ drop (rows * rows) out
-  of-given e h = rw e h
+  made-length : length made ≡ n * n
+  unfolding filled_diagonal
+  made-length = steps-length (λ d. place (columns n) d d) (λ d t. x) (replicate (n * n) plus_zero) n ∙ length-replicate (n * n) plus_zero
 
-  -- no record comes so far with an unknown flag
-  of_none : flag ≡ Unknown → flag_known flag ≡ true → t ≡ variance_read flag bytes at rows ++ drop (rows * rows) out
-  of_none e h = let k : false ≡ true = rw e at h in cc
+  made-entry : (i j : ℕ) → i < n → j < n → entry made (columns n) i j ≡ on_diagonal x i j
+  unfolding filled_diagonal
+  made-entry i j hi hj = go (ℕ_discrete i j)
+    where
+      inside : place (columns n) i j < n * n
+      inside = dense n n (n * n) (omega arith) i j hi hj
 
-pub overflow_mul-rows : goal.overflow_mul-rows
-overflow_mul-rows c =
-    omega (arith, mul-le-mul c.requires.le_rows.1 c.requires.le_rows.1)
+      go : Dec (i ≡ j) → entry made (columns n) i j ≡ on_diagonal x i j
+      go (yes e) =
+          rw (← e)
+          (steps-at (λ d. place (columns n) d d) (λ d t. x) (replicate (n * n) plus_zero) i n
+          (λ d l m f. let w = separate d d i i m m hi hi f in omega (arith, w.0)) hi (rw length-replicate (dense n n (n * n) (omega arith) i i hi hi)) ∙ sym (same_place x i))
+      go (no h) =
+          steps_other (λ d. place (columns n) d d) (λ d t. x) (replicate (n * n) plus_zero) (place (columns n) i j) n
+          (λ d l f. let w = separate d d i j l l hi hj f in h (sym w.0 ∙ w.1))
+          ∙ get_or-replicate (n * n) (place (columns n) i j) plus_zero nan inside ∙ sym (other_place x i j h)
 
-pub numbers-requires : goal.numbers-requires
-numbers-requires c =
-    let args = c.args in (
-      has_room args.flag args.rows args.at _ c.in-Given.is c.requires.rows_in_bounds.0,
-      c.requires.le_rows.2,
-    )
+  pub made-is : made ≡ diagonal_of x n
+  made-is =
+      ext_get_or nan made (diagonal_of x n) (made-length ∙ sym (diagonal-length x n))
+      (λ k l. let h : k < n * n = omega (arith, made-length) in
+      let w = whole-at n n k h in
+      (rw w.3 at (made-entry (k % n) (k / n) w.1 w.2)) ∙ sym (diagonal-at x n k h))
 
 pub returns-in-Diagonal : goal.returns-in-Diagonal
+unfolding of_bits
 returns-in-Diagonal c =
-    let args = c.args in
-    of-diagonal args.flag args.bytes.now args.at args.rows args.out.now _ _ c.in-Diagonal.is
-    c.diagonal.ensures
-
-pub returns-in-Given : goal.returns-in-Given
-returns-in-Given c =
-    let args = c.args in
-    of-given args.flag args.bytes.now args.at args.rows args.out.now _ c.in-Given.is
-    c.numbers.ensures
-
-pub returns-in-Unknown : goal.returns-in-Unknown
-returns-in-Unknown c =
-    let args = c.args in
-    of_none args.flag args.bytes.now args.at args.rows args.out.now _ c.in-Unknown.is c.requires.rows_in_bounds.1
+    let n = c.args.rows in
+    let x = c.in-Diagonal.x in
+    rw c.in-Diagonal.is
+    (c.fill_diagonal.ensures
+    ∙ ap (λ (s : List Float). filled_diagonal (columns n) x s n) (c.fill.ensures.after (λ y e. e) ∙ ap (λ (m : ℕ). replicate m plus_zero) c.requires.square.1)
+    ∙ made-is x n)

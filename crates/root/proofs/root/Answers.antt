@@ -3,20 +3,17 @@ use Rattle.std.proofs.Common.{◌≡◌, true, T, sym, ◌∙◌, subst, arith}
 use lib.Ieee.{Float, binary64, fits, to_bits}
 use lib.Ieee.Bits.{of_bits-to_bits}
 use Rattle.root.proofs.Nearest.{right}
-use Rattle.root.proofs.Values.{no_nan, refused-nan, refused-zero, refused_large, subnormal, normal, number_is}
+use Rattle.root.proofs.Values.{refused-nan, refused-zero, refused_large, subnormal, normal, number_is}
 use Rattle.root.proofs.root.Goals as goal
 
 -- what owning an `f64` tells: the format holds it
 held : (v : Float) → fits binary64 v ≡ true → T (fits binary64 v)
 held v e = subst T (sym e) tt
 
-pub returns-then-v : goal.returns-then-v
-returns-then-v c =
+pub returns-then-is_nan : goal.returns-then-is_nan
+returns-then-is_nan c =
     let v = c.args.v in
-    let all = right v _ (held c.args.v c.well_formed.0.1) (refused-nan v c.if-v.true) in record { is = all.0; right = all.1.0; told = all.1.1 }
-
-pub float_to_bits-b : goal.float_to_bits-b
-float_to_bits-b c = no_nan c.args.v c.if-v.false
+    let all = right v _ (held c.args.v c.well_formed.0.1) (refused-nan v (sym c.is_nan.ensures.value ∙ c.if-is_nan.true)) in record { is = all.0; right = all.1.0; told = all.1.1 }
 
 pub returns-then-b-eq0 : goal.returns-then-b-eq0
 returns-then-b-eq0 c =

@@ -44,7 +44,7 @@ add_view-requires c =
     let args = c.args in
     record {
       frame_laid = c.requires.frame_laid;
-      fitted = refit (slot_store args.h.slot args.factors.now args.messages.now) _ args.h.at c.numbers-nums.ensures
+      fitted = refit (slot_store args.h.slot args.s.factors.now args.s.messages.now) _ args.h.at c.numbers-nums.ensures
           c.requires.slot_ready.stored c.requires.slot_ready.fitted;
     }
 
@@ -54,14 +54,14 @@ rows_of-requires c = prior-key c.requires.slot_ready
 pub overflow_add-result : goal.overflow_add-result
 overflow_add-result c =
     let args = c.args in
-    omega (arith, c.requires.slot_ready.low, c.rows_of.ensures, rows_bound args.layout args.keys.now args.h c.requires.slot_ready.fitted.rows)
+    omega (arith, c.requires.slot_ready.low, c.rows_of.ensures, rows_bound args.layout args.s.tables.keys.now args.h c.requires.slot_ready.fitted.rows)
 
 pub returns : goal.returns
 returns c =
     let args = c.args in
     record {
       value = ap (λ (k : ℕ). args.row + k) (c.rows_of.ensures ∙ rows_is c.requires.slot_ready);
-      work_after = view_read args.branch args.f args.layout args.row args.h.prior (head_keys args.keys.now args.h) args.h.rows
+      work_after = view_read args.branch args.f args.layout args.row args.h.prior (head_keys args.s.tables.keys.now args.h) args.h.rows
           args.h.width _ _ _ _ c.numbers-nums.ensures
           c.add_view.ensures;
     }

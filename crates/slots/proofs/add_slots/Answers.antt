@@ -1,66 +1,25 @@
--- `slots::add_slots` meets its contract. The loop's invariant: the sums and the row after the slots passed. Assumes nothing.
-use Prim.Native.Nat.{◌-◌}
-use mathlib.Core.Path.{◌≡◌, refl, ◌∙◌}
-use native.Mathlib.Omega.{arith}
-use lib.ListN.{length}
+-- `slots::add_slots` meets its contract: the sums and the row after the slots passed. Assumes nothing.
+use Rattle.std.proofs.Common.{refl, ◌∙◌}
 use Rattle.workspace.specs.Sums.{turns}
-use Rattle.workspace.proofs.Cuts.{relaid}
 use Rattle.slots.specs.Views.{rows_of_all, with_views}
-use Rattle.slots.proofs.Reading.{re_ready, rows_more, views-more}
+use Rattle.slots.proofs.Reading.{rows_more, views-more}
 use Rattle.slots.proofs.add_slots.Goals as goal
 
-pub loop-i-init : goal.loop-i-init
+pub loop-number-init : goal.loop-number-init
 unfolding rows_of_all with_views turns
-loop-i-init c = (omega arith, refl, refl, refl, refl, refl)
+loop-number-init c = record { work = refl; t = refl; row = refl; sums = refl }
 
-pub offset_bounds-slots-i : goal.offset_bounds-slots-i
-offset_bounds-slots-i c = omega (arith, c.loop-i-test.true, c.loop-i.invariant.1)
-
-pub bounds-slots-i : goal.bounds-slots-i
-bounds-slots-i c = omega (arith, c.loop-i-test.true, c.loop-i.invariant.1)
-
-pub head_at-h-requires : goal.head_at-h-requires
-head_at-h-requires c =
-    let loop = c.loop-i in
-    c.requires.counted.headed loop.i
-    (omega (arith, c.loop-i-test.true, loop.invariant.1))
-
-pub add_slot-row-requires : goal.add_slot-row-requires
-add_slot-row-requires c =
-    let loop = c.loop-i in
-    record {
-      frame_laid = relaid c.args.f loop.invariant.2 c.requires.frame_laid;
-      slot_ready = re_ready loop.invariant.4 loop.invariant.3 c.head_at-h.ensures
-          (c.requires.by_index loop.i (omega (arith, c.loop-i-test.true, loop.invariant.1)));
-    }
-
-pub overflow_step-i : goal.overflow_step-i
-overflow_step-i c = omega (
-  arith,
-  c.loop-i-test.true,
-  c.loop-i.invariant.1,
-  c.requires.counted.few,
-)
-
-pub loop-i-smaller : goal.loop-i-smaller
-loop-i-smaller c = omega arith
-
-pub loop-i-preserved : goal.loop-i-preserved
-loop-i-preserved c =
+pub loop-number-preserved : goal.loop-number-preserved
+loop-number-preserved c =
     let args = c.args in
-    let loop = c.loop-i in (
-      omega (arith, c.loop-i-test.true),
-      omega (arith, loop.invariant.1),
-      c.add_slot-row.auto.work ∙ loop.invariant.2,
-      c.add_slot-row.auto.t ∙ loop.invariant.3,
-      rows_more args.layout args.factors.now args.messages.now args.keys.now args.heads.now args.slots.now loop.i _ _
-          c.head_at-h.ensures loop.invariant.4 _ c.add_slot-row.ensures.value,
-      views-more args.layout args.factors.now args.messages.now args.keys.now args.heads.now args.slots.now loop.i _ _
-          c.head_at-h.ensures loop.invariant.4 args.branch args.f _ _ _ loop.invariant.5 c.add_slot-row.ensures.work_after,
-    )
-
-pub returns : goal.returns
-returns c =
-    let loop = c.loop-i in
-    let e : loop.i ≡ length c.args.slots.now = omega (arith, loop.invariant.1) in
-    rw (← e) loop.invariant.5
+    let loop = c.loop-number in
+    let kept = loop.invariant in
+    let added = c.add_slot-row in
+    record {
+      work = added.auto.work ∙ kept.work;
+      t = added.auto.t ∙ kept.t;
+      row = rows_more args.layout args.s.factors.now args.s.messages.now args.s.tables.keys.now args.s.tables.heads.now args.slots.now loop.number-index _ _ c.head_at-h.ensures kept.row _
+          added.ensures.value;
+      sums = views-more args.layout args.s.factors.now args.s.messages.now args.s.tables.keys.now args.s.tables.heads.now args.slots.now loop.number-index _ _ c.head_at-h.ensures kept.row
+          args.branch args.f _ _ _ kept.sums added.ensures.work_after;
+    }

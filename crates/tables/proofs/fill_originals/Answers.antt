@@ -1,6 +1,5 @@
 -- `tables::fill_originals` meets its contract. The loop's invariant: the factors passed are entered, and the place is where the next one's numbers
 -- begin. Assumes nothing.
-use Prim.Native.Nat.{◌-◌}
 use mathlib.Core.Path.{◌∙◌, refl}
 use native.Mathlib.Omega.{arith}
 use borrow.Author.Rules.{rules}

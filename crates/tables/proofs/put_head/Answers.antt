@@ -1,9 +1,11 @@
 -- `tables::put_head` meets its contract: six stores in a row. Assumes nothing.
 use Prim.Native.Nat.{ℕ, suc, ◌+◌, ◌*◌, ◌≤◌}
-use mathlib.Core.Path.{◌≡◌}
+use mathlib.Core.Path.{◌≡◌, refl, ◌∙◌}
+use mathlib.Core.Bool.{Bool, true, false, cond}
+use mir.Val.{bool_byte}
 use mathlib.Core.List.{List, [], ◌∷◌}
 use native.Mathlib.Omega.{arith}
-use lib.ListN.{length, set, length-set}
+use lib.ListN.{length, set}
 use lib.Seq.{sets-eq}
 use Rattle.factor.specs.Factor.{lay}
 use Rattle.slots.specs.Limits.{numbers_per_head}
@@ -21,21 +23,14 @@ six-laid l p a b c d e f h =
     let e5 : p + 5 ≡ suc (suc (suc (suc (suc p)))) = omega arith in
     rw (e1, e2, e3, e4, e5) (sets-eq (a ∷ b ∷ c ∷ d ∷ e ∷ f ∷ []) l p h)
 
-pub bounds-heads-p-2 : goal.bounds-heads-p-2
-bounds-heads-p-2 c = simp length-set (omega arith)
-
-pub bounds-heads-p-3 : goal.bounds-heads-p-3
-bounds-heads-p-3 c = simp length-set (omega arith)
-
-pub bounds-heads-p-4 : goal.bounds-heads-p-4
-bounds-heads-p-4 c = simp length-set (omega arith)
-
-pub bounds-heads-p-5 : goal.bounds-heads-p-5
-bounds-heads-p-5 c = simp length-set (omega arith)
+-- 1 for a prior
+marked : (prior : Bool) → bool_byte prior ≡ cond prior 1 0
+marked true = refl
+marked false = refl
 
 pub returns : goal.returns
 unfolding with_head
 returns c =
     let args = c.args in
-    rw (← c.mark.ensures) (six-laid args.heads.now (numbers_per_head * args.number) _ args.at args.rows args.width args.first
-    args.count (omega arith))
+    let mark : c.from.result ≡ cond args.prior 1 0 = c.from.ensures ∙ marked args.prior in
+    rw mark (six-laid args.heads.now (numbers_per_head * args.number) _ args.at args.rows args.width args.first args.count (omega arith))

@@ -6,7 +6,7 @@ returns c = record {
   keys_after = c.put_keys.ensures;
   heads_after = rw (
     ← c.width_of.ensures,
-    ← c.wide.ensures,
-    ← c.wide-2.ensures,
+    ← c.from.ensures,
+    ← c.from-2.ensures,
   ) c.put_head.ensures;
 }

@@ -3,5 +3,5 @@ use Rattle.std.proofs.Common.{take}
 use Rattle.text.specs.Putting.{Puts}
 use Rattle.text.proofs.put_word.Given as goal
 
-abbrev pub invariant-loop-i : goal.invariant-loop-i
-invariant-loop-i l = Puts l.initial.out l.out l.at l.to (take l.i l.word)
+abbrev pub invariant-loop-byte : goal.invariant-loop-byte
+invariant-loop-byte l = Puts l.initial.out l.out l.at l.to (take l.byte-index l.word)

@@ -1,18 +1,13 @@
--- `workspace::solve_at` meets its contract: a solve in one list is the solve of a part with S. Assumes nothing.
-use native.Mathlib.Omega.{arith}
-use Rattle.matrix.proofs.Dense.{dense}
-use Rattle.workspace.proofs.Cuts.{bounds}
-use Rattle.workspace.proofs.InPlace.{solve-at-is}
+-- `workspace::solve_at` meets its contract: the store is cut behind S, and one part of the rest is changed. Assumes nothing.
+use mathlib.Core.Path.{refl}
+use Rattle.workspace.specs.Blocks.{solved_columns}
+use Rattle.workspace.proofs.Cuts.{behind}
+use Rattle.workspace.proofs.Parts.{part_first}
 use Rattle.workspace.proofs.solve_at.Goals as goal
-
-pub solve_in-requires : goal.solve_in-requires
-solve_in-requires c =
-    let args = c.args in
-    let b = bounds c.requires.frame_laid args.which in
-    record { inside = λ i j hi hj. dense _ _ _ (omega arith) i j hi hj; inside_2 = λ i j hi hj. omega (arith, c.begin-p.ensures, dense args.f.cleared args.m _ c.requires.h_bound.1 i j hi hj) }
 
 pub returns : goal.returns
 returns c =
-    let args = c.args in
-    solve-at-is args.f args.work.now _ args.which _ _ c.requires.frame_laid c.requires.h_bound.0 c.requires.h_bound.1 c.begin-p.ensures
-    c.solve_in.ensures
+    let v = c.args in
+    behind v.f v.work.now _ _ _ v.which (λ l x. solved_columns l v.f.cleared x v.m) _ v.f.h _ _ c.requires.frame_laid c.requires.h_bound.0
+    c.split_at_mut-s.ensures.front c.split_at_mut-s.ensures.back (rw c.begin.ensures refl) (rw c.end.ensures refl) c.solve_columns.auto.x
+    c.solve_columns.ensures (λ x. rw (part_first v.work.now v.f.h) refl)

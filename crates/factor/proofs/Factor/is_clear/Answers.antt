@@ -1,72 +1,30 @@
--- `factor::Factor::is_clear` meets its contract. The loop's invariant: the keys passed are 0. Assumes nothing.
-use mathlib.Core.Bool.{true}
-use mathlib.Core.Path.{◌≡◌}
+-- `factor::Factor::is_clear` meets its contract: an array is equal to one of zeros if each place holds 0. Assumes nothing.
+use Prim.Native.Nat.{ℕ, zero, suc}
+use mathlib.Core.Path.{◌≡◌, refl, ap, sym, ◌∙◌}
+use mathlib.Core.Bool.{Bool, ◌&&◌}
+use mathlib.Core.List.{List, [], ◌∷◌}
 use native.Mathlib.Omega.{arith}
 use borrow.Author.Rules.{rules}
-use borrow.Author.Tests.{eq-eqb, ne_eqb}
 use lib.Dec.{eqb}
-use Rattle.factor.proofs.Counting.{all_fail, all_more, all_none}
-use Rattle.factor.specs.Counting.{all, every}
+use lib.ListN.{get_or, length, replicate}
+use lib.Pointwise.{pointwise}
+use Rattle.factor.proofs.Chains.{all_front}
+use Rattle.factor.specs.Counting.{every, all}
 use Rattle.factor.specs.Factor.{is_clear, key_at}
 use Rattle.factor.specs.Limits.{max_keys}
 use Rattle.factor.proofs.Factor.is_clear.Goals as goal
 
-pub returns-then-self : goal.returns-then-self
+zeros : (l : List ℕ) (n : ℕ) → length l ≡ n → pointwise eqb l (replicate n 0) ≡ all (λ j. eqb (get_or l j 0) 0) n
+unfolding all
+zeros [] zero e = refl
+zeros [] (suc n) e = absurd (omega arith)
+zeros (x ∷ l) zero e = absurd (omega arith)
+zeros (x ∷ l) (suc n) e =
+    ap (λ (b : Bool). eqb x 0 && b) (zeros l n (omega arith)) ∙ sym (all_front (λ j. eqb (get_or (x ∷ l) j 0) 0) n)
+
+pub returns-then-self-eq0-2 : goal.returns-then-self-eq0-2
 unfolding is_clear every
-returns-then-self c = (simp c.if-self.true, search rules)
-
-pub returns-then-self-2 : goal.returns-then-self-2
-unfolding is_clear every
-returns-then-self-2 c = (simp (c.if-self.false, c.if-self-2.true), search rules)
-
-pub returns-then-self-ne0 : goal.returns-then-self-ne0
-unfolding is_clear every
-returns-then-self-ne0 c = (simp (c.if-self.false, c.if-self-2.false, ne_eqb _ _ c.if-self-ne0.true), search rules)
-
-pub returns-then-self-ne0-2 : goal.returns-then-self-ne0-2
-unfolding is_clear every
-returns-then-self-ne0-2 c = (
-  simp (
-    c.if-self.false,
-    c.if-self-2.false,
-    eq-eqb _ _ c.if-self-ne0.false,
-    ne_eqb _ _ c.if-self-ne0-2.true,
-  ),
-  search rules,
-)
-
-pub loop-place-init : goal.loop-place-init
-loop-place-init c = (search rules, all_none _)
-
-pub returns-then-self-place-ne0 : goal.returns-then-self-place-ne0
-unfolding is_clear every
-returns-then-self-place-ne0 c = (
-  simp (
-    c.if-self.false,
-    c.if-self-2.false,
-    eq-eqb _ _ c.if-self-ne0.false,
-    eq-eqb _ _ c.if-self-ne0-2.false,
-    all_fail
-        (λ j. eqb (key_at c.args.self j) 0) max_keys c.loop-place.place
-        (search rules) (ne_eqb _ _ c.if-self-place-ne0.true),
-  ),
-  search rules,
-)
-
-pub loop-place-preserved : goal.loop-place-preserved
-loop-place-preserved c = (search rules, all_more _ _ c.loop-place.invariant.1 (eq-eqb _ _ c.if-self-place-ne0.false))
-
-pub returns : goal.returns
-unfolding is_clear every
-returns c =
-    let e : c.loop-place.place ≡ max_keys = omega arith in
-    let t : all (λ j. eqb (key_at c.args.self j) 0) max_keys ≡ true = rw e at c.loop-place.invariant.1 in (
-      simp (
-        c.if-self.false,
-        c.if-self-2.false,
-        eq-eqb _ _ c.if-self-ne0.false,
-        eq-eqb _ _ c.if-self-ne0-2.false,
-        t,
-      ),
-      search rules,
-    )
+returns-then-self-eq0-2 c =
+    let long : length c.args.self.keys ≡ max_keys = search rules in
+    let keys : c.eq.result ≡ all (λ j. eqb (key_at c.args.self j) 0) max_keys = c.eq.ensures ∙ zeros c.args.self.keys max_keys long in
+    search rules

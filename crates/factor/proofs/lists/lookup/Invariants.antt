@@ -1,8 +1,6 @@
 use Prim.Native.Nat.{◌≤◌}
-use mathlib.Core.Path.{◌≡◌}
-use lib.ListN.{length}
 use Rattle.factor.specs.Factor.{below}
 use Rattle.factor.proofs.lists.lookup.Given as goal
 
 abbrev pub invariant-loop-place : goal.invariant-loop-place
-invariant-loop-place l = (l.place ≤ l.place-end) × (l.place-end ≡ length l.keys) × (l.place ≤ below l.keys l.key)
+invariant-loop-place l = l.place ≤ below l.keys l.key

@@ -3,7 +3,6 @@ use Prim.Native.Nat.{◌*◌, ◌≤◌, ℕ}
 use mathlib.Core.List.{List}
 use mathlib.Core.Path.{◌≡◌}
 use native.Mathlib.Nat.{mul-le-mul}
-use native.Mathlib.Omega.{arith}
 use lib.Ieee.{Float, of_bits}
 use lib.ListN.{length-replicate, replicate}
 use Rattle.factor.proofs.Laying.{front_replicate}
@@ -20,26 +19,12 @@ room n l = mul-le-mul l l
 lent : (n : ℕ) (l xi w : List Float) → l ≡ replicate (n * n) plus_zero → xi ≡ replicate n plus_zero → w ≡ replicate (n * n) plus_zero → FormLent n l xi w
 lent n l xi w el ex ew = record { of_l = rw el (length-replicate (n * n) plus_zero); of_x = rw ex (length-replicate n plus_zero); of_y = ew }
 
-pub slice_bounds-l-end : goal.slice_bounds-l-end
-slice_bounds-l-end c =
-    omega (arith, room c.args.n c.requires.rows)
-
-pub slice_bounds-w-end : goal.slice_bounds-w-end
-slice_bounds-w-end c =
-    omega (arith, room c.args.n c.requires.rows)
-
-pub store_by-requires : goal.store_by-requires
+pub store_by-requires-clause-form_lent : goal.store_by-requires-clause-form_lent
 unfolding of_bits
-store_by-requires c =
-    let args = c.args in
-    let pre = c.requires in
-    record {
-      factor_room = pre;
-      form_lent = lent args.n _ _ _ (front_replicate plus_zero (max_rows * max_rows) (args.n * args.n) (room args.n pre.rows))
-          (front_replicate plus_zero max_rows args.n pre.rows) (front_replicate plus_zero (max_rows * max_rows) (args.n * args.n)
-          (room args.n pre.rows));
-    }
+store_by-requires-clause-form_lent c =
+    let n = c.args.n in
+    let square = front_replicate plus_zero (max_rows * max_rows) (n * n) (room n c.requires.rows) in
+    lent n _ _ _ square (front_replicate plus_zero max_rows n c.requires.rows) square
 
-pub returns : goal.returns
-returns c =
-    record { value = c.store_by.ensures.value; store_after = c.store_by.ensures.store_after; result_value = weighed_tells _ _ c.store_by.ensures.value }
+pub returns-clause-result_value : goal.returns-clause-result_value
+returns-clause-result_value c = weighed_tells _ _ c.store_by.ensures.value

@@ -1,6 +1,6 @@
 -- `gaussian::marginal::moments` meets its contract: A'xi and A'WA are added to zeros. Assumes nothing.
 use Prim.Native.Nat.{◌*◌}
-use mathlib.Core.Path.{ap, ◌∙◌}
+use mathlib.Core.Path.{ap, ◌∙◌, sym}
 use native.Mathlib.Omega.{arith}
 use lib.ListN.{length, length-replicate}
 use Rattle.matrix.specs.Sums.{plus_zero}
@@ -12,12 +12,21 @@ use Rattle.gaussian.proofs.marginal.moments.Goals as goal
 pub gemv_tr-requires : goal.gemv_tr-requires
 gemv_tr-requires c =
     let args = c.args in
-    record { inside = λ i j hi hj. dense args.s 1 _ (omega (arith, ap length c.requires.mean_value.0, length-replicate args.s plus_zero)) i j hi hj; inside_2 = λ i j hi hj. dense args.y args.s _ c.requires.s_in_bounds.0 i j hi hj; inside_3 = λ i j hi hj. dense args.y 1 _ (omega (arith, c.requires.s_in_bounds.1)) i j hi hj }
+    record {
+      shape = (c.new-tall.ensures.2 ∙ sym c.new-vector.ensures.2, c.new-vector.ensures.3);
+      inside = rw c.new-tall.ensures.3 (λ i j hi hj. dense args.s 1 _
+          (omega (arith, ap length c.requires.mean_value.0, length-replicate args.s plus_zero)) i j hi hj);
+    }
 
 pub quadform-requires : goal.quadform-requires
 quadform-requires c =
     let args = c.args in
-    record { inside = λ i j hi hj. dense args.s args.s _ (omega (arith, ap length c.requires.mean_value.1, length-replicate (args.s * args.s) plus_zero)) i j hi hj; inside_2 = λ i j hi hj. dense args.y args.y _ c.requires.s_in_bounds.2 i j hi hj; inside_3 = λ i j hi hj. dense args.y args.s _ c.requires.s_in_bounds.0 i j hi hj; d_in_bounds = c.requires.s_in_bounds.3 }
+    record {
+      shape = (c.new-weight.ensures.2 ∙ sym c.new-tall.ensures.2, c.new-weight.ensures.3 ∙ sym c.new-tall.ensures.2);
+      inside = rw c.new-tall.ensures.3 (λ i j hi hj. dense args.s args.s _
+          (omega (arith, ap length c.requires.mean_value.1, length-replicate (args.s * args.s) plus_zero)) i j hi hj);
+      in_bounds = rw (c.new-tall.ensures.2, c.new-tall.ensures.3) c.requires.s_in_bounds.3;
+    }
 
 pub exchange-requires : goal.exchange-requires
 exchange-requires c =
@@ -36,6 +45,14 @@ unfolding moments_of
 returns c = let all = solved-tells _ _ _ _ (rw (
   ← c.requires.mean_value.0,
   ← c.requires.mean_value.1,
-  ← c.gemv_tr.ensures,
-  ← c.quadform.ensures,
+  ← (rw (
+    c.new-tall.ensures.0,
+    c.new-tall.ensures.1,
+    c.new-tall.ensures.2,
+    c.new-tall.ensures.3,
+    c.new-vector.ensures.0,
+    c.new-vector.ensures.1,
+  ) at c.gemv_tr.ensures),
+  ← (rw (c.new-weight.ensures.0, c.new-weight.ensures.1, c.new-tall.ensures.0, c.new-tall.ensures.1, c.new-tall.ensures.2, c.new-tall.ensures.3)
+      at c.quadform.ensures),
 ) c.exchange.ensures) in record { w_value = all.0; result_value = all.1 }

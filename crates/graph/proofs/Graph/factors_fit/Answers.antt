@@ -1,11 +1,10 @@
 -- `graph::Graph::factors_fit` meets its contract. The loop's invariant: the places passed are right, and their keys have room. Assumes nothing.
 use mathlib.Core.Bool.{false≢true}
-use mathlib.Core.Path.{◌≡◌, refl, sym}
+use mathlib.Core.Path.{◌≡◌, sym}
 use borrow.Author.Count.{below_more, below_none}
 use Rattle.factor.proofs.Counting.{all_fail, all_more, all_none, tells}
 use Rattle.factor.specs.Limits.{max_factors}
 use Rattle.graph.specs.Record.{factor_place, factors_fit}
-use Rattle.graph.proofs.Places.{placed-is}
 use native.Mathlib.Omega.{arith}
 use borrow.Author.Rules.{rules}
 use Rattle.graph.proofs.Graph.factors_fit.Goals as goal
@@ -19,8 +18,8 @@ returns-then-not-factor_place c =
     let args = c.args in
     let loop = c.loop-number in
     record {
-      value = sym (all_fail (λ i. factor_place args.self i) max_factors loop.number (search rules)
-          (tells (placed-is args.self loop.number _ _ _ refl refl c.factor_place.ensures.0) c.if-not-factor_place.true));
+      value = sym (all_fail (λ i. factor_place args.self.now i) max_factors loop.number (search rules)
+          (tells c.factor_place.ensures.0 c.if-not-factor_place.true));
       i_len = λ x. absurd (false≢true x);
     }
 
@@ -28,8 +27,7 @@ pub loop-number-preserved : goal.loop-number-preserved
 loop-number-preserved c =
     let loop = c.loop-number in (
       search rules,
-      all_more _ _ loop.invariant.1 (tells (placed-is c.args.self loop.number _ _ _ refl refl
-          c.factor_place.ensures.0) c.if-not-factor_place.false),
+      all_more _ _ loop.invariant.1 (tells c.factor_place.ensures.0 c.if-not-factor_place.false),
       below_more _ _ loop.invariant.2 c.factor_place.ensures.1,
     )
 

@@ -1,26 +1,25 @@
--- `graph::Graph::free` meets its contract. The loop's invariant: no place passed has the name. Assumes nothing.
-use mathlib.Core.Bool.{not}
-use mathlib.Core.Path.{◌≡◌, ap, sym}
+-- `graph::Graph::free` meets its contract: each of the names is compared. Assumes nothing.
+use mathlib.Core.Bool.{not, ◌&&◌}
+use mathlib.Core.Path.{◌≡◌, ap, ◌∙◌}
 use native.Mathlib.Omega.{arith}
 use borrow.Author.Rules.{rules}
-use Rattle.factor.proofs.Counting.{all_fail, all_more, all_none, tells}
-use Rattle.graph.specs.Record.{free, name_at, same}
+use borrow.Author.Tests.{tests}
+use lib.Dec.{eqb}
+use lib.ListN.{length}
+use Rattle.factor.proofs.Chains.{all_first}
+use Rattle.factor.proofs.Counting.{all_ext}
+use Rattle.factor.specs.Limits.{max_variables}
+use Rattle.graph.proofs.Filling.{unmapped}
+use Rattle.graph.proofs.Places.{derived_same}
+use Rattle.graph.specs.Record.{free, name_at, no_name}
 use Rattle.graph.proofs.Graph.free.Goals as goal
-
-pub loop-key-init : goal.loop-key-init
-loop-key-init c = (search rules, all_none _)
-
-pub returns-then-same : goal.returns-then-same
-unfolding free
-returns-then-same c =
-    let args = c.args in
-    sym (all_fail (λ j. not (same (name_at args.self j) args.name)) _ c.loop-key.key (omega arith)
-    (ap not (tells c.same.ensures c.if-same.true)))
-
-pub loop-key-preserved : goal.loop-key-preserved
-loop-key-preserved c = (omega arith, all_more _ _ c.loop-key.invariant.1 (ap not (tells c.same.ensures c.if-same.false)))
 
 pub returns : goal.returns
 unfolding free
 returns c =
-    let e : c.loop-key.key ≡ c.args.n = omega arith in sym (rw e at c.loop-key.invariant.1)
+    let g = c.args.self.now in
+    let name = c.args.name in
+    let long : length g.symbols ≡ max_variables = search (rules, unmapped) in
+    all_first (λ s. not (eqb s.0 name.0 && eqb s.1 name.1)) no_name g.symbols c.args.n c.all.ensures.ran (cc) (omega (arith, long, c.requires))
+    (λ x b q k. search (rules, tests))
+    ∙ all_ext _ _ c.args.n (λ j l. ap not (derived_same (name_at g j) name))

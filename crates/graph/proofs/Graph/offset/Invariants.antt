@@ -6,5 +6,5 @@ use Rattle.graph.specs.Record.{factor_at}
 use Rattle.factor.specs.Counting as counting
 use Rattle.graph.proofs.Graph.offset.Given as goal
 
-abbrev pub invariant-loop-i : goal.invariant-loop-i
-invariant-loop-i l = (l.i ≤ l.number) × (l.sum ≤ most_numbers * l.i) × (l.sum ≡ counting.sum (λ k. numbers l.sizes (factor_at l.self k)) l.i)
+abbrev pub invariant-loop-f : goal.invariant-loop-f
+invariant-loop-f l = (l.sum ≤ most_numbers * l.f-index) × (l.sum ≡ counting.sum (λ k. numbers l.fn.self.sizes (factor_at l.fn.self k)) l.f-index)

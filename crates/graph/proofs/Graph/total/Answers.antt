@@ -1,11 +1,9 @@
 -- `graph::Graph::total` meets its contract. The loop's invariant: the sum of the sizes passed. Assumes nothing.
-use Prim.Native.Nat.{◌+◌, ℕ}
+use Prim.Native.Nat.{◌+◌, ◌<◌, ℕ}
 use mathlib.Core.Path.{◌∙◌, ◌≡◌, ap, sym}
 use native.Mathlib.Omega.{arith}
 use borrow.Author.Rules.{rules}
-use lib.ListN.{get_or}
-use mir.Syntax.{w8}
-use mir.Val.{Fits}
+use lib.ListN.{length}
 use Rattle.factor.proofs.Counting.{sum_more, sum-none}
 use Rattle.factor.specs.Limits.{max_variables}
 use Rattle.graph.specs.Record.{size_at, total}
@@ -15,28 +13,24 @@ use Rattle.graph.proofs.Graph.total.Goals as goal
 
 -- a turn, and after the last one
 module _ (g : Graph) (i : ℕ) {s : ℕ} where
-  added : s ≡ counting.sum (λ k. size_at g k) i → s + size_at g i ≡ counting.sum (λ k. size_at g k) (i + 1)
-  added e = ap (λ (x : ℕ). x + size_at g i) e ∙ sym (sum_more (λ k. size_at g k) i)
+  added : (n : ℕ) → n ≡ size_at g i → s ≡ counting.sum (λ k. size_at g k) i → s + n ≡ counting.sum (λ k. size_at g k) (i + 1)
+  added n h e = ap (λ (x : ℕ). s + x) h ∙ ap (λ (x : ℕ). x + size_at g i) e ∙ sym (sum_more (λ k. size_at g k) i)
 
   summed : i ≡ max_variables → s ≡ counting.sum (λ k. size_at g k) i → s ≡ total g
   unfolding total
   summed l e = e ∙ ap (counting.sum (λ k. size_at g k)) l
 
-pub loop-key-init : goal.loop-key-init
-loop-key-init c = (search rules, search rules, sym (sum-none _))
+pub loop-size-init : goal.loop-size-init
+loop-size-init c = (omega arith, sym (sum-none _))
 
-pub overflow_add-sum : goal.overflow_add-sum
-overflow_add-sum c =
-    let b : Fits w8 (get_or c.args.self.sizes c.loop-key.key 0) = search rules in
-    omega (arith, b.fits, c.loop-key.invariant.1)
-
-pub loop-key-preserved : goal.loop-key-preserved
-loop-key-preserved c =
-    let b : Fits w8 (get_or c.args.self.sizes c.loop-key.key 0) = search rules in
-    let loop = c.loop-key in
-    (omega arith, omega (arith, b.fits, loop.invariant.1), added c.args.self loop.key loop.invariant.2)
+pub loop-size-preserved : goal.loop-size-preserved
+loop-size-preserved c =
+    let loop = c.loop-size in
+    let b : c.from-sum.result < 256 = omega (arith, c.loop-size-test.element_fits.fits) in
+    (omega arith, added c.args.self.now loop.size-index _ c.from-sum.ensures loop.invariant.1)
 
 pub returns : goal.returns
 returns c =
-    let e : c.loop-key.key ≡ max_variables = omega arith in
-    summed c.args.self c.loop-key.key e c.loop-key.invariant.2
+    let long : length c.args.self.now.sizes ≡ max_variables = search rules in
+    let e : c.loop-size.size-index ≡ max_variables = omega arith in
+    summed c.args.self.now c.loop-size.size-index e c.loop-size.invariant.1

@@ -1,55 +1,37 @@
--- Before each turn r is the set of the messages among the slots up to i.
+-- Before each turn r is the set of the messages among the slots passed.
 -- Assumes nothing.
-use borrow.Author.Rules.{rules}
-use mathlib.Core.Path.{◌≡◌, sym, subst}
-use Prim.Native.Nat.{ℕ, ◌+◌}
+use mathlib.Core.Path.{ap, subst, ◌∙◌}
+use mathlib.Core.List.{List, map}
+use Prim.Native.Nat.{ℕ, ◌-◌, ◌^◌}
+use lib.ListN.{take, drop}
 use native.Mathlib.Omega.{arith}
+use Rattle.factor.specs.Limits.{max_factors}
 use Rattle.schedule.specs.Gather.{messages_in}
 use Rattle.plan.specs.Mask.{Set}
-use Rattle.plan.specs.Gather.{content_part}
-use Rattle.plan.proofs.Unions.{inner_msg, inner_orig, inner-none}
+use Rattle.plan.specs.Pass.{pass_slot}
+use Rattle.plan.proofs.Prefixes.{part_whole}
+use Rattle.plan.proofs.Unions.{set-none, inner_msg, inner_orig}
 use Rattle.plan.proofs.gather.messages_in.Goals as goal
 use Rattle.plan.proofs.gather.messages_in.Goals.{then-s-ge-FACTORS, else-s-ge-FACTORS}
 
-pub loop-i-init : goal.loop-i-init
-loop-i-init c = (search rules, c.requires.from_le_to, inner-none c.args.content.now c.args.from)
+pub loop-s-init : goal.loop-s-init
+loop-s-init c = set-none
 
-pub bounds-content-i : goal.bounds-content-i
-bounds-content-i c = omega (arith, c.requires.codes.few)
-
-pub overflow_cast-s : goal.overflow_cast-s
-overflow_cast-s c = record { fits = omega (arith, c.requires.codes.low c.loop-i.i c.loop-i-test.true) }
-
-pub single-r-requires : goal.single-r-requires
-single-r-requires c =
-    let loop = c.loop-i in
-    omega (arith, c.requires.codes.low loop.i c.loop-i-test.true)
-
-pub overflow_add-i : goal.overflow_add-i
-overflow_add-i c = record { fits = omega (arith, c.requires.codes.few) }
-
-pub loop-i-smaller : goal.loop-i-smaller
-loop-i-smaller c = omega arith
-
-pub loop-i-preserved : goal.loop-i-preserved
-loop-i-preserved c =
+pub loop-s-preserved : goal.loop-s-preserved
+loop-s-preserved c =
+    let loop = c.loop-s in
     let args = c.args in
-    let loop = c.loop-i in (
-      omega arith,
-      omega arith,
-      elim c.if-s-ge-FACTORS.branch [
-        | then-s-ge-FACTORS w ↦ subst (λ (x : ℕ). Set (messages_in (content_part args.from (loop.i + 1) args.content.now)) x) (sym w.r-is)
-            (inner_msg args.content.now args.from loop.i loop.r loop.invariant.0 (omega (arith, c.requires.codes.few, c.requires.codes.long)) loop.invariant.2
-            w.single-r.result w.if-s-ge-FACTORS.true w.single-r.ensures)
-        | else-s-ge-FACTORS w ↦ subst (λ (x : ℕ). Set (messages_in (content_part args.from (loop.i + 1) args.content.now)) x) (sym w.r-is)
-            (inner_orig args.content.now args.from loop.i loop.r loop.invariant.0 (omega (arith, c.requires.codes.few, c.requires.codes.long)) loop.invariant.2
-            w.if-s-ge-FACTORS.false)
-      ],
-    )
+    let part : List ℕ = take (args.to - args.from) (drop args.from args.content.now) in
+    elim c.if-s-ge-FACTORS.branch [
+      | then-s-ge-FACTORS w ↦ rw w.r-is (inner_msg part loop.s-index loop.r c.loop-s-test.true loop.invariant w.single-r.result
+          (omega (arith, w.if-s-ge-FACTORS.true, c.from-s.ensures)) (w.single-r.ensures ∙ ap (λ (x : ℕ). 2 ^ (x - max_factors)) c.from-s.ensures))
+      | else-s-ge-FACTORS w ↦ rw w.r-is (inner_orig part loop.s-index loop.r c.loop-s-test.true loop.invariant
+          (omega (arith, w.if-s-ge-FACTORS.false, c.from-s.ensures)))
+    ]
 
 pub returns : goal.returns
 returns c =
-    let loop = c.loop-i in
     let args = c.args in
-    let e : loop.i ≡ args.to = omega arith in
-    subst (λ (n : ℕ). Set (messages_in (content_part args.from n args.content.now)) loop.r) e loop.invariant.2
+    let loop = c.loop-s in
+    subst (λ (l : List ℕ). Set (messages_in (map pass_slot l)) loop.r)
+    (part_whole args.from args.to loop.s-index args.content.now c.requires.from_le_to c.loop-s-test.false) loop.invariant

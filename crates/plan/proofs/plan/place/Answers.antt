@@ -1,34 +1,15 @@
--- Before each turn the key is not among the first i of the order, so its place is i and its place in the rest (`KeyByKey`).
--- Assumes nothing.
-use native.Mathlib.Nat.{zero-add}
+-- `position` gives the first place at which the key stands (`KeyByKey`). Assumes nothing.
+use mathlib.Core.Path.{◌∙◌}
 use borrow.Author.Rules.{rules}
-use native.Mathlib.Omega.{arith}
-use Rattle.plan.proofs.KeyByKey.{sought_here, sought_on, sought_none}
+use lib.Dec.{eqb}
+use lib.ListN.{take}
+use Rattle.std.proofs.lemmas.Iterator.{YieldsList-from_slice}
+use Rattle.std.proofs.lemmas.Iterator.Search.{position_from_yields_List}
+use Rattle.plan.proofs.KeyByKey.{place-found}
 use Rattle.plan.proofs.plan.place.Goals as goal
-
-pub loop-i-init : goal.loop-i-init
-loop-i-init c = (omega arith, search rules, zero-add _)
-
-pub returns-then-x-k : goal.returns-then-x-k
-returns-then-x-k c =
-    let args = c.args in
-    let loop = c.loop-i in
-    sought_here args.k args.order args.n loop.i (omega arith) c.loop-i-test.true loop.invariant.2 c.if-x-k.true
-
-pub overflow_add-i : goal.overflow_add-i
-overflow_add-i c = record { fits = omega arith }
-
-pub loop-i-smaller : goal.loop-i-smaller
-loop-i-smaller c = omega arith
-
-pub loop-i-preserved : goal.loop-i-preserved
-loop-i-preserved c =
-    let loop = c.loop-i in
-    let args = c.args in
-    (omega arith, loop.invariant.1, sought_on args.k args.order args.n loop.i (omega arith) c.loop-i-test.true loop.invariant.2 c.if-x-k.false)
 
 pub returns : goal.returns
 returns c =
     let args = c.args in
-    let loop = c.loop-i in
-    sought_none args.k args.order args.n loop.i c.loop-i-test.false loop.invariant.2
+    c.unwrap_or.ensures ∙ place-found args.k args.n (take args.n args.order) c.position.result (search rules)
+    (position_from_yields_List (λ x. eqb x args.k) _ _ c.position.result c.position.ensures.ran (YieldsList-from_slice _ c.iter.ensures.rest) (λ x b q k. search rules))

@@ -1,92 +1,49 @@
--- `slots::sums::add_keys` meets its contract. The loop's invariant: the sums and the column after the keys passed. Assumes nothing.
-use Prim.Native.Nat.{◌-◌}
-use mathlib.Core.Path.{◌≡◌, refl, ap, ◌∙◌}
-use native.Mathlib.Omega.{arith}
-use lib.ListN.{length}
+-- `slots::sums::add_keys` meets its contract: the sums and the column after the keys passed. Assumes nothing.
+use Rattle.std.proofs.Common.{◌≡◌, ◌+◌, ◌*◌, ◌≤◌, refl, ap, arith, length, ◌∙◌}
 use Rattle.blocks.specs.Blocks.{column_of}
 use Rattle.workspace.specs.Sums.{turns}
-use Rattle.workspace.proofs.Cuts.{relaid}
 use Rattle.slots.specs.Views.{with_keys}
 use Rattle.slots.specs.declared.layout.Spot.{Spot}
 use Rattle.slots.proofs.Adding.{column_fits, fits-block, keys-more, scratch}
 use Rattle.slots.proofs.sums.add_keys.Goals as goal
+use Rattle.slots.proofs.sums.add_keys.Goals.{After-find-k}
 
-pub loop-i-init : goal.loop-i-init
+-- the block column of the key at hand stands in A
+fits : (c : After-find-k) → (c.loop-key.column + c.find-k.result.size ≡ column_of c.args.layout.size c.args.keys.now (c.loop-key.key-index + 1))
+    × (c.loop-key.column + c.find-k.result.size ≤ 32) × ((c.loop-key.column + c.find-k.result.size) * c.args.y ≤ length c.args.a.now)
+fits c = column_fits c.loop-key.key-index c.requires.wide c.loop-key-test.true c.loop-key.invariant.column (ap (λ (s : Spot). s.size) c.find-k.ensures)
+
+pub loop-key-init : goal.loop-key-init
 unfolding with_keys turns column_of
-loop-i-init c = (omega arith, refl, refl, refl, refl, refl)
-
-pub offset_bounds-keys-i : goal.offset_bounds-keys-i
-offset_bounds-keys-i c = omega arith
-
-pub bounds-keys-i : goal.bounds-keys-i
-bounds-keys-i c = omega arith
-
-pub find-k-requires : goal.find-k-requires
-find-k-requires c =
-    let loop = c.loop-i in
-    (c.requires.known loop.i
-    (omega (arith, c.loop-i-test.true, loop.invariant.1))).listed
+loop-key-init c = record { work = refl; t = refl; column = refl; sums = refl }
 
 pub block_at-b-requires : goal.block_at-b-requires
-block_at-b-requires c =
-    let loop = c.loop-i in
-    (column_fits loop.i c.requires.wide
-    (omega (arith, c.loop-i-test.true, loop.invariant.1)) loop.invariant.3 (ap (λ (s : Spot). s.size) c.find-k.ensures)).2
+block_at-b-requires c = (fits c).2
 
-pub add_key-requires : goal.add_key-requires
-add_key-requires c =
-    let loop = c.loop-i in
-    let b = column_fits loop.i c.requires.wide (omega (arith, c.loop-i-test.true, loop.invariant.1)) loop.invariant.3
-    (ap (λ (s : Spot). s.size) c.find-k.ensures) in
-    let k = c.requires.known loop.i (omega (arith, c.loop-i-test.true, loop.invariant.1)) in
-    record {
-      frame_laid = relaid _ loop.invariant.2 c.requires.frame_laid;
-      branch_fits = (
-        c.requires.branch_fits.0,
-        rw c.find-k.ensures k.sits,
-        rw c.find-k.ensures (scratch _ _ _ _ k.small c.requires.branch_fits.1 loop.invariant.5),
-      );
-      size_in_bounds =
-          (fits-block c.args.a.now _ _ loop.column _ c.block_at-b.ensures b.2, c.requires.y_in_bounds.0, c.requires.y_in_bounds.1);
-      known = c.requires.known;
-      wide = c.requires.wide;
-    }
-
-pub overflow_add-column : goal.overflow_add-column
-overflow_add-column c =
-    let loop = c.loop-i in
-    let b = column_fits loop.i c.requires.wide (omega
-    (arith, c.loop-i-test.true, loop.invariant.1))
-    loop.invariant.3 (ap (λ (s : Spot). s.size) c.find-k.ensures) in
-    omega arith
-
-pub overflow_step-i : goal.overflow_step-i
-overflow_step-i c = omega (
-  arith,
-  c.loop-i-test.true,
-  c.loop-i.invariant.1,
-  c.requires.wide.count,
-)
-
-pub loop-i-smaller : goal.loop-i-smaller
-loop-i-smaller c = omega arith
-
-pub loop-i-preserved : goal.loop-i-preserved
-loop-i-preserved c =
-    let args = c.args in
-    let loop = c.loop-i in (
-      omega (arith, c.loop-i-test.true),
-      omega (arith, loop.invariant.1),
-      c.add_key.auto.work ∙ loop.invariant.2,
-      (column_fits loop.i c.requires.wide (omega (arith, c.loop-i-test.true, loop.invariant.1)) loop.invariant.3
-          (ap (λ (s : Spot). s.size) c.find-k.ensures)).0,
-      keys-more args.branch args.f args.layout args.row args.keys.now args.y args.a.now args.xi.now args.w.now _ _ _ _
-          _ loop.i loop.column loop.invariant.4 loop.invariant.3 c.find-k.ensures
-          c.block_at-b.ensures c.add_key.ensures,
-      c.add_key.auto.t ∙ loop.invariant.5,
+pub add_key-requires-clause-branch_fits : goal.add_key-requires-clause-branch_fits
+add_key-requires-clause-branch_fits c =
+    let k = c.requires.known c.loop-key.key-index c.loop-key-test.true in (
+      c.requires.branch_fits.0,
+      rw c.find-k.ensures k.sits,
+      rw c.find-k.ensures (scratch _ _ _ _ k.small c.requires.branch_fits.1 c.loop-key.invariant.t),
     )
 
-pub returns : goal.returns
-returns c =
-    let e : c.loop-i.i ≡ length c.args.keys.now = omega arith in
-    rw (← e) c.loop-i.invariant.4
+pub add_key-requires-clause-size_in_bounds : goal.add_key-requires-clause-size_in_bounds
+add_key-requires-clause-size_in_bounds c =
+    (fits-block c.args.a.now _ _ c.loop-key.column _ c.block_at-b.ensures (fits (goal.at.add_key-requires-clause-size_in_bounds c).After-find-k).2, c.requires.y_in_bounds.0, c.requires.y_in_bounds.1)
+
+pub overflow_add-column : goal.overflow_add-column
+overflow_add-column c = omega (arith, (fits (goal.at.overflow_add-column c).After-find-k).1)
+
+pub loop-key-preserved : goal.loop-key-preserved
+loop-key-preserved c =
+    let args = c.args in
+    let loop = c.loop-key in
+    let kept = loop.invariant in
+    record {
+      work = c.add_key.auto.work ∙ kept.work;
+      t = c.add_key.auto.t ∙ kept.t;
+      column = (fits (goal.at.loop-key-preserved c).After-find-k).0;
+      sums = keys-more args.branch args.f args.layout args.row args.keys.now args.y args.a.now args.xi.now args.w.now _ _ _ _ _ loop.key-index loop.column kept.sums
+          kept.column c.find-k.ensures c.block_at-b.ensures c.add_key.ensures;
+    }

@@ -1,37 +1,9 @@
 -- `slots::sums::add_own` meets its contract: by the branch, and by whether the key is cleared. Assumes nothing.
 use native.Mathlib.Omega.{arith}
-use lib.ListN.{length}
-use Rattle.matrix.proofs.Dense.{dense}
-use Rattle.workspace.specs.declared.Part.TheVariants.{H, G, A, Xi}
+use Rattle.workspace.specs.declared.Part.TheVariants.{G, A}
 use Rattle.workspace.proofs.Cuts.{relaid}
-use Rattle.slots.proofs.Adding.{small, corner-fits, own_cleared_x, own_cleared_z, own_kept_z, own_kept_x}
+use Rattle.slots.proofs.Adding.{corner-fits, own_cleared_x, own_cleared_z, own_kept_z, own_kept_x}
 use Rattle.slots.proofs.sums.add_own.Goals as goal
-
-pub corner-v-requires : goal.corner-v-requires
-corner-v-requires c =
-    let args = c.args in
-    let l = c.requires.frame_laid in
-    (l.few_cleared, omega (arith, small args.f (length args.work.now) args.k c.requires.frame_laid c.requires.branch_fits.1), omega arith)
-
-pub times_at-requires : goal.times_at-requires
-times_at-requires c =
-    let args = c.args in
-    let l = c.requires.frame_laid in
-    record {
-      frame_laid = l;
-      inside = corner-fits args.f H args.f.cleared 1 _ args.k.at 0 args.k.size 1 (omega arith) c.corner-v.ensures
-          (rw c.if-k.true at c.requires.branch_fits.1) (omega arith);
-      s_in_bounds = (c.requires.size_in_bounds.0, omega (arith, c.requires.size_in_bounds.1));
-    }
-
-pub corner-g-requires : goal.corner-g-requires
-corner-g-requires c =
-    let args = c.args in
-    let l = c.requires.frame_laid in (
-      l.few_cleared,
-      omega (arith, small args.f (length args.work.now) args.k c.requires.frame_laid c.requires.branch_fits.1),
-      omega (arith, c.requires.branch_fits.0.inside c.in-Z.is, l.few_rows),
-    )
 
 pub times_at-requires-in-Z : goal.times_at-requires-in-Z
 times_at-requires-in-Z c =
@@ -54,52 +26,21 @@ pub returns-in-X : goal.returns-in-X
 returns-in-X c = own_cleared_x _ _ _ _ _ _ _ _ _ _ _ c.if-k.true c.in-X.is
     c.corner-v.ensures c.times_at.ensures
 
-pub corner-v-requires-in-Z-branch : goal.corner-v-requires-in-Z-branch
-corner-v-requires-in-Z-branch c =
-    let args = c.args in
-    let l = c.requires.frame_laid in (
-      l.few_rows,
-      omega (arith, c.requires.branch_fits.0.inside c.in-Z-branch.is, l.few_rows),
-      omega (arith, small args.f (length args.work.now) args.k c.requires.frame_laid c.requires.branch_fits.1),
-    )
-
 pub stamp_at-requires : goal.stamp_at-requires
 stamp_at-requires c =
     let args = c.args in
     let l = c.requires.frame_laid in
     record {
       frame_laid = l;
-      inside = corner-fits args.f A args.f.rows args.f.kept _ args.row args.k.at args.y args.k.size (omega arith)
+      inside = rw (c.new-block.ensures.2, c.new-block.ensures.3) (corner-fits args.f A args.f.rows args.f.kept _ args.row args.k.at args.y args.k.size (omega arith)
           c.corner-v-in-Z-branch.ensures (c.requires.branch_fits.0.inside c.in-Z-branch.is)
-          (rw c.if-k.false at c.requires.branch_fits.1);
-      inside_2 = λ i j hi hj. dense args.y args.k.size _ c.requires.size_in_bounds.0 i j hi hj;
-    }
-
-pub corner-v-requires-in-X-branch : goal.corner-v-requires-in-X-branch
-corner-v-requires-in-X-branch c =
-    let args = c.args in
-    let l = c.requires.frame_laid in
-    (l.few_rows, omega (arith, small args.f (length args.work.now) args.k c.requires.frame_laid c.requires.branch_fits.1), omega arith)
-
-pub times_at-requires-in-X-branch : goal.times_at-requires-in-X-branch
-times_at-requires-in-X-branch c =
-    let args = c.args in
-    let l = c.requires.frame_laid in
-    record {
-      frame_laid = l;
-      inside = corner-fits args.f Xi args.f.rows 1 _ args.k.at 0 args.k.size 1 (omega arith) c.corner-v-in-X-branch.ensures
-          (omega (
-            arith,
-            rw c.if-k.false at c.requires.branch_fits.1,
-            c.requires.branch_fits.0.square c.in-X-branch.is,
-          )) (omega arith);
-      s_in_bounds = (c.requires.size_in_bounds.0, omega (arith, c.requires.size_in_bounds.1));
+          (rw c.if-k.false at c.requires.branch_fits.1));
     }
 
 pub returns-in-Z-branch : goal.returns-in-Z-branch
 returns-in-Z-branch c = own_kept_z _ _ _ _ _ _ _ _ _ _ _ c.if-k.false
     c.in-Z-branch.is c.corner-v-in-Z-branch.ensures
-    c.stamp_at.ensures
+    (rw (c.new-block.ensures.0, c.new-block.ensures.1, c.new-block.ensures.2, c.new-block.ensures.3) at c.stamp_at.ensures)
 
 pub returns-in-X-branch : goal.returns-in-X-branch
 returns-in-X-branch c = own_kept_x _ _ _ _ _ _ _ _ _ _ _ c.if-k.false

@@ -1,18 +1,10 @@
 -- `slots::sums::add_prior` meets its contract: by the branch, and by whether the key is cleared. Assumes nothing.
 use native.Mathlib.Omega.{arith}
-use lib.ListN.{length}
-use Rattle.matrix.proofs.Dense.{dense}
 use Rattle.workspace.specs.declared.Part.TheVariants.{S, H, A, Xi, W}
 use Rattle.workspace.proofs.Cuts.{relaid}
-use Rattle.slots.proofs.Adding.{small, corner-fits}
+use Rattle.slots.proofs.Adding.{corner-fits}
 use Rattle.slots.proofs.OneFactor.{prior-cleared, prior_x, prior_z}
 use Rattle.slots.proofs.sums.add_prior.Goals as goal
-
-pub corner-u-requires : goal.corner-u-requires
-corner-u-requires c =
-    let args = c.args in
-    let l = c.requires.frame_laid in
-    (l.few_cleared, omega (arith, small args.f (length args.work.now) args.k c.requires.frame_laid c.requires.branch_fits.1), omega arith)
 
 pub stamp_at-requires : goal.stamp_at-requires
 stamp_at-requires c =
@@ -20,19 +12,9 @@ stamp_at-requires c =
     let l = c.requires.frame_laid in
     record {
       frame_laid = l;
-      inside = corner-fits args.f H args.f.cleared 1 _ args.k.at 0 args.k.size 1 (omega arith) c.corner-u.ensures
-          (rw c.if-k.true at c.requires.branch_fits.1) (omega arith);
-      inside_2 = λ i j hi hj. dense args.k.size 1 _ (omega (arith, c.requires.size_in_bounds.0)) i j hi hj;
+      inside = rw (c.new-vector.ensures.2, c.new-vector.ensures.3) (corner-fits args.f H args.f.cleared 1 _ args.k.at 0 args.k.size 1 (omega arith) c.corner-u.ensures
+          (rw c.if-k.true at c.requires.branch_fits.1) (omega arith));
     }
-
-pub corner-v-requires : goal.corner-v-requires
-corner-v-requires c =
-    let args = c.args in
-    let l = c.requires.frame_laid in (
-      l.few_cleared,
-      omega (arith, small args.f (length args.work.now) args.k c.requires.frame_laid c.requires.branch_fits.1),
-      omega (arith, small args.f (length args.work.now) args.k c.requires.frame_laid c.requires.branch_fits.1),
-    )
 
 pub stamp_at-requires-then-k : goal.stamp_at-requires-then-k
 stamp_at-requires-then-k c =
@@ -40,42 +22,14 @@ stamp_at-requires-then-k c =
     let l = c.requires.frame_laid in
     record {
       frame_laid = relaid args.f c.stamp_at.auto.work l;
-      inside = corner-fits args.f S args.f.cleared args.f.cleared _ args.k.at args.k.at args.k.size args.k.size (omega arith)
-          c.corner-v.ensures (rw c.if-k.true at c.requires.branch_fits.1) (rw c.if-k.true at c.requires.branch_fits.1);
-      inside_2 = λ i j hi hj. dense args.k.size
-          args.k.size _ (c.requires.size_in_bounds.1) i j hi hj;
+      inside = rw (c.new-weight.ensures.2, c.new-weight.ensures.3) (corner-fits args.f S args.f.cleared args.f.cleared _ args.k.at args.k.at args.k.size args.k.size (omega arith)
+          c.corner-v.ensures (rw c.if-k.true at c.requires.branch_fits.1) (rw c.if-k.true at c.requires.branch_fits.1));
     }
 
 pub returns-then-k : goal.returns-then-k
 returns-then-k c = prior-cleared _ _ _ _ _ _ _ _ _ _ _ c.if-k.true
     c.corner-u.ensures c.corner-v.ensures
-    c.stamp_at.ensures c.stamp_at-then-k.ensures
-
-pub copy_rows-requires : goal.copy_rows-requires
-copy_rows-requires c =
-    let l = c.requires.frame_laid in
-    record {
-      frame_laid = l;
-      branch_fits = (
-        record { square = c.requires.branch_fits.0.square; inside = λ x. rw c.if-k.false at (c.requires.branch_fits.0.inside x) },
-        c.requires.size_in_bounds.0,
-        c.requires.size_in_bounds.1,
-      );
-    }
-
-pub corner-v-requires-in-Z : goal.corner-v-requires-in-Z
-corner-v-requires-in-Z c =
-    let args = c.args in
-    let l = c.requires.frame_laid in (
-      l.few_rows,
-      omega (
-        arith,
-        rw c.if-k.false at
-            (c.requires.branch_fits.0.inside c.in-Z.is),
-        l.few_rows,
-      ),
-      omega (arith, small args.f (length args.work.now) args.k c.requires.frame_laid c.requires.branch_fits.1),
-    )
+    (rw (c.new-vector.ensures.0, c.new-vector.ensures.1, c.new-vector.ensures.2, c.new-vector.ensures.3) at c.stamp_at.ensures) (rw (c.new-weight.ensures.0, c.new-weight.ensures.1, c.new-weight.ensures.2, c.new-weight.ensures.3) at c.stamp_at-then-k.ensures)
 
 pub fill_diagonal_at-requires : goal.fill_diagonal_at-requires
 fill_diagonal_at-requires c =
@@ -88,36 +42,19 @@ fill_diagonal_at-requires c =
           c.in-Z.is)) (rw c.if-k.false at c.requires.branch_fits.1);
     }
 
-pub corner-u-requires-in-X : goal.corner-u-requires-in-X
-corner-u-requires-in-X c =
-    let args = c.args in
-    let l = c.requires.frame_laid in
-    (l.few_rows, omega (arith, small args.f (length args.work.now) args.k c.requires.frame_laid c.requires.branch_fits.1), omega arith)
-
 pub stamp_at-requires-in-X : goal.stamp_at-requires-in-X
 stamp_at-requires-in-X c =
     let args = c.args in
     let l = c.requires.frame_laid in
     record {
       frame_laid = l;
-      inside = corner-fits args.f Xi args.f.rows 1 _ args.k.at 0 args.k.size 1 (omega arith) c.corner-u-in-X.ensures
+      inside = rw (c.new-vector.ensures.2, c.new-vector.ensures.3) (corner-fits args.f Xi args.f.rows 1 _ args.k.at 0 args.k.size 1 (omega arith) c.corner-u-in-X.ensures
           (omega (
             arith,
             rw c.if-k.false at c.requires.branch_fits.1,
             c.requires.branch_fits.0.square c.in-X.is,
-          )) (omega arith);
-      inside_2 = λ i j hi hj. dense args.k.size 1 _
-          (omega (arith, c.requires.size_in_bounds.0)) i j hi hj;
+          )) (omega arith));
     }
-
-pub corner-v-requires-in-X : goal.corner-v-requires-in-X
-corner-v-requires-in-X c =
-    let args = c.args in
-    let l = c.requires.frame_laid in (
-      l.few_rows,
-      omega (arith, small args.f (length args.work.now) args.k c.requires.frame_laid c.requires.branch_fits.1),
-      omega (arith, small args.f (length args.work.now) args.k c.requires.frame_laid c.requires.branch_fits.1),
-    )
 
 pub stamp_at-requires-in-X-2 : goal.stamp_at-requires-in-X-2
 stamp_at-requires-in-X-2 c =
@@ -125,11 +62,9 @@ stamp_at-requires-in-X-2 c =
     let l = c.requires.frame_laid in
     record {
       frame_laid = relaid args.f c.stamp_at-in-X.auto.work l;
-      inside = corner-fits args.f W args.f.rows args.f.rows _ args.k.at args.k.at args.k.size args.k.size (omega arith)
+      inside = rw (c.new-weight.ensures.2, c.new-weight.ensures.3) (corner-fits args.f W args.f.rows args.f.rows _ args.k.at args.k.at args.k.size args.k.size (omega arith)
           c.corner-v-in-X.ensures (omega (arith, rw c.if-k.false at c.requires.branch_fits.1, c.requires.branch_fits.0.square c.in-X.is))
-          (omega (arith, rw c.if-k.false at c.requires.branch_fits.1, c.requires.branch_fits.0.square c.in-X.is));
-      inside_2 = λ i j hi hj. dense args.k.size args.k.size
-          _ (c.requires.size_in_bounds.1) i j hi hj;
+          (omega (arith, rw c.if-k.false at c.requires.branch_fits.1, c.requires.branch_fits.0.square c.in-X.is)));
     }
 
 pub returns-in-Z : goal.returns-in-Z
@@ -141,5 +76,5 @@ returns-in-Z c = prior_z _ _ _ _ _ _ _ _ _ _ c.if-k.false
 pub returns-in-X : goal.returns-in-X
 returns-in-X c = prior_x _ _ _ _ _ _ _ _ _ _ _ c.if-k.false c.in-X.is
     c.corner-u-in-X.ensures
-    c.corner-v-in-X.ensures c.stamp_at-in-X.ensures
-    c.stamp_at-in-X-2.ensures
+    c.corner-v-in-X.ensures (rw (c.new-vector.ensures.0, c.new-vector.ensures.1, c.new-vector.ensures.2, c.new-vector.ensures.3) at c.stamp_at-in-X.ensures)
+    (rw (c.new-weight.ensures.0, c.new-weight.ensures.1, c.new-weight.ensures.2, c.new-weight.ensures.3) at c.stamp_at-in-X-2.ensures)

@@ -8,9 +8,6 @@ use Rattle.solver.specs.Stages.{stores_of}
 use native.Mathlib.Omega.{arith}
 use Rattle.solver.proofs.run.check_stores.Goals as goal
 
-pub offset-requires : goal.offset-requires
-offset-requires c = (c.requires, omega arith)
-
 pub returns-then-factors-offset : goal.returns-then-factors-offset
 unfolding stores_of every
 returns-then-factors-offset c =
@@ -34,9 +31,6 @@ returns-then-work-lt-WORK c =
       le-leb a.figure a.messages (omega arith),
       lt-leb work_numbers a.work (omega arith),
     )
-
-pub marginal_numbers-requires : goal.marginal_numbers-requires
-marginal_numbers-requires c = c.requires
 
 pub returns-then-marginals-marginal_numbers : goal.returns-then-marginals-marginal_numbers
 unfolding stores_of every

@@ -9,6 +9,5 @@ pub returns : goal.returns
 returns c =
     let args = c.args in
     let all = run-tells _ _ _ _ (c.run_along.ensures.marginals_after
-    ∙ lent-run args.g _ c.rise.ensures _
-    c.least.ensures args.factors.now args.messages.now (length args.work.now)
-    args.marginals.now) in record { marginals_after = all.0; result_value = all.1 }
+    ∙ lent-run args.g _ c.rise.ensures _ c.min.ensures args.factors.now args.messages.now (length args.work.now) args.marginals.now) in
+    record { marginals_after = all.0; result_value = all.1 }

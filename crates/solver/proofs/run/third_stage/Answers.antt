@@ -7,19 +7,14 @@ use Rattle.solver.proofs.run.third_stage.Goals as goal
 pub find_marginals-requires : goal.find_marginals-requires
 find_marginals-requires c = with_room c.requires _ (omega arith)
 
-pub returns-in-Refused : goal.returns-in-Refused
-returns-in-Refused c =
+pub returns-in-Err : goal.returns-in-Err
+returns-in-Err c figure =
     let args = c.args in
-    rw c.refused.ensures (third-refused args.g args.at args.figure args.factors.now args.messages.now args.keys.now
-    args.heads.now args.marginals.now _ _ _ c.find_marginals.ensures _ _
-    c.in-Refused.is)
-
-pub marginal_numbers-n-requires : goal.marginal_numbers-n-requires
-marginal_numbers-n-requires c = c.requires.sound
+    third-refused args.g args.at figure args.s.factors.now args.s.messages.now args.s.tables.keys.now args.s.tables.heads.now args.marginals.now _ _ _
+    c.find_marginals.ensures _ c.in-Err.is
 
 pub returns : goal.returns
-returns c =
+returns c figure =
     let args = c.args in
-    third-done args.g args.at args.figure args.factors.now args.messages.now args.keys.now args.heads.now
-    args.marginals.now _ _ _ c.find_marginals.ensures _ _ _ c.in-Done.is
-    c.marginal_numbers-n.ensures.0 c.copy.ensures refl
+    third-done args.g args.at figure args.s.factors.now args.s.messages.now args.s.tables.keys.now args.s.tables.heads.now args.marginals.now _ _ _
+    c.find_marginals.ensures _ _ _ c.in_default.is c.marginal_numbers-n.ensures.0 c.copy_from_slice.ensures.after refl

@@ -1,0 +1,2 @@
+-- The laws of `streams`.
+pub mod Unless
