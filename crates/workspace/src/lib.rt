@@ -155,6 +155,7 @@ fn solve_columns(l: &[f64], u: usize, x: &mut [f64], m: usize)
 }
 
 // A product goes into a block of one of the matrices.
+#[inline(always)]
 pub fn gemm_at<'a>(
     work: &mut [f64],
     f: Frame,
