@@ -29,7 +29,7 @@ loop-other-preserved c =
     let loop = c.loop-other in
     let here : c.is.result ≡ same (name_at args.self.now loop.other-index) args.name =
     c.is.ensures ∙ ap (λ s. same s args.name) (get_or-take args.n args.self.now.symbols loop.other-index no_name
-        (omega (arith, length-take args.n args.self.now.symbols))) in
+    (omega (arith, length-take args.n args.self.now.symbols))) in
     let e : c.if-not-is.free ≡ (loop.free && not c.is.result) =
     elim c.if-not-is.branch [ then-not-is w ↦ search rules | else-not-is w ↦ search rules ] in
     e ∙ passed _ loop.other-index loop.invariant (ap not here)
