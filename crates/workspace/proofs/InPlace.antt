@@ -1,6 +1,6 @@
 -- A solve within one list is that on its parts, where the parts are apart. Assumes nothing.
 use Prim.Native.Nat.{ℕ, ◌+◌, ◌-◌, ◌*◌, ◌≤◌, ◌<◌}
-use mathlib.Core.Path.{◌≡◌, refl, ap, ap₂, ◌∙◌, sym, subst}
+use mathlib.Core.Path.{◌≡◌, ap, ap₂, ◌∙◌, sym, subst}
 use mathlib.Core.List.{List, ◌++◌}
 use native.Mathlib.Omega.{arith}
 use lib.ListN.{length, get_or, take, drop}
@@ -77,7 +77,15 @@ pub one-list : (f : Frame) (t lo hi x : List Float) (which : Part) (m p q : ℕ)
     → lo ++ splice hi p q x ≡ solved_in (columns f.cleared) f.cleared (start (part_from f which) f.cleared) t m
 one-list f t lo hi x which m p q l low fit el eh ep eq ex =
     let b = bounds l which in
-    rw (ex, el, eh, ep, eq, splice_drop t f.h (part_from f which) (part_to f which) (solved_columns (take f.h t) f.cleared
-    (part (drop f.h t) (part_from f which - f.h) (part_to f which - f.h)) m) low,
-    part_drop t f.h (part_from f which) (part_to f which) low, part_first t f.h)
+    rw (
+      ex,
+      el,
+      eh,
+      ep,
+      eq,
+      splice_drop t f.h (part_from f which) (part_to f which) (solved_columns (take f.h t) f.cleared
+          (part (drop f.h t) (part_from f which - f.h) (part_to f which - f.h)) m) low,
+      part_drop t f.h (part_from f which) (part_to f which) low,
+      part_first t f.h,
+    )
     (sym (solved-part t 0 f.h (part_from f which) (part_to f which) f.cleared m low b.0 b.1 (omega arith) fit))
