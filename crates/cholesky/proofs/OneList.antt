@@ -7,7 +7,7 @@ use lib.Ieee.{Float, binary64, mul, div}
 use Rattle.matrix.specs.Views.{place, entry}
 use Rattle.matrix.specs.Sums.{terms, deduct_of}
 use Rattle.matrix.specs.Stores.{steps}
-use Rattle.cholesky.specs.Solve.{solved_row, solve_lower}
+use Rattle.cholesky.specs.Solve.{solved_row, solve_lower, solve_lower_in}
 use Rattle.matrix.specs.declared.View.{View}
 use Rattle.matrix.proofs.Agreement.{deduct-same}
 use Rattle.matrix.proofs.Entries.{steps_other}
@@ -28,10 +28,6 @@ row_frame l m lv i x xv c h =
     (deduct-same (entry x xv i c) (λ k. terms l lv i x xv c (0 + k)) (λ k. terms m lv i x xv c (0 + k)) i
     (λ k p. ap (λ (y : Float). mul binary64 y (entry x xv (0 + k) c)) (h (0 + k) (omega arith))))
     (h i (omega arith))
-
--- the lower solve where L stands in the same list
-unfoldable pub solve_lower_in : (lv xv : View) (c : ℕ) (x : List Float) (m : ℕ) → List Float
-solve_lower_in lv xv c x m = steps (λ i. place xv i c) (λ i t. solved_row t lv i t xv c 0 i) x m
 
 pub solve-apart : (lv xv : View) (c : ℕ) (x : List Float) (n : ℕ) → ((i k j : ℕ) → i < n → k ≤ i → j < n → place xv j c ≡ place lv i k → ⊥)
     → solve_lower_in lv xv c x n ≡ solve_lower x lv xv c x n

@@ -117,7 +117,11 @@ impl Factor {
     pub fn is_clear(self) -> bool
         ensures { (result ≡ spec.is_clear self) × (length self.keys ≡ max_keys) }
     {
-        !self.prior && !self.live && self.touched == 0 && self.rows == 0 && self.keys == [0; KEYS]
+        !self.prior
+            && !self.live
+            && self.touched == 0
+            && self.rows == 0
+            && self.keys.iter().all(|&key| key == 0)
     }
 
     // The first column of the block at a place: the sizes of the keys before it, added up.

@@ -4,7 +4,7 @@
 pub mod checks;
 pub mod refusal;
 
-ghost use Rattle.std.specs.Prelude.{◌≡◌, true, cond, not, ◌↔◌, ℕ, ◌*◌, ◌<◌, ◌≤◌, length};
+ghost use Rattle.std.specs.Prelude.{◌≡◌, true, cond, not, ◌↔◌, ℕ, ◌+◌, ◌*◌, ◌<◌, ◌≤◌, length};
 ghost use Rattle.factor.specs.Limits.{max_variables, max_factors, max_keys, most_numbers};
 ghost use Rattle.factor.specs.Factor.{fits};
 ghost use Rattle.graph.specs.Record as spec;
@@ -21,6 +21,23 @@ use refusal::Refusal;
 // The name of a variable: a letter and an index.
 #[derive(Clone, Copy, PartialEq, Eq)]
 pub struct Symbol(pub u32, pub u32);
+
+impl Symbol {
+    // The letter and the index as one number.
+    fn whole(self) -> u64
+        ensures { result ≡ self.1 * 0x100000000 + self.0 }
+    {
+        u64::from(self.1) * 0x1_0000_0000 + u64::from(self.0)
+    }
+
+    // The same letter and the same index: one comparison, where `==` makes two.
+    #[tactic(auto, unfolding(crate::specs::Record::same, factor::specs::Counting::every))]
+    fn is(self, other: Symbol) -> bool
+        ensures { result ≡ spec.same self other }
+    {
+        self.whole() == other.whole()
+    }
+}
 
 // The variables, each at its key, which is its place in the order of registration; and the factors. Unused places hold zeros, and
 // nothing is kept that can be worked out, so equal graphs are equal records.
@@ -54,12 +71,16 @@ impl Graph {
         }
     }
 
-    // None of the first n variables has the name.
+    // None of the first n variables has the name. No name ends the loop early: so several are compared at once.
     fn free(&self, n: usize, name: Symbol) -> bool
         requires { n ≤ max_variables }
         ensures { result ≡ spec.free self.now n name }
     {
-        self.symbols[..n].iter().all(|&other| other != name)
+        let mut free = true;
+        for &other in &self.symbols[..n] {
+            free = !other.is(name) && free;
+        }
+        free
     }
 
     // All sizes, added up.

@@ -13,12 +13,16 @@ fn print(rt: &HostRuntime, text: &[u8]) {
     let _ = write_all(&mut rt.stdout(), text);
 }
 
-fn print_state(rt: &HostRuntime, name: &[u8], same: bool) {
-    print(rt, name);
-    if same {
-        print(rt, b" as it was");
+fn print_state(rt: &HostRuntime, same_graph: bool, same_store: bool) {
+    if same_graph {
+        print(rt, b", graph as it was");
     } else {
-        print(rt, b" changed");
+        print(rt, b", graph changed");
+    }
+    if same_store {
+        print(rt, b", store as it was\n");
+    } else {
+        print(rt, b", store changed\n");
     }
 }
 
@@ -32,13 +36,12 @@ fn line(
     same_store: bool,
 ) {
     print(rt, label);
+    print(rt, b": ");
     let _ = match outcome {
         Ok(number) => print_named(&mut rt.stdout(), name, number),
-        Err(why) => print_named(&mut rt.stdout(), b": refused ", code(why)),
+        Err(why) => print_named(&mut rt.stdout(), b"refused ", code(why)),
     };
-    print_state(rt, b", graph", same_graph);
-    print_state(rt, b", store", same_store);
-    print(rt, b"\n");
+    print_state(rt, same_graph, same_store);
 }
 
 // Registers a variable, prints a line of what came of it, and hands the graph on.
@@ -52,7 +55,7 @@ pub fn variable(
 ) -> Graph {
     let mut next = g;
     let outcome = next.add_variable(Symbol(letter, index), size);
-    line(rt, label, b": key ", outcome, g == next, true);
+    line(rt, label, b"key ", outcome, g == next, true);
     next
 }
 
@@ -71,7 +74,7 @@ fn registered<F: FnOnce(&mut Graph, &mut [f64]) -> Result<usize, Refusal>>(
     let mut next = g;
     let outcome = call(&mut next, &mut store[..room]);
     let untouched = store.iter().all(|&x| x == 9.0);
-    line(rt, label, b": number ", outcome, g == next, untouched);
+    line(rt, label, b"number ", outcome, g == next, untouched);
     next
 }
 

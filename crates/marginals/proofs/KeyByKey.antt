@@ -14,7 +14,7 @@ use Rattle.cholesky.specs.Forms.{Form}
 use Rattle.cholesky.specs.Forms as forms
 use Rattle.gaussian.specs.Marginals.{moments_of}
 use Rattle.messages.specs.Values.{none}
-use Rattle.messages.specs.Told.{stop_told}
+use Rattle.messages.proofs.Telling.{carried-tells}
 use Rattle.messages.specs.declared.Undone.{Undone}
 use Rattle.std.proofs.Common.{Err}
 use Rattle.marginals.specs.Marginals.{Found, found, refused, found_by, found_in, missing_from, marginals_in}
@@ -118,7 +118,7 @@ module _ (sizes : List ℕ) (factors messages : List Float) (keys heads : List �
       pub walk_halted : (numbers : ℕ) (u : Undone) (results' : List Float) → Err u ≡ missing_from k (f ∷ []) → Finds all numbers (Err u) results₀ results'
       walk_halted numbers u results' e =
           let s : Err u ≡ missing_from 0 all = sym (w.stop ∙ ap (missing_from k) opened ∙ halted_first f (rest (k + 1)) k u (sym e)) in
-          record { tells = s; told = ap stop_told s; count = λ t. absurd (cc); stand = λ t. absurd (cc) }
+          record { tells = s; told = carried-tells _ _ s; count = λ t. absurd (cc); stand = λ t. absurd (cc) }
 
     pub walk-done : (results₀ results : List Float) (to k : ℕ) → Walked results₀ results to k → length qs ≤ k
         → Finds all (start_of sizes (length qs)) none results₀ results
@@ -131,7 +131,7 @@ module _ (sizes : List ℕ) (factors messages : List Float) (keys heads : List �
         let s : none ≡ missing_from 0 all = sym (w.stop ∙ rw e refl) in
         record {
           tells = s;
-          told = ap stop_told s;
+          told = carried-tells _ _ s;
           count = λ t. n ∙ w.place ∙ ap (start_of sizes) i;
           stand = λ t. rw (n, d) (sym (take-append-drop to results) ∙ ap (λ (l : List Float). take to results ++ l) w.after);
         }

@@ -20,7 +20,7 @@ use Rattle.lists.specs.Lists.{backward_shift, gathered_numbers}
 use Rattle.messages.specs.Figure.{need}
 use Rattle.messages.specs.Tables.{Carriable, PlacedTo, Tables, Stored}
 use Rattle.messages.specs.Values.{FirstRefusal, overlaid}
-use Rattle.messages.specs.Told.{stop_told}
+use Rattle.messages.specs.Told.{carried_told, stop_told}
 use Rattle.marginals.specs.Marginals.{marginal_numbers, Found, found_in, planned_marginals, missing_from, marginals_in}
 
 -- ---- by the tables
@@ -78,7 +78,7 @@ pub record PlanCarried (g : Graph) (p : schedule.Plan) (at : List arrays.Gathere
 -- the answer tells the first key without a marginal; where there is none, the marginals are so many numbers, and stand at the start of the results
 pub record Finds (all : List Found) (numbers : ℕ) (r : FirstRefusal) (before after : List Float) : Type 0 where
   pub tells : r ≡ missing_from 0 all
-  pub told : stop_told r ≡ stop_told (missing_from 0 all)
+  pub told : carried_told r ≡ stop_told (missing_from 0 all)
   pub count : r ≡ Ok tt → length (marginals_in all) ≡ numbers
   pub stand : r ≡ Ok tt → after ≡ overlaid before (marginals_in all)
 

@@ -61,6 +61,7 @@ pub fn flip(v: View) -> View
 }
 
 // The product sum of row i of A and column j of B: from +0.0, n terms at rising index.
+#[inline(always)]
 pub fn dot(a: &[f64], av: View, i: usize, b: &[f64], bv: View, j: usize, n: usize) -> f64
     requires by_index { (k : ℕ) → k < n → place av i k < length a.now }
     requires by_index_2 { (k : ℕ) → k < n → place bv k j < length b.now }
@@ -172,6 +173,7 @@ pub struct Four {
 }
 
 // The product sums of rows i to i + 3 of A with column j of B. None waits for another, so a processor makes them at once.
+#[inline(always)]
 fn dots<'a>(a: Matrix<'a>, i: usize, b: Matrix<'a>, j: usize) -> Four
     requires { (i + 3 < a.rows) × (j < b.columns) × (a.columns ≡ b.rows) }
     ensures { (result.s0 ≡ dot_of a.entry.s.now a.entry.v i b.entry.s.now b.entry.v j a.entry.columns)
@@ -194,6 +196,7 @@ fn dots<'a>(a: Matrix<'a>, i: usize, b: Matrix<'a>, j: usize) -> Four
 }
 
 // A finished product sum meets entry (i, j) of C.
+#[inline(always)]
 fn meet(c: &mut [f64], cv: View, i: usize, j: usize, how: Update, x: f64)
     requires { place cv i j < length c.old }
     ensures { c.new ≡ set c.old (place cv i j) (updated how (entry c.old cv i j) x) }
@@ -203,6 +206,7 @@ fn meet(c: &mut [f64], cv: View, i: usize, j: usize, how: Update, x: f64)
 }
 
 // Rows i to i + 3 of column j of C: A times B.
+#[inline(always)]
 fn gemm_four<'a>(
     c: &mut [f64],
     cv: View,
@@ -224,6 +228,7 @@ fn gemm_four<'a>(
 }
 
 // Rows of column j of C from one row on: A times B.
+#[inline(always)]
 fn gemm_rows<'a>(
     c: &mut [f64],
     cv: View,
@@ -244,6 +249,7 @@ fn gemm_rows<'a>(
 }
 
 // Column j of C: A times B. Four rows at a time as long as there are four.
+#[inline(always)]
 fn gemm_column<'a>(c: &mut [f64], cv: View, j: usize, how: Update, a: Matrix<'a>, b: Matrix<'a>)
     requires shape { (j < b.columns) × (a.columns ≡ b.rows) }
     requires by_index { (i : ℕ) → i < a.rows → place cv i j < length c.old }
@@ -257,6 +263,7 @@ fn gemm_column<'a>(c: &mut [f64], cv: View, j: usize, how: Update, a: Matrix<'a>
 }
 
 // A times B is added to C, subtracted from it or stored there.
+#[inline(always)]
 pub fn gemm<'a>(c: &mut [f64], cv: View, how: Update, a: Matrix<'a>, b: Matrix<'a>)
     requires shape { a.columns ≡ b.rows }
     requires inside { Inside cv a.rows b.columns (length c.old) }
@@ -268,6 +275,7 @@ pub fn gemm<'a>(c: &mut [f64], cv: View, how: Update, a: Matrix<'a>, b: Matrix<'
 }
 
 // `gemm` with A transposed.
+#[inline(always)]
 pub fn gemm_tr<'a>(c: &mut [f64], cv: View, how: Update, a: Matrix<'a>, b: Matrix<'a>)
     requires shape { a.rows ≡ b.rows }
     requires inside { Inside cv a.columns b.columns (length c.old) }

@@ -5,4 +5,5 @@ pub mod Slots
 pub mod Placing
 pub mod Reading
 pub mod Carrying
+pub mod Telling
 pub mod Listed

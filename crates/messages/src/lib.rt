@@ -18,7 +18,7 @@ ghost use Rattle.messages.specs.Tables as spec;
 ghost use Rattle.messages.specs.Tables.{Carriable, PlacedTo, Before, AllStored};
 ghost use Rattle.messages.specs.Values.{values, refusal_from, finished_numbers};
 ghost use Rattle.messages.specs.Asked.{keys_from, message_rows_by, Placeable, most_start, refusal_of};
-ghost use Rattle.messages.specs.Told.{stop_told};
+ghost use Rattle.messages.specs.Told.{carried_told, stop_told};
 ghost use Rattle.slots.specs.Views.{factor_numbers};
 ghost use Rattle.tables.specs.Heads.{with_head};
 
@@ -143,7 +143,7 @@ pub fn carry_pass<'a>(
     ensures result_value { result ≡ refusal_from 0 (values g factors.now (messages_of p)) }
     ensures messages_after { messages.new ≡ lay messages.old start (finished_numbers (values g factors.now (messages_of p))) }
     ensures all_stored { result ≡ Ok tt → AllStored g factors.now (messages_of p) start messages.new }
-    ensures result_value_2 { stop_told result ≡ stop_told (refusal_from 0 (values g factors.now (messages_of p))) }
+    ensures result_value_2 { carried_told result ≡ stop_told (refusal_from 0 (values g factors.now (messages_of p))) }
 {
     let n = p.count;
     let mut to = start;

@@ -91,9 +91,9 @@ pub fn layout_of(kept: &[usize], cleared: &[usize], sizes: [u8; VARIABLES]) -> L
 
 impl Layout {
     // Where a key stands.
-    pub fn find(self, key: usize) -> Spot
+    pub fn find(&self, key: usize) -> Spot
         requires { key < max_variables }
-        ensures { result ≡ spot_of self key }
+        ensures { result ≡ spot_of self.now key }
     {
         Spot {
             key,

@@ -21,19 +21,21 @@ fn target_of(branch: Branch, f: Frame, k: Spot, o: Spot) -> Option<(Part, View)>
     requires { (f.cleared ≤ 32) × (f.rows ≤ 32) × (k.at ≤ 32) × (o.at ≤ 32) }
     ensures { result ≡ target branch f k o }
 {
-    let lower = corner(f.cleared, k.at, o.at);
-    match (branch, k.cleared, o.cleared, o.key.cmp(&k.key)) {
-        (Branch::Z, true, true, Ordering::Equal) => Some((Part::S, lower)),
-        (Branch::Z, true, true, Ordering::Greater) => Some((
-            Part::S,
-            matrix::flip(corner(f.cleared, o.at, k.at)),
-        )),
-        (Branch::X, true, true, Ordering::Less | Ordering::Equal) => Some((Part::S, lower)),
-        (Branch::X, true, false, _) => Some((Part::G, lower)),
-        (Branch::X, false, false, Ordering::Less | Ordering::Equal) => Some((
-            Part::W,
-            corner(f.rows, k.at, o.at),
-        )),
+    match (branch, k.cleared, o.cleared) {
+        (Branch::Z, true, true) => match o.key.cmp(&k.key) {
+            Ordering::Less => None,
+            Ordering::Equal => Some((Part::S, corner(f.cleared, k.at, o.at))),
+            Ordering::Greater => Some((Part::S, matrix::flip(corner(f.cleared, o.at, k.at)))),
+        },
+        (Branch::X, true, true) => match o.key.cmp(&k.key) {
+            Ordering::Less | Ordering::Equal => Some((Part::S, corner(f.cleared, k.at, o.at))),
+            Ordering::Greater => None,
+        },
+        (Branch::X, true, false) => Some((Part::G, corner(f.cleared, k.at, o.at))),
+        (Branch::X, false, false) => match o.key.cmp(&k.key) {
+            Ordering::Less | Ordering::Equal => Some((Part::W, corner(f.rows, k.at, o.at))),
+            Ordering::Greater => None,
+        },
         _ => None,
     }
 }
@@ -93,6 +95,7 @@ fn add_products(
 }
 
 // B(y × s) transposed times C(y × w) goes into a block of one of the matrices.
+#[inline(always)]
 fn times_at(
     work: &mut [f64],
     f: Frame,

@@ -1,5 +1,5 @@
 -- Inner: what is known of a reading. No contract can say which bytes a file or a terminal gives.
-use Rattle.std.specs.Prelude.{ℕ, ◌≤◌, ◌<◌, List, Option, Result, IfOk, length}
+use Rattle.std.specs.Prelude.{ℕ, zero, suc, ◌≤◌, ◌<◌, List, Option, Some, None, Result, Ok, Err, IfOk, length}
 use Rattle.std.specs.Io.{ReadsAtMost}
 use Rattle.std.specs.Io.KnownBytes.{ReadConsumes, IsAtEnd}
 
@@ -11,6 +11,12 @@ InputWithin result room = IfOk result (λ n. n ≤ room)
 -- are known of a reader over memory alone.
 abbrev pub Moved : {E : Type 0} → Option (List ℕ) → Option (List ℕ) → Result ℕ E → List ℕ → Type 0
 Moved before after result room = ReadsAtMost result room × ReadConsumes before after result room
+
+-- what the answer of a read says: an error, a failure; 0, the end of the input; otherwise how many bytes it moved
+abbrev pub chunk_of : {E : Type 0} → Result ℕ E → Result (Option ℕ) E
+chunk_of (Err e) = Err e
+chunk_of (Ok zero) = Ok None
+chunk_of (Ok (suc k)) = Ok (Some (suc k))
 
 -- bytes that fill the room, or that end the input
 abbrev pub IsWhole : List ℕ → ℕ → Option (List ℕ) → Type 0

@@ -1,7 +1,7 @@
 // A program's input and output: the end of the input is told from a read that failed, and text that could not be written is told too.
 #![tactic(auto)]
 
-ghost use Rattle.std.specs.Prelude.{◌≤◌, ◌<◌, ◌^◌, ◌-◌, ℕ, List, [], ◌∷◌, ◌++◌, false, length, OnOk, IfOk, IfSome};
+ghost use Rattle.std.specs.Prelude.{◌≡◌, ◌≤◌, ◌<◌, ◌^◌, ◌-◌, ℕ, List, [], ◌∷◌, ◌++◌, false, length, OnOk, IfOk, IfSome};
 ghost use Rattle.std.specs.Fmt.{decimal, digits, padded_integral, format_spec};
 ghost use Rattle.std.specs.Fn.{FnOnceReturnsAt};
 ghost use Rattle.std.specs.Io.KnownBytes.{Appends, IsAtEnd};
@@ -9,6 +9,16 @@ ghost use Rattle.streams.specs.Reading as spec;
 
 use std::io;
 use std::io::{ErrorKind, Read, Write};
+
+// What the answer of a read says: how many bytes it moved, or None at the end of the input. An error is a failure.
+fn chunk_of(got: io::Result<usize>) -> io::Result<Option<usize>>
+    ensures { result ≡ spec.chunk_of got }
+{
+    match got? {
+        0 => Ok(None),
+        n => Ok(Some(n)),
+    }
+}
 
 // A failed read of `read_all` is tried again, up to this many reads in all. A read that a signal interrupted before it moved a byte fails like any other,
 // and the reason of a failure isn't looked at. A failed read moves nothing, so no byte is lost or read twice.
@@ -38,9 +48,10 @@ fn read_room<R: Read>(
     ensures end { OnOk result (done.new < length room.new → IsAtEnd (R.remaining input.new)) }
 {
     while *done < room.len() {
-        match read_chunk(input, &mut room[*done..], tries)? {
-            0 => return Ok(()),
-            n => *done += n,
+        let got = read_chunk(input, &mut room[*done..], tries);
+        match chunk_of(got)? {
+            None => return Ok(()),
+            Some(n) => *done += n,
         }
     }
     Ok(())

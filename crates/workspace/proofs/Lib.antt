@@ -1,3 +1,4 @@
 -- Laws of the work store.
 pub mod Parts
 pub mod Cuts
+pub mod InPlace

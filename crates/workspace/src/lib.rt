@@ -8,7 +8,7 @@ ghost use Rattle.matrix.specs.Sums.{one};
 ghost use Rattle.matrix.specs.Products.{product};
 ghost use Rattle.matrix.specs.Triangles.{filled_diagonal, filled_upper};
 ghost use Rattle.cholesky.specs.Factor.{factor};
-ghost use Rattle.workspace.specs.Blocks.{corner, stamp_entry, stamp, solved_columns};
+ghost use Rattle.workspace.specs.Blocks.{corner, stamp_entry, stamp, solved_columns, solved_in};
 ghost use Rattle.workspace.specs.Sums.{pick, change};
 ghost use Rattle.workspace.specs.Frames.{frame_of};
 ghost use Rattle.cholesky.specs.Answers.{factored_as, list_of};
@@ -155,6 +155,7 @@ fn solve_columns(l: &[f64], u: usize, x: &mut [f64], m: usize)
 }
 
 // A product goes into a block of one of the matrices.
+#[inline(always)]
 pub fn gemm_at<'a>(
     work: &mut [f64],
     f: Frame,
@@ -235,8 +236,10 @@ pub fn cholesky_at(work: &mut [f64], f: Frame) -> Result<(), Fault>
 pub fn solve_at(work: &mut [f64], f: Frame, which: Part, m: usize)
     requires frame_laid { FrameLaid f (length work.old) }
     requires h_bound { (f.h ≤ part_from f which) × (f.cleared * m ≤ part_to f which - part_from f which) }
-    ensures { matrices_in f work.new
+    ensures matrices_after { matrices_in f work.new
         ≡ change which (λ c. solved_columns (matrices_in f work.old).s f.cleared c m) (matrices_in f work.old) }
+    ensures in_one_list { work.new
+        ≡ solved_in (columns f.cleared) f.cleared (record { at = part_from f which; down = 1; across = f.cleared }) work.old m }
 {
     let (s, rest) = work.split_at_mut(f.h);
     let p = begin(f, which) - f.h;

@@ -4,6 +4,6 @@ use Rattle.gaussian.proofs.lose.Goals as goal
 
 pub returns : goal.returns
 returns c =
-    lose-is _ _ _ _ _ _ _ _ c.solve_at.ensures c.solve_at-2.ensures
+    lose-is _ _ _ _ _ _ _ _ c.solve_at.ensures.matrices_after c.solve_at-2.ensures.matrices_after
     c.fill_upper_in_x.ensures c.subtract_at.ensures
     c.subtract_at-2.ensures

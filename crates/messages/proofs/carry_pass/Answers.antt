@@ -8,7 +8,7 @@ use Rattle.plan.specs.Pass.{messages_of}
 use Rattle.plan.proofs.Sending.{messages-length}
 use Rattle.messages.specs.Figure.{rows_at, width_at}
 use Rattle.messages.specs.Values.{refused_at}
-use Rattle.messages.specs.Told.{stop_told}
+use Rattle.messages.proofs.Telling.{carried-tells}
 use Rattle.messages.proofs.Carrying.{carrying_none, asked_lists, roomy_lists, carrying_more, refused_for, carried, head-tells, next-told}
 use native.Mathlib.Omega.{arith}
 use borrow.Author.Rules.{rules}
@@ -73,7 +73,7 @@ returns-in-Err c =
     (sized h) c.requires.count_in_bounds.0 c.requires.count_in_bounds.1 (omega (arith, c.requires.count_in_bounds.2, loop.invariant.1)) loop.invariant.0 _
     c.message_lists-l.ensures _ _ c.eliminate_slots.ensures.value c.eliminate_slots.ensures.messages_after c.in-Err.fault c.in-Err.is in
     let e = ap (refused_at loop.j) c.refusal_of.ensures ∙ r.0 in
-    record { result_value = e; messages_after = r.1; all_stored = λ e. absurd (cc); result_value_2 = ap stop_told e }
+    record { result_value = e; messages_after = r.1; all_stored = λ e. absurd (cc); result_value_2 = carried-tells _ _ e }
 
 pub overflow_mul-to : goal.overflow_mul-to
 overflow_mul-to c =
@@ -115,4 +115,4 @@ returns c =
     let loop = c.loop-j in
     let r = carried args.g args.factors.now (messages_of args.p) args.start args.messages.now loop.messages loop.to loop.j
     loop.invariant.0 (omega (arith, messages-length args.p, loop.invariant.0.few)) in
-    record { result_value = r.0; messages_after = r.1; all_stored = λ e. r.2; result_value_2 = ap stop_told r.0 }
+    record { result_value = r.0; messages_after = r.1; all_stored = λ e. r.2; result_value_2 = carried-tells _ _ r.0 }
